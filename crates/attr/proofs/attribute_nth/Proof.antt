@@ -1,0 +1,62 @@
+use borrow.Author.Needs.{needs}
+use Rattle.attr.proofs.Laws.{nth-step, nth-none}
+use Rattle.attr.specs.Attribute.{attributeNth}
+use mathlib.Core.Path.{_≡_, _∙_, sym}
+use Rattle.attr.proofs.attribute_nth.Statement.{statement}
+use Rattle.attr.proofs.attribute_nth.Tie as tie
+use Rattle.attr.proofs.attribute_nth.Reads as reads
+use Rattle.attr.proofs.attribute_nth.Lts as lts
+use Rattle.attr.proofs.attribute_at.Reads as attribute-at-reads
+
+abbrev Inv-loop : tie.InvT-loop
+Inv-loop s from number at₀ left₀ at left = attributeNth s at left ≡ attributeNth s from number
+
+abbrev μ-loop : tie.MeasureT-loop
+μ-loop s from number at₀ left₀ at left = left
+
+loop-holds : tie.Need-loop-holds Inv-loop μ-loop
+loop-holds c = search needs
+
+sub-left : tie.Need-sub-left Inv-loop μ-loop
+sub-left c = search needs
+
+attribute-at-requires : tie.Need-attribute-at-requires Inv-loop μ-loop
+attribute-at-requires c κs = search needs
+
+enum-known-a : tie.Need-enum-known-a Inv-loop μ-loop
+enum-known-a c = search needs
+
+loop-less : tie.Need-loop-less Inv-loop μ-loop
+loop-less c = search needs
+
+loop-again : tie.Need-loop-again Inv-loop μ-loop
+loop-again c = sym (nth-step _ _ _ (sym (c .before .before .before .attribute-at .ensures) ∙ c .before .a .given .1) (c .before .before .before .before .loop-test .taken)) ∙ c .before .before .before .before .before .loop .inv
+
+enum-known-why : tie.Need-enum-known-why Inv-loop μ-loop
+enum-known-why c = search needs
+
+returns : tie.Need-returns Inv-loop μ-loop
+returns c = sym (nth-step _ _ _ (sym (c .before .before .before .attribute-at .ensures) ∙ c .before .why .given .1) (c .before .before .before .before .loop-test .taken)) ∙ c .before .before .before .before .before .loop .inv
+
+attribute-at-requires-2 : tie.Need-attribute-at-requires-2 Inv-loop μ-loop
+attribute-at-requires-2 c κs = search needs
+
+returns-2 : tie.Need-returns-2 Inv-loop μ-loop
+returns-2 c = c .attribute-at2 .ensures ∙ sym (nth-none _ _ _ (c .before .loop-test .left)) ∙ c .before .before .loop .inv
+
+pub attribute-nth-spec : {M : Type 1} → statement M
+attribute-nth-spec =
+    tie.close
+    (tie.spec
+    Inv-loop
+    μ-loop
+    loop-holds
+    sub-left
+    attribute-at-requires
+    enum-known-a
+    loop-less
+    loop-again
+    enum-known-why
+    returns
+    attribute-at-requires-2
+    returns-2)
