@@ -1,0 +1,20 @@
+use borrow.Author.Tests.{lt-ltb, le-ltb, le-leb, lt-leb, eq-eqb, ne-eqb}
+use borrow.Author.Needs.{needs}
+use Rattle.refactor.proofs.AdsRefactorInfo.name.Statement.{statement}
+use Rattle.refactor.proofs.AdsRefactorInfo.name.Tie as tie
+use Rattle.refactor.proofs.AdsRefactorInfo.name.Reads as reads
+use Rattle.refactor.proofs.AdsRefactorInfo.name.Lts as lts
+use Rattle.refactor.proofs.AdsRefactorInfo.try_from_slice.Reads as try-from-slice-reads
+use Rattle.refactor.proofs.name_in.Reads as name-in-reads
+
+try-from-slice-requires : tie.Need-try-from-slice-requires
+try-from-slice-requires c κs = search needs
+
+name-in-requires : tie.Need-name-in-requires
+name-in-requires c κs = search needs
+
+returns : tie.Need-returns
+returns c = simp (← c .name-in .ensures, ← c .before .try-from-slice .ensures)
+
+pub name-spec : {M : Type 1} → statement M
+name-spec = tie.close (tie.spec try-from-slice-requires name-in-requires returns)

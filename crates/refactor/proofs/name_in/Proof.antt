@@ -1,0 +1,41 @@
+use borrow.Author.Tests.{lt-ltb, le-ltb, le-leb, lt-leb, eq-eqb, ne-eqb}
+use borrow.Author.Needs.{needs}
+use Rattle.refactor.proofs.name_in.Statement.{statement}
+use Rattle.refactor.proofs.name_in.Tie as tie
+use Rattle.refactor.proofs.name_in.Reads as reads
+use Rattle.refactor.proofs.name_in.Lts as lts
+use Rattle.le.proofs.part_of.Reads as part-of-reads
+use Rattle.refactor.proofs.wide.Reads as wide-reads
+
+enum-known-answer : tie.Need-enum-known-answer
+enum-known-answer c = search needs
+
+wide-requires : tie.Need-wide-requires
+wide-requires c κs = search needs
+
+part-of-requires : tie.Need-part-of-requires
+part-of-requires c κs = search needs
+
+enum-told : tie.Need-enum-told
+enum-told c = search needs
+
+slice-aggregate-result : tie.Need-slice-aggregate-result
+slice-aggregate-result c = search needs
+
+returns : tie.Need-returns
+returns c = simp (← c .part-of .ensures, ← c .before .wide .ensures, c .before .before .before .answer .given .1)
+
+returns-2 : tie.Need-returns-2
+returns-2 c = simp (c .before .enum-told .given .1)
+
+pub name-in-spec : {M : Type 1} → statement M
+name-in-spec =
+    tie.close
+    (tie.spec
+    enum-known-answer
+    wide-requires
+    part-of-requires
+    enum-told
+    slice-aggregate-result
+    returns
+    returns-2)

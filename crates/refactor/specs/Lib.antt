@@ -1,0 +1,2 @@
+pub mod Refactor
+pub mod Writing

@@ -1,0 +1,314 @@
+// Refactor records and their chains, read and written. The Rust's refactor_info.rs.
+use refusal::Checked;
+use refusal::Counted;
+use refusal::Refusal;
+use refusal::Written;
+ghost use mathlib.Core.Path.{_≡_};
+ghost use Prim.Native.Nat.{_+_};
+ghost use Rattle.refactor.specs.Refactor.{refactorAt, refactorRead, nameIn, chainAt, chainRead, chainSection, keptChain, refactorNth, chainNth};
+ghost use Rattle.refactor.specs.Writing.{packedOf, refactorWriting, goodRecord, goodRefactor, refactorsChecked, blockWriting};
+ghost use Rattle.refusal.specs.Writing.{Writes, goodFrom};
+
+// A record of a slice: its name by place and length, and the place after it.
+pub struct AdsRefactorInfo {
+    pub refactor_count: u32,
+    pub next_refactor_info: bool,
+    pub name: usize,
+    pub name_len: u16,
+    pub next: usize,
+}
+
+pub enum RefactorAnswer {
+    Record(AdsRefactorInfo),
+    Refused(Refusal),
+}
+
+// How many records a chain has, and the place after them.
+pub struct Chain {
+    pub count: usize,
+    pub next: usize,
+}
+
+pub enum ChainAnswer {
+    Whole(Chain),
+    Refused(Refusal),
+}
+
+impl AdsRefactorInfo {
+    pub const MIN_LENGTH: usize = 7;
+
+    pub const REFACTOR_COUNT_MASK: u32 = 0x01111111;
+
+    pub const NEXT_REFACTOR_INFO_MASK: u32 = 0x01000000;
+
+    pub fn try_from_slice(bytes: &[u8]) -> RefactorAnswer
+        ensures { λ r. ⌜ r ≡ refactorRead (now (bytes .entry)) ⌝ }
+    {
+        let length = bytes.len();
+        if refusal::LIMIT < length {
+            return RefactorAnswer::Refused(Refusal::TooLarge { length });
+        }
+        refactor_at(bytes, 0)
+    }
+
+    pub fn name(bytes: &[u8]) -> &[u8]
+        ensures { λ r. ⌜ now r ≡ nameIn (now (bytes .entry)) (refactorRead (now (bytes .entry))) ⌝ }
+    {
+        name_in(bytes, AdsRefactorInfo::try_from_slice(bytes))
+    }
+
+    pub fn wire_size(self) -> usize
+        ensures { λ r. ⌜ r ≡ self .«name_len» + 7 ⌝ }
+    {
+        (self.name_len as usize) + 7
+    }
+
+    pub fn to_vec_with_next(count: u32, has_next: bool, name: &[u8], out: &mut [u8]) -> Written
+        ensures { λ r. ⌜ Writes (refactorWriting count «has_next» (now (name .entry))) (now (out .entry)) (now (out .exit)) r ⌝ }
+    {
+        if 65535 < name.len() {
+            return Written::Refused(Refusal::TooLong {
+                most: 65535,
+                actual: name.len(),
+            });
+        }
+        let needed = name.len() + 7;
+        if out.len() < needed {
+            return Written::Refused(Refusal::OutputTooSmall {
+                needed,
+                lent: out.len(),
+            });
+        }
+        let a = le::put_u32(out, 0, packed(count, has_next));
+        let b = le::put_u16(out, a, name.len() as u16);
+        let c = le::put_bytes(out, b, name);
+        let d = le::put_u8(out, c, 0);
+        Written::Done(d)
+    }
+
+    // The block with its 2-byte count in front, which no reader of chains looks at.
+    pub fn entries_to_vec(count: usize, block: &[u8], out: &mut [u8]) -> Written
+        ensures { λ r. ⌜ Writes (blockWriting count (now (block .entry))) (now (out .entry)) (now (out .exit)) r ⌝ }
+    {
+        if 65535 < count {
+            return Written::Refused(Refusal::TooLong {
+                most: 65535,
+                actual: count,
+            });
+        }
+        if let Checked::Refused(why) = check_refactors(count, block) {
+            return Written::Refused(why);
+        }
+        let needed = block.len() + 2;
+        if refusal::LIMIT < needed {
+            return Written::Refused(Refusal::TooLarge { length: needed });
+        }
+        if out.len() < needed {
+            return Written::Refused(Refusal::OutputTooSmall {
+                needed,
+                lent: out.len(),
+            });
+        }
+        let a = le::put_u16(out, 0, count as u16);
+        let b = le::put_bytes(out, a, block);
+        Written::Done(b)
+    }
+
+    pub fn parse_chain(bytes: &[u8]) -> ChainAnswer
+        ensures { λ r. ⌜ r ≡ chainRead (now (bytes .entry)) ⌝ }
+    {
+        let length = bytes.len();
+        if refusal::LIMIT < length {
+            return ChainAnswer::Refused(Refusal::TooLarge { length });
+        }
+        chain_from(bytes, 0)
+    }
+
+    // The record of a chain with a number, counted from 0.
+    pub fn chain_record(bytes: &[u8], number: usize) -> RefactorAnswer
+        ensures { λ r. ⌜ r ≡ chainNth (now (bytes .entry)) number ⌝ }
+    {
+        match AdsRefactorInfo::parse_chain(bytes) {
+            ChainAnswer::Whole(chain) => {
+                let count = chain.count;
+                if number < count {
+                    return refactor_nth(bytes, 0, number);
+                }
+                RefactorAnswer::Refused(Refusal::NoSuchNumber {
+                    count,
+                    asked: number,
+                })
+            }
+            ChainAnswer::Refused(why) => RefactorAnswer::Refused(why),
+        }
+    }
+
+    pub fn chain_name(bytes: &[u8], number: usize) -> &[u8]
+        ensures { λ r. ⌜ now r ≡ nameIn (now (bytes .entry)) (chainNth (now (bytes .entry)) number) ⌝ }
+    {
+        name_in(bytes, AdsRefactorInfo::chain_record(bytes, number))
+    }
+}
+
+fn wide(x: u16) -> usize
+    ensures { λ r. ⌜ r ≡ x ⌝ }
+{
+    x as usize
+}
+
+fn packed(count: u32, has_next: bool) -> u32
+    ensures { λ r. ⌜ r ≡ packedOf count «has_next» ⌝ }
+{
+    let masked = count & AdsRefactorInfo::REFACTOR_COUNT_MASK;
+    if has_next {
+        return masked | AdsRefactorInfo::NEXT_REFACTOR_INFO_MASK;
+    }
+    masked
+}
+
+// The record at a place of an entry's or a block's own bytes.
+pub fn refactor_at(s: &[u8], at: usize) -> RefactorAnswer
+    ensures { λ r. ⌜ r ≡ refactorAt (now (s .entry)) at ⌝ }
+{
+    let there = le::room(s.len(), at);
+    if there < 7 {
+        return RefactorAnswer::Refused(Refusal::TooShort {
+            needed: 7,
+            present: there,
+        });
+    }
+    let name_len = le::u16_at(s, at + 4);
+    let whole = wide(name_len) + 7;
+    if there < whole {
+        return RefactorAnswer::Refused(Refusal::TooShort {
+            needed: whole,
+            present: there,
+        });
+    }
+    let packed = le::u32_at(s, at);
+    RefactorAnswer::Record(AdsRefactorInfo {
+        refactor_count: packed & AdsRefactorInfo::REFACTOR_COUNT_MASK,
+        next_refactor_info: packed / AdsRefactorInfo::NEXT_REFACTOR_INFO_MASK % 2 == 1,
+        name: at + 6,
+        name_len,
+        next: at + whole,
+    })
+}
+
+pub fn name_in(s: &[u8], answer: RefactorAnswer) -> &[u8]
+    ensures { λ r. ⌜ now r ≡ nameIn (now (s .entry)) answer ⌝ }
+{
+    match answer {
+        RefactorAnswer::Record(r) => le::part_of(s, r.name, wide(r.name_len)),
+        RefactorAnswer::Refused(_) => &s[..0],
+    }
+}
+
+// The chain from a place on. Each record takes bytes, so those that are left fall.
+pub fn chain_from(s: &[u8], from: usize) -> ChainAnswer
+    ensures { λ r. ⌜ r ≡ chainAt (now (s .entry)) from ⌝ }
+{
+    let mut at = from;
+    let mut count = 0;
+    loop {
+        match refactor_at(s, at) {
+            RefactorAnswer::Record(r) => {
+                count = count + 1;
+                at = r.next;
+                if r.next_refactor_info {
+                    continue;
+                }
+                return ChainAnswer::Whole(Chain { count, next: at });
+            }
+            RefactorAnswer::Refused(why) => {
+                return ChainAnswer::Refused(why);
+            }
+        }
+    }
+}
+
+// The chain of an entry. One that is refused is dropped whole and moves nothing.
+pub fn chain_section(s: &[u8], at: usize, flagged: bool) -> Chain
+    ensures { λ r. ⌜ r ≡ chainSection (now (s .entry)) at flagged ⌝ }
+{
+    if flagged {
+        if at < s.len() {
+            return kept(chain_from(s, at), at);
+        }
+    }
+    Chain { count: 0, next: at }
+}
+
+fn kept(answer: ChainAnswer, at: usize) -> Chain
+    ensures { λ r. ⌜ r ≡ keptChain answer at ⌝ }
+{
+    match answer {
+        ChainAnswer::Whole(chain) => chain,
+        ChainAnswer::Refused(_) => Chain { count: 0, next: at },
+    }
+}
+
+// The record with a number, counted from 0 at a place.
+pub fn refactor_nth(s: &[u8], from: usize, number: usize) -> RefactorAnswer
+    ensures { λ r. ⌜ r ≡ refactorNth (now (s .entry)) from number ⌝ }
+{
+    let mut at = from;
+    let mut left = number;
+    while 0 < left {
+        left = left - 1;
+        match refactor_at(s, at) {
+            RefactorAnswer::Record(r) => {
+                at = r.next;
+            }
+            RefactorAnswer::Refused(why) => {
+                return RefactorAnswer::Refused(why);
+            }
+        }
+    }
+    refactor_at(s, at)
+}
+
+fn is_good(s: &[u8], packed: u32, r: AdsRefactorInfo, follows: bool) -> bool
+    ensures { λ b. ⌜ b ≡ goodRecord (now (s .entry)) packed r follows ⌝ }
+{
+    if packed == r.refactor_count {
+        if r.next_refactor_info == follows {
+            return le::zero_at(s, r.name, wide(r.name_len));
+        }
+    }
+    false
+}
+
+// Good records at a block's start, at most so many.
+fn good_from(s: &[u8], count: usize) -> Counted
+    ensures { λ r. ⌜ r ≡ goodFrom (goodRefactor (now (s .entry))) 0 0 count ⌝ }
+{
+    let mut at = 0;
+    let mut good = 0;
+    let mut left = count;
+    while 0 < left {
+        left = left - 1;
+        match refactor_at(s, at) {
+            RefactorAnswer::Record(r) => {
+                let packed = le::u32_at(s, at);
+                if is_good(s, packed, r, 0 < left) {
+                    at = r.next;
+                    good = good + 1;
+                } else {
+                    return Counted { good, next: at };
+                }
+            }
+            RefactorAnswer::Refused(_) => {
+                return Counted { good, next: at };
+            }
+        }
+    }
+    Counted { good, next: at }
+}
+
+// Whether a block is exactly its count of good records.
+pub fn check_refactors(count: usize, block: &[u8]) -> Checked
+    ensures { λ r. ⌜ r ≡ refactorsChecked count (now (block .entry)) ⌝ }
+{
+    refusal::check_exact(count, good_from(block, count), block.len())
+}
