@@ -1,0 +1,44 @@
+use Rattle.entry.specs.Entry.{ownBytes}
+use borrow.Author.Tests.{lt-ltb, le-ltb, le-leb, lt-leb, eq-eqb, ne-eqb}
+use borrow.Author.Needs.{needs}
+use Rattle.entry.proofs.own_bytes.Statement.{statement}
+use Rattle.entry.proofs.own_bytes.Tie as tie
+use Rattle.entry.proofs.own_bytes.Reads as reads
+use Rattle.entry.proofs.own_bytes.Lts as lts
+use Rattle.entry.proofs.direct_claim.Reads as direct-claim-reads
+use Rattle.le.proofs.part_of.Reads as part-of-reads
+
+direct-claim-requires : tie.Need-direct-claim-requires
+direct-claim-requires c κs = search needs
+
+enum-known-size : tie.Need-enum-known-size
+enum-known-size c = search needs
+
+part-of-requires : tie.Need-part-of-requires
+part-of-requires c κs = search needs
+
+enum-told : tie.Need-enum-told
+enum-told c = search needs
+
+slice-aggregate-result : tie.Need-slice-aggregate-result
+slice-aggregate-result c = search needs
+
+returns : tie.Need-returns
+unfolding ownBytes
+returns c = simp (← c .part-of .ensures, c .before .before .size .given .1, ← c .before .before .before .before .direct-claim .ensures)
+
+returns-2 : tie.Need-returns-2
+unfolding ownBytes
+returns-2 c = simp (c .before .enum-told .given .1, ← c .before .before .before .direct-claim .ensures)
+
+pub own-bytes-spec : {M : Type 1} → statement M
+own-bytes-spec =
+    tie.close
+    (tie.spec
+    direct-claim-requires
+    enum-known-size
+    part-of-requires
+    enum-told
+    slice-aggregate-result
+    returns
+    returns-2)

@@ -1,0 +1,155 @@
+// Where an entry of an upload begins and ends: its first four bytes claim its length.
+use refusal::Refusal;
+ghost use mathlib.Core.Path.{_≡_};
+ghost use Rattle.entry.specs.Entry.{claimAt, directClaim, ownBytes};
+ghost use Rattle.entry.specs.Walk.{boundedFrom};
+
+// What a walk meets at a place: an entry of so many bytes, or a refusal of its own.
+pub enum Met {
+    Finished,
+    Entry(usize),
+    Refused(Refusal),
+}
+
+pub struct Claimed {
+    pub met: Met,
+    pub next: usize,
+}
+
+// What a direct parse meets.
+pub enum Claim {
+    Entry(usize),
+    Refused(Refusal),
+}
+
+pub enum WalkEnd {
+    Finished,
+    OutOfSteps,
+    Refused(Refusal),
+}
+
+pub struct Walked {
+    pub end: WalkEnd,
+    pub steps: usize,
+    pub cursor: usize,
+}
+
+pub fn claim_at(bytes: &[u8], at: usize) -> Claimed
+    ensures { λ r. ⌜ r ≡ claimAt (now (bytes .entry)) at ⌝ }
+{
+    let length = bytes.len();
+    if length <= at {
+        return Claimed {
+            met: Met::Finished,
+            next: at,
+        };
+    }
+    if refusal::LIMIT < length {
+        return Claimed {
+            met: Met::Refused(Refusal::TooLarge { length }),
+            next: length,
+        };
+    }
+    let left = length - at;
+    if left < 4 {
+        return Claimed {
+            met: Met::Refused(Refusal::TooShort {
+                needed: at + 4,
+                present: length,
+            }),
+            next: length,
+        };
+    }
+    let claim = le::u32_at(bytes, at) as usize;
+    if left < claim {
+        return Claimed {
+            met: Met::Refused(Refusal::EntryLengthMismatch {
+                needed: claim,
+                available: left,
+            }),
+            next: length,
+        };
+    }
+    Claimed {
+        met: Met::Entry(claim),
+        next: at + claim,
+    }
+}
+
+// The entry at the start of some bytes, whose header is so long.
+pub fn direct_claim(bytes: &[u8], header: usize) -> Claim
+    ensures { λ r. ⌜ r ≡ directClaim header (now (bytes .entry)) ⌝ }
+{
+    let length = bytes.len();
+    if refusal::LIMIT < length {
+        return Claim::Refused(Refusal::TooLarge { length });
+    }
+    if length < header {
+        return Claim::Refused(Refusal::TooShort {
+            needed: header,
+            present: length,
+        });
+    }
+    let claim = le::first_u32(bytes) as usize;
+    if length < claim {
+        return Claim::Refused(Refusal::EntryLengthMismatch {
+            needed: claim,
+            available: length,
+        });
+    }
+    if claim < header {
+        return Claim::Refused(Refusal::ClaimBelowHeader { header, claim });
+    }
+    Claim::Entry(claim)
+}
+
+// The entry's own bytes, none where a direct parse refuses them: what stands after the claim is invisible.
+pub fn own_bytes(bytes: &[u8], header: usize) -> &[u8]
+    ensures { λ r. ⌜ now r ≡ ownBytes header (now (bytes .entry)) ⌝ }
+{
+    match direct_claim(bytes, header) {
+        Claim::Entry(size) => le::part_of(bytes, 0, size),
+        Claim::Refused(_) => &bytes[..0],
+    }
+}
+
+// At most so many steps of a walk. A zero claim would stay where it is, so it stops the walk.
+pub fn bounded_walk(bytes: &[u8], from: usize, allowed: usize) -> Walked
+    ensures { λ r. ⌜ r ≡ boundedFrom (now (bytes .entry)) from 0 allowed ⌝ }
+{
+    let mut at = from;
+    let mut left = allowed;
+    let mut steps = 0;
+    while 0 < left {
+        left = left - 1;
+        if bytes.len() <= at {
+            return Walked {
+                end: WalkEnd::Finished,
+                steps,
+                cursor: at,
+            };
+        }
+        let next = claim_at(bytes, at).next;
+        steps = steps + 1;
+        if next == at {
+            return Walked {
+                end: WalkEnd::Refused(Refusal::ZeroEntryLength),
+                steps,
+                cursor: at,
+            };
+        }
+        at = next;
+    }
+    if bytes.len() <= at {
+        return Walked {
+            end: WalkEnd::Finished,
+            steps,
+            cursor: at,
+        };
+    }
+    Walked {
+        end: WalkEnd::OutOfSteps,
+        steps,
+        cursor: at,
+    }
+}

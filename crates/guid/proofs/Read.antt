@@ -1,0 +1,28 @@
+-- A GUID that was written where it is flagged, and nothing where it is not, is read back.
+use Prim.Native.Nat.{ℕ, _+_, _-_, _≤_}
+use native.Mathlib.Omega.{arith}
+use native.Mathlib.Nat.{add-zero}
+use mathlib.Core.Path.{_≡_, refl, sym, ap, _∙_}
+use mathlib.Core.Bool.{Bool, true, false}
+use mathlib.Core.List.{List, [], _++_}
+use lib.ListN.{length, length-append}
+use borrow.Author.Tests.{le-leb}
+use Rattle.le.specs.Le.{if_then_else_, part}
+use Rattle.le.proofs.Inside.{part-whole}
+use Rattle.guid.specs.declared.Guid.{Guid}
+use Rattle.guid.specs.Guid.{guidAt, zeros16}
+
+-- the bytes of a GUID that is there
+pub picked : (f : Bool) (x y : List ℕ) → f ≡ true → (if f then x else y) ≡ x
+picked true x y h = refl
+picked false x y h = absurd (let z : _≡_ {A = ℕ} 0 1 = cc in omega arith)
+
+pub guid-read : (p g rest : List ℕ) (flagged : Bool) → length g ≡ 16
+    → guidAt (p ++ ((if flagged then g else []) ++ rest)) (length p) flagged
+    ≡ record { here = flagged; bytes = if flagged then g else zeros16; next = length p + length (if flagged then g else []) }
+unfolding guidAt
+guid-read p g rest true l =
+    let len : length (p ++ (g ++ rest)) ≡ length p + (length g + length rest) = simp length-append in
+    let bytes : part (p ++ (g ++ rest)) (length p) 16 ≡ g = rw l at (part-whole p g rest) in
+    simp (le-leb 16 (length (p ++ (g ++ rest)) - length p) (omega arith), bytes, l)
+guid-read p g rest false l = simp add-zero
