@@ -1,0 +1,25 @@
+use borrow.Author.Tests.{lt-ltb, le-ltb, le-leb, lt-leb, eq-eqb, ne-eqb}
+use borrow.Author.Needs.{needs}
+use Rattle.symbol.proofs.AdsSymbolInfo.attribute_name.Statement.{statement}
+use Rattle.symbol.proofs.AdsSymbolInfo.attribute_name.Tie as tie
+use Rattle.symbol.proofs.AdsSymbolInfo.attribute_name.Reads as reads
+use Rattle.symbol.proofs.AdsSymbolInfo.attribute_name.Lts as lts
+use Rattle.attr.proofs.name_in.Reads as name-in-reads
+use Rattle.entry.proofs.own_bytes.Reads as own-bytes-reads
+use Rattle.symbol.proofs.AdsSymbolInfo.attribute.Reads as attribute-reads
+
+own-bytes-requires : tie.Need-own-bytes-requires
+own-bytes-requires c κs = search needs
+
+attribute-requires : tie.Need-attribute-requires
+attribute-requires c κs = search needs
+
+name-in-requires : tie.Need-name-in-requires
+name-in-requires c κs = search needs
+
+returns : tie.Need-returns
+returns c = simp (← c .name-in .ensures, ← c .before .attribute .ensures, ← c .before .before .own-bytes .ensures)
+
+pub attribute-name-spec : {M : Type 1} → statement M
+attribute-name-spec =
+    tie.close (tie.spec own-bytes-requires attribute-requires name-in-requires returns)

@@ -1,0 +1,25 @@
+use borrow.Author.Tests.{lt-ltb, le-ltb, le-leb, lt-leb, eq-eqb, ne-eqb}
+use borrow.Author.Needs.{needs}
+use Rattle.symbol.proofs.AdsSymbolInfo.attribute_value.Statement.{statement}
+use Rattle.symbol.proofs.AdsSymbolInfo.attribute_value.Tie as tie
+use Rattle.symbol.proofs.AdsSymbolInfo.attribute_value.Reads as reads
+use Rattle.symbol.proofs.AdsSymbolInfo.attribute_value.Lts as lts
+use Rattle.attr.proofs.value_in.Reads as value-in-reads
+use Rattle.entry.proofs.own_bytes.Reads as own-bytes-reads
+use Rattle.symbol.proofs.AdsSymbolInfo.attribute.Reads as attribute-reads
+
+own-bytes-requires : tie.Need-own-bytes-requires
+own-bytes-requires c κs = search needs
+
+attribute-requires : tie.Need-attribute-requires
+attribute-requires c κs = search needs
+
+value-in-requires : tie.Need-value-in-requires
+value-in-requires c κs = search needs
+
+returns : tie.Need-returns
+returns c = simp (← c .value-in .ensures, ← c .before .attribute .ensures, ← c .before .before .own-bytes .ensures)
+
+pub attribute-value-spec : {M : Type 1} → statement M
+attribute-value-spec =
+    tie.close (tie.spec own-bytes-requires attribute-requires value-in-requires returns)

@@ -1,0 +1,45 @@
+use Rattle.symbol.specs.Symbol.{symbolRead}
+use borrow.Author.Tests.{lt-ltb, le-ltb, le-leb, lt-leb, eq-eqb, ne-eqb}
+use borrow.Author.Needs.{needs}
+use Rattle.symbol.proofs.AdsSymbolInfo.try_from_slice.Statement.{statement}
+use Rattle.symbol.proofs.AdsSymbolInfo.try_from_slice.Tie as tie
+use Rattle.symbol.proofs.AdsSymbolInfo.try_from_slice.Reads as reads
+use Rattle.symbol.proofs.AdsSymbolInfo.try_from_slice.Lts as lts
+use Rattle.entry.proofs.direct_claim.Reads as direct-claim-reads
+use Rattle.le.proofs.part_of.Reads as part-of-reads
+use Rattle.symbol.proofs.read_entry.Reads as read-entry-reads
+
+direct-claim-requires : tie.Need-direct-claim-requires
+direct-claim-requires c κs = search needs
+
+enum-known-size : tie.Need-enum-known-size
+enum-known-size c = search needs
+
+part-of-requires : tie.Need-part-of-requires
+part-of-requires c κs = search needs
+
+read-entry-requires : tie.Need-read-entry-requires
+read-entry-requires c κs = search needs
+
+enum-known-why : tie.Need-enum-known-why
+enum-known-why c = search needs
+
+returns : tie.Need-returns
+unfolding symbolRead
+returns c = simp (← c .read-entry .ensures, ← c .before .part-of .ensures, c .before .before .before .size .given .1, ← c .before .before .before .before .before .direct-claim .ensures)
+
+returns-2 : tie.Need-returns-2
+unfolding symbolRead
+returns-2 c = simp (c .before .why .given .1, ← c .before .before .before .direct-claim .ensures)
+
+pub try-from-slice-spec : {M : Type 1} → statement M
+try-from-slice-spec =
+    tie.close
+    (tie.spec
+    direct-claim-requires
+    enum-known-size
+    part-of-requires
+    read-entry-requires
+    enum-known-why
+    returns
+    returns-2)

@@ -1,0 +1,47 @@
+-- What can be asked of a symbol entry: its strings, and its attributes and refactor records by number.
+use Prim.Native.Nat.{ℕ, _+_}
+use mathlib.Core.List.{List, []}
+use lib.Dec.{ltb}
+use Rattle.le.specs.Le.{if_then_else_, part}
+use Rattle.refusal.specs.declared.Refusal.{Refusal}
+use Rattle.refusal.specs.declared.Refusal.the-variants.{NoSuchNumber}
+use Rattle.entry.specs.Entry.{ownBytes}
+use Rattle.attr.specs.Attribute.{attributeNth}
+use Rattle.attr.specs.declared.AttributeAnswer.{AttributeAnswer}
+use Rattle.attr.specs.declared.AttributeAnswer.the-variants as attribute
+use Rattle.refactor.specs.Refactor.{refactorNth}
+use Rattle.refactor.specs.declared.RefactorAnswer.{RefactorAnswer}
+use Rattle.refactor.specs.declared.RefactorAnswer.the-variants as refactor
+use Rattle.symbol.specs.declared.AdsSymbolInfo.{AdsSymbolInfo}
+use Rattle.symbol.specs.declared.SymbolAnswer.{SymbolAnswer}
+use Rattle.symbol.specs.declared.SymbolAnswer.the-variants.{Record, Refused}
+use Rattle.symbol.specs.Symbol.{symbolRead}
+
+abbrev pub bySymbol : {A : Type 0} → SymbolAnswer → (AdsSymbolInfo → A) → (Refusal → A) → A
+bySymbol (Record r) on stop = on r
+bySymbol (Refused why) on stop = stop why
+
+-- the bytes that the lengths place, none where the reader refuses
+unfoldable pub symbolName : List ℕ → List ℕ
+symbolName s = bySymbol (symbolRead s .answer) (λ r. part s 30 (r .«name_len»)) (λ why. [])
+
+unfoldable pub symbolTypeName : List ℕ → List ℕ
+symbolTypeName s = bySymbol (symbolRead s .answer) (λ r. part s (31 + r .«name_len») (r .«type_name_len»)) (λ why. [])
+
+unfoldable pub symbolComment : List ℕ → List ℕ
+symbolComment s = bySymbol (symbolRead s .answer) (λ r. part s (32 + r .«name_len» + r .«type_name_len») (r .«comment_len»)) (λ why. [])
+
+-- the reading refusals, then 14
+unfoldable pub symbolAttribute : List ℕ → ℕ → AttributeAnswer
+symbolAttribute s number =
+    bySymbol (symbolRead s .answer)
+    (λ r. if ltb number (r .attributes .count) then attributeNth (ownBytes 30 s) (r .attributes .first) number
+    else attribute.Refused (NoSuchNumber (r .attributes .count) number))
+    attribute.Refused
+
+unfoldable pub symbolRefactor : List ℕ → ℕ → RefactorAnswer
+symbolRefactor s number =
+    bySymbol (symbolRead s .answer)
+    (λ r. if ltb number (r .«refactor_infos» .count) then refactorNth (ownBytes 30 s) (r .«refactor_infos» .first) number
+    else refactor.Refused (NoSuchNumber (r .«refactor_infos» .count) number))
+    refactor.Refused
