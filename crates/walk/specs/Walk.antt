@@ -1,0 +1,36 @@
+-- 01, "Walking": a step over an upload of symbols.
+use Prim.Native.Nat.{ℕ}
+use mathlib.Core.List.{List}
+use Rattle.refusal.specs.declared.Refusal.{Refusal}
+use Rattle.guid.specs.Guid.{zeros16}
+use Rattle.entry.specs.Walk.{stepBy}
+use Rattle.symbol.specs.Symbol.{symbolEntry}
+use Rattle.symbol.specs.declared.SymbolAnswer.{SymbolAnswer}
+use Rattle.symbol.specs.declared.SymbolAnswer.the-variants as answer
+use Rattle.symbol.specs.declared.SymbolRead.{SymbolRead}
+use Rattle.walk.specs.declared.Step.{Step}
+use Rattle.walk.specs.declared.Step.the-variants.{Finished, Record, Refused}
+use Rattle.walk.specs.declared.Stepped.{Stepped}
+
+abbrev pub stepIs : SymbolAnswer → Step
+stepIs (answer.Record info) = Record info
+stepIs (answer.Refused why) = Refused why
+
+-- a step, the GUID bytes beside it, and the cursor after it
+abbrev pub stepped : Step → List ℕ → ℕ → Stepped
+stepped step guid next = record { step = step; guid = guid; cursor = record { at = next } }
+
+abbrev pub finished : ℕ → Stepped
+finished next = stepped Finished zeros16 next
+
+abbrev pub stepOf : SymbolRead → ℕ → Stepped
+stepOf read next = stepped (stepIs (read .answer)) (read .guid) next
+
+abbrev pub entry : List ℕ → ℕ → Stepped
+entry e next = stepOf (symbolEntry e) next
+
+abbrev pub refused : Refusal → ℕ → Stepped
+refused why next = stepped (Refused why) zeros16 next
+
+unfoldable pub symbolStep : List ℕ → ℕ → Stepped
+symbolStep s at = stepBy finished entry refused s at

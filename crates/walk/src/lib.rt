@@ -1,0 +1,83 @@
+// Walks an upload of symbols. The Rust's AdsSymbolInfoIterator, with the cursor by value.
+use entry::Met;
+use entry::Walked;
+use refusal::Refusal;
+use symbol::AdsSymbolInfo;
+use symbol::SymbolAnswer;
+use symbol::SymbolRead;
+ghost use mathlib.Core.Path.{_≡_};
+ghost use Rattle.entry.specs.Walk.{boundedFrom};
+ghost use Rattle.walk.specs.Walk.{symbolStep, stepOf};
+
+// The place in the upload where the next step begins.
+pub struct Cursor {
+    pub at: usize,
+}
+
+pub enum Step {
+    Finished,
+    Record(AdsSymbolInfo),
+    Refused(Refusal),
+}
+
+// A step and the cursor after it. The GUID's bytes stand beside the step: zeros where it has none.
+pub struct Stepped {
+    pub step: Step,
+    pub guid: [u8; 16],
+    pub cursor: Cursor,
+}
+
+impl Cursor {
+    pub fn new() -> Self
+        ensures { λ r. ⌜ r .at ≡ 0 ⌝ }
+    {
+        Cursor { at: 0 }
+    }
+
+    pub fn step(self, bytes: &[u8]) -> Stepped
+        ensures { λ r. ⌜ r ≡ symbolStep (now (bytes .entry)) (self .at) ⌝ }
+    {
+        let at = self.at;
+        let claimed = entry::claim_at(bytes, at);
+        let met = claimed.met;
+        let next = claimed.next;
+        match met {
+            Met::Finished => Stepped {
+                step: Step::Finished,
+                guid: [0u8; 16],
+                cursor: Cursor { at: next },
+            },
+            Met::Entry(size) => step_of(symbol::read_entry(le::part_of(bytes, at, size)), next),
+            Met::Refused(why) => Stepped {
+                step: Step::Refused(why),
+                guid: [0u8; 16],
+                cursor: Cursor { at: next },
+            },
+        }
+    }
+
+    pub fn walk(self, bytes: &[u8], allowed: usize) -> Walked
+        ensures { λ r. ⌜ r ≡ boundedFrom (now (bytes .entry)) (self .at) 0 allowed ⌝ }
+    {
+        entry::bounded_walk(bytes, self.at, allowed)
+    }
+}
+
+fn step_of(read: SymbolRead, next: usize) -> Stepped
+    ensures { λ r. ⌜ r ≡ stepOf read next ⌝ }
+{
+    let guid = read.guid;
+    let answer = read.answer;
+    match answer {
+        SymbolAnswer::Record(info) => Stepped {
+            step: Step::Record(info),
+            guid,
+            cursor: Cursor { at: next },
+        },
+        SymbolAnswer::Refused(why) => Stepped {
+            step: Step::Refused(why),
+            guid,
+            cursor: Cursor { at: next },
+        },
+    }
+}
