@@ -1,0 +1,37 @@
+-- What can be asked of a field entry: its strings, and its attributes by number.
+use Prim.Native.Nat.{ℕ, _+_}
+use mathlib.Core.List.{List, []}
+use lib.Dec.{ltb}
+use Rattle.le.specs.Le.{if_then_else_, part}
+use Rattle.refusal.specs.declared.Refusal.{Refusal}
+use Rattle.refusal.specs.declared.Refusal.the-variants.{NoSuchNumber}
+use Rattle.entry.specs.Entry.{ownBytes}
+use Rattle.attr.specs.Attribute.{attributeNth}
+use Rattle.attr.specs.declared.AttributeAnswer.{AttributeAnswer}
+use Rattle.attr.specs.declared.AttributeAnswer.the-variants as attribute
+use Rattle.field.specs.declared.AdsFieldInfo.{AdsFieldInfo}
+use Rattle.field.specs.declared.FieldAnswer.{FieldAnswer}
+use Rattle.field.specs.declared.FieldAnswer.the-variants.{Record, Refused}
+use Rattle.field.specs.Field.{fieldRead}
+
+abbrev pub byField : {A : Type 0} → FieldAnswer → (AdsFieldInfo → A) → (Refusal → A) → A
+byField (Record r) on stop = on r
+byField (Refused why) on stop = stop why
+
+-- the bytes that the lengths place, none where the reader refuses
+unfoldable pub fieldName : List ℕ → List ℕ
+fieldName s = byField (fieldRead s .answer) (λ r. part s 42 (r .«name_len»)) (λ why. [])
+
+unfoldable pub fieldTypeName : List ℕ → List ℕ
+fieldTypeName s = byField (fieldRead s .answer) (λ r. part s (43 + r .«name_len») (r .«type_name_len»)) (λ why. [])
+
+unfoldable pub fieldComment : List ℕ → List ℕ
+fieldComment s = byField (fieldRead s .answer) (λ r. part s (44 + r .«name_len» + r .«type_name_len») (r .«comment_len»)) (λ why. [])
+
+-- the reading refusals, then 14
+unfoldable pub fieldAttribute : List ℕ → ℕ → AttributeAnswer
+fieldAttribute s number =
+    byField (fieldRead s .answer)
+    (λ r. if ltb number (r .attributes .count) then attributeNth (ownBytes 42 s) (r .attributes .first) number
+    else attribute.Refused (NoSuchNumber (r .attributes .count) number))
+    attribute.Refused

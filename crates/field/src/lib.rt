@@ -1,0 +1,289 @@
+// Field entries, read. The Rust's field_info.rs; its to_vec is the crate field_writer.
+use attr::AttributeAnswer;
+use attr::Attributes;
+use attr::Ending;
+use entry::Claim;
+use flags::type_flags::AdsTypeFlags;
+use guid::Guid;
+use refusal::Refusal;
+ghost use mathlib.Core.Path.{_≡_};
+ghost use Prim.Native.Nat.{_≤_};
+ghost use lib.ListN.{length};
+ghost use Rattle.field.specs.Field.{stringsEnd, skipFrom, itemsEnd, maskEnd, methodsEnd, attributesAfter, infoOf, refused, fieldWith, fieldEntry, fieldRead};
+ghost use Rattle.field.specs.Questions.{fieldName, fieldTypeName, fieldComment, fieldAttribute};
+ghost use Rattle.attr.specs.Attribute.{nameIn, valueIn};
+ghost use Rattle.entry.specs.Entry.{ownBytes};
+
+// Records of an entry that are asked for by number: the place of the first, and how many are shown.
+pub struct Shown {
+    pub first: usize,
+    pub count: usize,
+}
+
+// Places are those of the entry's own bytes.
+pub struct AdsFieldInfo {
+    pub length: usize,
+    pub version: u32,
+    pub hash_value: u32,
+    pub type_hash_value: u32,
+    pub size: u32,
+    pub offset: u32,
+    pub type_id: u32,
+    pub flags: AdsTypeFlags,
+    pub name_len: u16,
+    pub type_name_len: u16,
+    pub comment_len: u16,
+    pub has_guid: bool,
+    pub attributes: Shown,
+}
+
+pub enum FieldAnswer {
+    Record(AdsFieldInfo),
+    Refused(Refusal),
+}
+
+// The GUID's bytes stand beside the answer: zeros where it has none.
+pub struct FieldRead {
+    pub answer: FieldAnswer,
+    pub guid: [u8; 16],
+}
+
+impl AdsFieldInfo {
+    pub const MIN_LENGTH: usize = 42;
+
+    pub fn try_from_slice(bytes: &[u8]) -> FieldRead
+        ensures { λ r. ⌜ r ≡ fieldRead (now (bytes .entry)) ⌝ }
+    {
+        match entry::direct_claim(bytes, 42) {
+            Claim::Entry(size) => read_entry(le::part_of(bytes, 0, size)),
+            Claim::Refused(why) => refused(why),
+        }
+    }
+
+    pub fn name(bytes: &[u8]) -> &[u8]
+        ensures { λ r. ⌜ now r ≡ fieldName (now (bytes .entry)) ⌝ }
+    {
+        match answer_to(bytes) {
+            FieldAnswer::Record(r) => le::part_of(bytes, 42, wide(r.name_len)),
+            FieldAnswer::Refused(_) => &bytes[..0],
+        }
+    }
+
+    pub fn type_name(bytes: &[u8]) -> &[u8]
+        ensures { λ r. ⌜ now r ≡ fieldTypeName (now (bytes .entry)) ⌝ }
+    {
+        match answer_to(bytes) {
+            FieldAnswer::Record(r) => {
+                le::part_of(bytes, 43 + wide(r.name_len), wide(r.type_name_len))
+            }
+            FieldAnswer::Refused(_) => &bytes[..0],
+        }
+    }
+
+    pub fn comment(bytes: &[u8]) -> &[u8]
+        ensures { λ r. ⌜ now r ≡ fieldComment (now (bytes .entry)) ⌝ }
+    {
+        match answer_to(bytes) {
+            FieldAnswer::Record(r) => {
+                let at = 44 + wide(r.name_len) + wide(r.type_name_len);
+                le::part_of(bytes, at, wide(r.comment_len))
+            }
+            FieldAnswer::Refused(_) => &bytes[..0],
+        }
+    }
+
+    pub fn attribute(bytes: &[u8], number: usize) -> AttributeAnswer
+        ensures { λ r. ⌜ r ≡ fieldAttribute (now (bytes .entry)) number ⌝ }
+    {
+        match answer_to(bytes) {
+            FieldAnswer::Record(r) => {
+                let shown = r.attributes;
+                if number < shown.count {
+                    return attr::attribute_nth(entry::own_bytes(bytes, 42), shown.first, number);
+                }
+                AttributeAnswer::Refused(Refusal::NoSuchNumber {
+                    count: shown.count,
+                    asked: number,
+                })
+            }
+            FieldAnswer::Refused(why) => AttributeAnswer::Refused(why),
+        }
+    }
+
+    pub fn attribute_name(bytes: &[u8], number: usize) -> &[u8]
+        ensures { λ r. ⌜ now r ≡ nameIn (ownBytes 42 (now (bytes .entry))) (fieldAttribute (now (bytes .entry)) number) ⌝ }
+    {
+        attr::name_in(
+            entry::own_bytes(bytes, 42),
+            AdsFieldInfo::attribute(bytes, number),
+        )
+    }
+
+    pub fn attribute_value(bytes: &[u8], number: usize) -> &[u8]
+        ensures { λ r. ⌜ now r ≡ valueIn (ownBytes 42 (now (bytes .entry))) (fieldAttribute (now (bytes .entry)) number) ⌝ }
+    {
+        attr::value_in(
+            entry::own_bytes(bytes, 42),
+            AdsFieldInfo::attribute(bytes, number),
+        )
+    }
+}
+
+fn answer_to(bytes: &[u8]) -> FieldAnswer
+    ensures { λ r. ⌜ r ≡ fieldRead (now (bytes .entry)) .answer ⌝ }
+{
+    let read = AdsFieldInfo::try_from_slice(bytes);
+    let answer = read.answer;
+    answer
+}
+
+fn wide(x: u16) -> usize
+    ensures { λ r. ⌜ r ≡ x ⌝ }
+{
+    x as usize
+}
+
+fn refused(why: Refusal) -> FieldRead
+    ensures { λ r. ⌜ r ≡ refused why ⌝ }
+{
+    FieldRead {
+        answer: FieldAnswer::Refused(why),
+        guid: [0u8; 16],
+    }
+}
+
+fn strings_end(e: &[u8]) -> usize
+    requires { ⌜ 42 ≤ length (now e) ⌝ }
+    ensures { λ r. ⌜ r ≡ stringsEnd (now (e .entry)) ⌝ }
+{
+    let name_len = wide(le::u16_at(e, 32));
+    let type_name_len = wide(le::u16_at(e, 34));
+    let comment_len = wide(le::u16_at(e, 36));
+    45 + name_len + type_name_len + comment_len
+}
+
+// The place after so many items, each of which begins with its length.
+fn skip_from(e: &[u8], from: usize, count: usize) -> usize
+    ensures { λ r. ⌜ r ≡ skipFrom (now (e .entry)) from count ⌝ }
+{
+    let mut at = from;
+    let mut left = count;
+    while 0 < left {
+        left = left - 1;
+        if le::room(e.len(), at) < 4 {
+            return at;
+        }
+        at = at + (le::u32_at(e, at) as usize);
+    }
+    at
+}
+
+fn items_end(e: &[u8], at: usize) -> usize
+    requires { ⌜ (42 ≤ length (now e)) × (at ≤ length (now e)) ⌝ }
+    ensures { λ r. ⌜ r ≡ itemsEnd (now (e .entry)) at ⌝ }
+{
+    let arrays = wide(le::u16_at(e, 38));
+    let items = wide(le::u16_at(e, 40));
+    skip_from(e, at + 8 * arrays, items)
+}
+
+fn mask_end(e: &[u8], at: usize, size: usize, flagged: bool) -> usize
+    ensures { λ r. ⌜ r ≡ maskEnd (now (e .entry)) at size flagged ⌝ }
+{
+    if flagged {
+        if le::room(e.len(), at) <= size {
+            return e.len();
+        }
+        return at + size;
+    }
+    at
+}
+
+fn methods_end(e: &[u8], at: usize, flagged: bool) -> usize
+    ensures { λ r. ⌜ r ≡ methodsEnd (now (e .entry)) at flagged ⌝ }
+{
+    if flagged {
+        if 2 <= le::room(e.len(), at) {
+            let count = wide(le::u16_at(e, at));
+            return skip_from(e, at + 2, count);
+        }
+    }
+    at
+}
+
+fn attributes_after(e: &[u8], at: usize, flags: AdsTypeFlags) -> Attributes
+    requires { ⌜ 42 ≤ length (now e) ⌝ }
+    ensures { λ r. ⌜ r ≡ attributesAfter (now (e .entry)) at (flags .0) ⌝ }
+{
+    let size = le::u32_at(e, 16) as usize;
+    let mask = mask_end(e, at, size, flags.has_copy_mask());
+    let methods = methods_end(e, mask, flags.has_method_infos());
+    attr::attributes_at(e, methods, flags.has_attributes())
+}
+
+fn info_of(e: &[u8], has_guid: bool, attributes: Shown) -> AdsFieldInfo
+    requires { ⌜ 42 ≤ length (now e) ⌝ }
+    ensures { λ r. ⌜ r ≡ infoOf (now (e .entry)) «has_guid» attributes ⌝ }
+{
+    AdsFieldInfo {
+        length: e.len(),
+        version: le::u32_at(e, 4),
+        hash_value: le::u32_at(e, 8),
+        type_hash_value: le::u32_at(e, 12),
+        size: le::u32_at(e, 16),
+        offset: le::u32_at(e, 20),
+        type_id: le::u32_at(e, 24),
+        flags: AdsTypeFlags(le::u32_at(e, 28)),
+        name_len: le::u16_at(e, 32),
+        type_name_len: le::u16_at(e, 34),
+        comment_len: le::u16_at(e, 36),
+        has_guid,
+        attributes,
+    }
+}
+
+// The record of an entry whose sections were read, unless one of its attributes was refused.
+fn read_with(e: &[u8], guid: Guid, found: Attributes) -> FieldRead
+    requires { ⌜ 42 ≤ length (now e) ⌝ }
+    ensures { λ r. ⌜ r ≡ fieldWith (now (e .entry)) guid found ⌝ }
+{
+    let list = found.list;
+    let ending = list.ending;
+    match ending {
+        Ending::Fine => {
+            let shown = Shown {
+                first: found.first,
+                count: list.shown,
+            };
+            let bytes = guid.bytes;
+            FieldRead {
+                answer: FieldAnswer::Record(info_of(e, guid.here, shown)),
+                guid: bytes,
+            }
+        }
+        Ending::Stopped(why) => refused(why),
+    }
+}
+
+// An entry's own bytes, read.
+pub fn read_entry(e: &[u8]) -> FieldRead
+    ensures { λ r. ⌜ r ≡ fieldEntry (now (e .entry)) ⌝ }
+{
+    let length = e.len();
+    if length < 42 {
+        return refused(Refusal::TooShort {
+            needed: 42,
+            present: length,
+        });
+    }
+    let end = strings_end(e);
+    if length < end {
+        return refused(Refusal::EntryLengthMismatch {
+            needed: end,
+            available: length,
+        });
+    }
+    let flags = AdsTypeFlags(le::u32_at(e, 28));
+    let guid = guid::guid_at(e, items_end(e, end), flags.has_type_guid());
+    read_with(e, guid, attributes_after(e, guid.next, flags))
+}

@@ -1,0 +1,36 @@
+-- 01, "Walking": a step over an upload of fields.
+use Prim.Native.Nat.{ℕ}
+use mathlib.Core.List.{List}
+use Rattle.refusal.specs.declared.Refusal.{Refusal}
+use Rattle.guid.specs.Guid.{zeros16}
+use Rattle.entry.specs.Walk.{stepBy}
+use Rattle.field.specs.Field.{fieldEntry}
+use Rattle.field.specs.declared.FieldAnswer.{FieldAnswer}
+use Rattle.field.specs.declared.FieldAnswer.the-variants as answer
+use Rattle.field.specs.declared.FieldRead.{FieldRead}
+use Rattle.field_walk.specs.declared.Step.{Step}
+use Rattle.field_walk.specs.declared.Step.the-variants.{Finished, Record, Refused}
+use Rattle.field_walk.specs.declared.Stepped.{Stepped}
+
+abbrev pub stepIs : FieldAnswer → Step
+stepIs (answer.Record info) = Record info
+stepIs (answer.Refused why) = Refused why
+
+-- a step, the GUID bytes beside it, and the cursor after it
+abbrev pub stepped : Step → List ℕ → ℕ → Stepped
+stepped step guid next = record { step = step; guid = guid; cursor = record { at = next } }
+
+abbrev pub finished : ℕ → Stepped
+finished next = stepped Finished zeros16 next
+
+abbrev pub stepOf : FieldRead → ℕ → Stepped
+stepOf read next = stepped (stepIs (read .answer)) (read .guid) next
+
+abbrev pub entry : List ℕ → ℕ → Stepped
+entry e next = stepOf (fieldEntry e) next
+
+abbrev pub refused : Refusal → ℕ → Stepped
+refused why next = stepped (Refused why) zeros16 next
+
+unfoldable pub fieldStep : List ℕ → ℕ → Stepped
+fieldStep s at = stepBy finished entry refused s at
