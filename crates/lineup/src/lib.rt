@@ -1,0 +1,1 @@
+// 01's line-up table: no code, but one theorem about the definitions (specs/LineUp.antt).
