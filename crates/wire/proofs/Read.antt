@@ -1,0 +1,67 @@
+-- Entries that were written, grown by any bytes, are whole; and what their checks passed.
+use Prim.Native.Nat.{ℕ, _+_, _-_, _<_, _≤_}
+use native.Mathlib.Omega.{arith}
+use mathlib.Core.Path.{_≡_, refl, sym, ap, _∙_}
+use mathlib.Core.Bool.{Bool, true, false}
+use mathlib.Core.List.{List, [], _∷_, _++_, append-assoc}
+use lib.Dec.{ltb}
+use lib.ListN.{length, drop, length-append}
+use borrow.Author.Tests.{ltb-false}
+use Rattle.le.specs.Le.{if_then_else_, le4, bytes2, bytes4, part}
+use Rattle.le.proofs.Laws.{le4-bytes4}
+use Rattle.le.proofs.Inside.{part-whole}
+use Rattle.refusal.specs.Refusal.{limit}
+use Rattle.refusal.specs.Writing.{Writing, Bytes, Refuse, counted, goodFrom}
+use Rattle.refusal.specs.declared.Refusal.{Refusal}
+use Rattle.refusal.specs.declared.Checked.{Checked}
+use Rattle.refusal.specs.declared.Checked.the-variants.{Passed, Refused}
+use Rattle.refusal.proofs.Laws.{passed, exact}
+use Rattle.attr.specs.Writing.{goodAttribute, attributesChecked}
+use Rattle.entry.specs.Whole.{Whole, grown}
+use Rattle.wire.specs.Wire.{stringOf, stringsOf, tooLong, thenCheck, blockChecked, entryOf, entryWriting}
+
+-- an entry, and one that is grown
+pub grown-entry : (rest extra : List ℕ) → grown (entryOf rest) extra ≡ entryOf (rest ++ extra)
+unfolding grown entryOf
+grown-entry rest extra = let n : length (bytes4 (length rest + 4) ++ rest) + length extra ≡ length (rest ++ extra) + 4 = simp length-append (omega arith) in ap (λ (k : ℕ). bytes4 k ++ (rest ++ extra)) n
+
+pub entry-whole : (rest : List ℕ) → length rest + 4 < 4294967296 → Whole (entryOf rest)
+unfolding entryOf
+entry-whole rest h = record { claims = le4-bytes4 (length rest + 4) rest h ∙ omega arith; long = omega arith }
+
+-- each string is the part that the lengths place, after a header of any length
+string-part : (before string after : List ℕ) (at : ℕ) → length before ≡ at → part (before ++ (string ++ after)) at (length string) ≡ string
+string-part before string after at h = rw h at (part-whole before string after)
+
+module _ (header name type comment rest : List ℕ) where
+  abbrev whole : List ℕ
+  whole = header ++ (stringsOf name type comment ++ rest)
+
+  pub name-part : part whole (length header) (length name) ≡ name
+  unfolding stringsOf
+  name-part = simp append-assoc (part-whole header name (0 ∷ (type ++ (0 ∷ (comment ++ (0 ∷ rest))))))
+
+  pub type-part : (at : ℕ) → length header + length name + 1 ≡ at → part whole at (length type) ≡ type
+  unfolding stringsOf
+  type-part at h = simp append-assoc (simp append-assoc at (string-part (header ++ (name ++ (0 ∷ []))) type (0 ∷ (comment ++ (0 ∷ rest))) at (simp length-append (omega arith))))
+
+  pub comment-part : (at : ℕ) → length header + length name + 1 + length type + 1 ≡ at → part whole at (length comment) ≡ comment
+  unfolding stringsOf
+  comment-part at h = simp append-assoc (simp append-assoc at (string-part (header ++ (name ++ (0 ∷ (type ++ (0 ∷ []))))) comment (0 ∷ rest) at (simp length-append (omega arith))))
+
+-- what is written passed each check
+pub both-passed : (a b : Checked) → thenCheck a b ≡ Passed → (a ≡ Passed) × (b ≡ Passed)
+both-passed Passed b h = (refl, h)
+both-passed (Refused why) b h = absurd (let z : _≡_ {A = ℕ} 0 1 = cc in omega arith)
+
+within : (b : Bool) (n : ℕ) (rest : Checked) → (if b then tooLong n else rest) ≡ Passed → rest ≡ Passed
+within false n rest h = h
+within true n rest h = absurd (let z : _≡_ {A = ℕ} 0 1 = cc in omega arith)
+
+pub block-good : (count : ℕ) (block : List ℕ) → blockChecked count block ≡ Passed → goodFrom (goodAttribute block) 0 0 count ≡ counted count (length block)
+unfolding blockChecked attributesChecked
+block-good count block h = exact count (length block) (goodFrom (goodAttribute block) 0 0 count) (within (ltb 65535 count) count _ h)
+
+pub entry-small : (e bs : List ℕ) → entryWriting e ≡ Bytes bs → length e ≤ limit
+unfolding entryWriting
+entry-small e bs h = ltb-false limit (length e) (passed _ _ _ bs h .0)
