@@ -1,0 +1,63 @@
+-- A written entry, grown by any bytes, is read as the symbol that was written.
+use Prim.Native.Nat.{ℕ, zero, suc, _+_, _-_, _<_, _≤_}
+use native.Mathlib.Omega.{arith}
+use mathlib.Core.Path.{_≡_, refl, sym, ap, _∙_}
+use mathlib.Core.Bool.{Bool, true, false, Bool·beq}
+use mathlib.Core.List.{List, [], _∷_, _++_, append-assoc}
+use lib.Dec.{ltb}
+use lib.ListN.{length, length-append}
+use borrow.Author.Tests.{le-ltb}
+use Rattle.le.specs.Le.{if_then_else_, le2, le4, has, part}
+use Rattle.symbol.specs.Symbol.{typeGuid, attributes, extendedFlags, refactorInfo, sectionsOf, infoOf, symbolEntry}
+use Rattle.symbol.specs.declared.Sections.{Sections}
+use Rattle.wire.specs.Wire.{attributesOf, entryOf}
+use Rattle.symbol_writer.specs.Writing.{Parts, flagged, extended, guidOf, extendedOf}
+use Rattle.symbol_fit.specs.Demand3.{Typed}
+use Rattle.symbol_fit.proofs.Sections as sections
+use Rattle.symbol_fit.proofs.Accepted.{Accepted, extended-zero}
+use Rattle.symbol_fit.proofs.Header as header
+use Rattle.symbol_fit.proofs.Header.{bodyOf, tailOf}
+
+module _ (p : Parts) (t : Typed p) (a : Accepted p) (extra : List ℕ) (fits : length (bodyOf p ++ extra) + 4 < 4294967296) where
+  abbrev e : List ℕ
+  e = entryOf (bodyOf p ++ extra)
+
+  -- the sections of the entry, by the place where its strings end
+  abbrev pub sectionsTold : Sections
+  sectionsTold =
+      sections.told (flagged (p .numbers) typeGuid) (flagged (p .numbers) attributes) (flagged (p .numbers) extendedFlags) (has (extended (p .numbers)) refactorInfo)
+      (p .guid) (p .attribute-block) (p .refactor-block) (header.front p t a extra fits) extra (p .attribute-count) (extended (p .numbers)) (p .refactor-count) (p .numbers .flags .0)
+
+  given : sections.Given (flagged (p .numbers) typeGuid) (flagged (p .numbers) attributes) (flagged (p .numbers) extendedFlags) (has (extended (p .numbers)) refactorInfo)
+      (p .guid) (p .attribute-block) (p .refactor-block) (header.front p t a extra fits) extra (p .attribute-count) (extended (p .numbers)) (p .refactor-count) (p .numbers .flags .0)
+  given =
+      record {
+        flag-guid = refl;
+        flag-attributes = refl;
+        flag-extended = refl;
+        flag-chain = refl;
+        sixteen = t .guid;
+        count-fits = omega (arith, a .count);
+        attributes-good = a .attributes-good;
+        extended-fits = t .extended;
+        extended-zero = extended-zero p a;
+        chain-good = a .chain-good;
+        chained = a .chain-agrees;
+      }
+
+  sections-read : sectionsOf e (length (header.front p t a extra fits)) (p .numbers .flags .0) ≡ sectionsTold
+  unfolding guidOf attributesOf extendedOf
+  sections-read = ap (λ (l : List ℕ). sectionsOf l (length (header.front p t a extra fits)) (p .numbers .flags .0)) (header.split p t a extra fits) ∙ sections.sections-read (flagged (p .numbers) typeGuid) (flagged (p .numbers) attributes) (flagged (p .numbers) extendedFlags) (has (extended (p .numbers)) refactorInfo)
+      (p .guid) (p .attribute-block) (p .refactor-block) (header.front p t a extra fits) extra (p .attribute-count) (extended (p .numbers)) (p .refactor-count) (p .numbers .flags .0) given
+
+  pub entry-read : symbolEntry e ≡ infoOf e sectionsTold
+  unfolding symbolEntry
+  entry-read =
+      let l = header.length-entry p t a extra fits in
+      let b = ap length (header.split p t a extra fits) ∙ length-append (header.front p t a extra fits) (tailOf p extra) in
+      let n = header.name-len p t a extra fits in
+      let m = header.type-name-len p t a extra fits in
+      let k = header.comment-len p t a extra fits in
+      let f = header.length-front p t a extra fits in
+      let s : sectionsOf e (33 + length (p .name) + length (p .type-name) + length (p .comment)) (p .numbers .flags .0) ≡ sectionsTold = ap (λ (k : ℕ). sectionsOf e k (p .numbers .flags .0)) (sym f) ∙ sections-read in
+      simp (n, m, k, header.flags p t a extra fits, le-ltb (length e) 30 (omega arith), le-ltb (length e) (33 + length (p .name) + length (p .type-name) + length (p .comment)) (omega arith), s)
