@@ -1,0 +1,414 @@
+// Windows-1252 bytes to UTF-8 text and back, into a lent buffer. The Rust's calls of encoding_rs.
+ghost use mathlib.Core.Path.{_≡_};
+ghost use Prim.Native.Nat.{ℕ, _+_, _≤_, _<_};
+ghost use lib.ListN.{length, drop, getD};
+ghost use lib.Dec.{eqb};
+ghost use Rattle.le.specs.Le.{if_then_else_};
+ghost use Rattle.le.specs.Put.{Wrote};
+ghost use Rattle.refusal.specs.Refusal.{limit};
+ghost use Rattle.refusal.specs.Writing.{Writes, Bytes};
+ghost use Rattle.text.specs.Utf8.{utf8, following, scalarOf};
+ghost use Rattle.text.specs.Text.{points, codePoint, decoded, decodeWriting, seek, byteOf, charOf, encodedFrom, counted, encodeWriting};
+use refusal::LIMIT;
+use refusal::Refusal;
+use refusal::Written;
+
+// The numbers of these enums are words also where a byte would do: a copy of a byte beside the tag waits for its store.
+
+// The scalar value at a place of a text.
+enum Scalar {
+    Point { p: usize, width: usize },
+    Bad,
+}
+
+// The byte of a code point.
+enum Found {
+    Byte(usize),
+    Nothing,
+}
+
+// The character at a place of a text.
+enum Char {
+    Is { byte: usize, width: usize },
+    Wrong { kind: usize },
+}
+
+// The code points of the bytes 80 to 9F.
+const POINTS: [u16; 32] = [
+    0x20AC,
+    0x0081,
+    0x201A,
+    0x0192,
+    0x201E,
+    0x2026,
+    0x2020,
+    0x2021,
+    0x02C6,
+    0x2030,
+    0x0160,
+    0x2039,
+    0x0152,
+    0x008D,
+    0x017D,
+    0x008F,
+    0x0090,
+    0x2018,
+    0x2019,
+    0x201C,
+    0x201D,
+    0x2022,
+    0x2013,
+    0x2014,
+    0x02DC,
+    0x2122,
+    0x0161,
+    0x203A,
+    0x0153,
+    0x009D,
+    0x017E,
+    0x0178,
+];
+
+// How many bytes a code point above 7F takes.
+fn point_width(p: u16) -> usize
+    requires { ⌜ 0x80 ≤ p ⌝ }
+    ensures { λ r. ⌜ (r ≡ length (utf8 p)) × (r ≤ 3) ⌝ }
+{
+    if p < 0x800 {
+        return 2;
+    }
+    3
+}
+
+// How many bytes the text of a byte takes.
+fn byte_width(table: &[u16; 32], b: u8) -> usize
+    requires { ⌜ now table ≡ points ⌝ }
+    ensures { λ r. ⌜ (r ≡ length (utf8 (codePoint b))) × (r ≤ 3) ⌝ }
+{
+    if b < 0x80 {
+        return 1;
+    }
+    if 0xA0 <= b {
+        return 2;
+    }
+    let i = (b - 0x80) as usize;
+    point_width(table[i])
+}
+
+// A code point above 7F at a place.
+fn put_point(out: &mut [u8], at: usize, p: u16) -> usize
+    requires { ⌜ 0x80 ≤ p ⌝ }
+    requires { ⌜ at + length (utf8 p) ≤ length (now out) ⌝ }
+    ensures { λ r. ⌜ Wrote (now (out .entry)) at (utf8 p) (now (out .exit)) r ⌝ }
+{
+    if p < 0x800 {
+        out[at] = (0xC0 + p / 64) as u8;
+        out[at + 1] = (0x80 + p % 64) as u8;
+        return at + 2;
+    }
+    out[at] = (0xE0 + p / 4096) as u8;
+    out[at + 1] = (0x80 + p / 64 % 64) as u8;
+    out[at + 2] = (0x80 + p % 64) as u8;
+    at + 3
+}
+
+// The three ways write apart, so that only the bytes 80 to 9F look at the table and at their width.
+fn put_byte(out: &mut [u8], at: usize, table: &[u16; 32], b: u8) -> usize
+    requires { ⌜ now table ≡ points ⌝ }
+    requires { ⌜ at + length (utf8 (codePoint b)) ≤ length (now out) ⌝ }
+    ensures { λ r. ⌜ Wrote (now (out .entry)) at (utf8 (codePoint b)) (now (out .exit)) r ⌝ }
+{
+    if b < 0x80 {
+        return le::put_u8(out, at, b);
+    }
+    if 0xA0 <= b {
+        return put_point(out, at, b as u16);
+    }
+    let i = (b - 0x80) as usize;
+    put_point(out, at, table[i])
+}
+
+// How many bytes the text of a byte string takes.
+fn decoded_length(src: &[u8]) -> usize
+    requires { ⌜ length (now src) ≤ limit ⌝ }
+    ensures { λ r. ⌜ r ≡ length (decoded (now (src .entry))) ⌝ }
+{
+    let table = POINTS;
+    let mut n: usize = 0;
+    let mut i: usize = 0;
+    while i < src.len() {
+        n += byte_width(&table, src[i]);
+        i += 1;
+    }
+    n
+}
+
+fn put_decoded(src: &[u8], out: &mut [u8]) -> usize
+    requires { ⌜ length (decoded (now src)) ≤ length (now out) ⌝ }
+    ensures { λ r. ⌜ Wrote (now (out .entry)) 0 (decoded (now (src .entry))) (now (out .exit)) r ⌝ }
+{
+    let table = POINTS;
+    let mut at: usize = 0;
+    let mut i: usize = 0;
+    while i < src.len() {
+        at = put_byte(out, at, &table, src[i]);
+        i += 1;
+    }
+    at
+}
+
+fn larger(a: u8, b: u8) -> u8
+    ensures { λ r. ⌜ (a ≤ r) × (b ≤ r) ⌝ }
+{
+    if a < b { b } else { a }
+}
+
+// A byte that none of the slice is above. It looks at all of them, so that the compiler takes many at once.
+fn highest(s: &[u8]) -> u8
+    ensures { λ r. ⌜ ((k : ℕ) → getD (now (s .entry)) k 0 ≤ r) ⌝ }
+{
+    let mut most: u8 = 0;
+    let mut i: usize = 0;
+    while i < s.len() {
+        most = larger(most, s[i]);
+        i += 1;
+    }
+    most
+}
+
+// Bytes below 80 are the same on both sides.
+fn put_same(src: &[u8], out: &mut [u8]) -> Written
+    ensures { λ r. ⌜ Writes (Bytes (now (src .entry))) (now (out .entry)) (now (out .exit)) r ⌝ }
+{
+    let needed = src.len();
+    if out.len() < needed {
+        return Written::Refused(Refusal::OutputTooSmall {
+            needed,
+            lent: out.len(),
+        });
+    }
+    Written::Done(le::put_bytes(out, 0, src))
+}
+
+// Windows-1252 bytes to UTF-8 text.
+pub fn decode(src: &[u8], out: &mut [u8]) -> Written
+    ensures { λ r. ⌜ Writes (decodeWriting (now (src .entry))) (now (out .entry)) (now (out .exit)) r ⌝ }
+{
+    if LIMIT < src.len() {
+        return Written::Refused(Refusal::TooLarge { length: src.len() });
+    }
+    if highest(src) < 0x80 {
+        return put_same(src, out);
+    }
+    // No byte takes more than three: where so much is lent, the count would only cost time.
+    if src.len() * 3 <= out.len() {
+        return Written::Done(put_decoded(src, out));
+    }
+    let needed = decoded_length(src);
+    if out.len() < needed {
+        return Written::Refused(Refusal::OutputTooSmall {
+            needed,
+            lent: out.len(),
+        });
+    }
+    Written::Done(put_decoded(src, out))
+}
+
+fn boundary(b: u8, x: u8, here: u8, other: u8) -> u8
+    ensures { λ r. ⌜ r ≡ (if eqb b x then here else other) ⌝ }
+{
+    if b == x { here } else { other }
+}
+
+// The bytes after the first of a sequence: so many of them from a place on, the next from lower to upper.
+fn following_at(s: &[u8], from: usize, needed: usize, lower: u8, upper: u8, start: usize) -> Scalar
+    requires { ⌜ (needed ≤ 3) × (start < 32) ⌝ }
+    ensures { λ r. ⌜ r ≡ following needed lower upper start 1 (drop from (now (s .entry))) ⌝ }
+{
+    let mut left = needed;
+    let mut at = from;
+    let mut low = lower;
+    let mut high = upper;
+    let mut p = start;
+    let mut seen: usize = 1;
+    while 0 < left {
+        left -= 1;
+        if s.len() <= at {
+            return Scalar::Bad;
+        }
+        let b = s[at];
+        if b < low {
+            return Scalar::Bad;
+        }
+        if high < b {
+            return Scalar::Bad;
+        }
+        p = p * 64 + (b % 64) as usize;
+        low = 0x80;
+        high = 0xBF;
+        seen += 1;
+        at += 1;
+    }
+    Scalar::Point { p, width: seen }
+}
+
+fn scalar_at(s: &[u8], at: usize) -> Scalar
+    requires { ⌜ at < length (now s) ⌝ }
+    ensures { λ r. ⌜ r ≡ scalarOf (drop at (now (s .entry))) ⌝ }
+{
+    let b = s[at];
+    let next = at + 1;
+    if b < 0x80 {
+        return Scalar::Point {
+            p: b as usize,
+            width: 1,
+        };
+    }
+    if b < 0xC2 {
+        return Scalar::Bad;
+    }
+    if b < 0xE0 {
+        return following_at(s, next, 1, 0x80, 0xBF, (b % 32) as usize);
+    }
+    if b < 0xF0 {
+        let lower = boundary(b, 0xE0, 0xA0, 0x80);
+        let upper = boundary(b, 0xED, 0x9F, 0xBF);
+        return following_at(s, next, 2, lower, upper, (b % 16) as usize);
+    }
+    if b < 0xF5 {
+        let lower = boundary(b, 0xF0, 0x90, 0x80);
+        let upper = boundary(b, 0xF4, 0x8F, 0xBF);
+        return following_at(s, next, 3, lower, upper, (b % 8) as usize);
+    }
+    Scalar::Bad
+}
+
+fn wide(x: u16) -> usize
+    ensures { λ r. ⌜ r ≡ x ⌝ }
+{
+    x as usize
+}
+
+// The byte of a code point, looked for in the table.
+fn find(table: &[u16; 32], p: usize) -> Found
+    requires { ⌜ now table ≡ points ⌝ }
+    ensures { λ r. ⌜ r ≡ seek 32 0x80 p ⌝ }
+{
+    let mut i: usize = 0;
+    while i < 32 {
+        if wide(table[i]) == p {
+            return Found::Byte(0x80 + i);
+        }
+        i += 1;
+    }
+    Found::Nothing
+}
+
+fn byte_of(table: &[u16; 32], p: usize) -> Found
+    requires { ⌜ now table ≡ points ⌝ }
+    ensures { λ r. ⌜ r ≡ byteOf p ⌝ }
+{
+    if p < 0x80 {
+        return Found::Byte(p);
+    }
+    if p < 0xA0 {
+        return find(table, p);
+    }
+    if p < 0x100 {
+        return Found::Byte(p);
+    }
+    find(table, p)
+}
+
+fn char_at(s: &[u8], at: usize, table: &[u16; 32]) -> Char
+    requires { ⌜ at < length (now s) ⌝ }
+    requires { ⌜ now table ≡ points ⌝ }
+    ensures { λ r. ⌜ r ≡ charOf (drop at (now (s .entry))) ⌝ }
+{
+    match scalar_at(s, at) {
+        Scalar::Bad => Char::Wrong { kind: 1 },
+        Scalar::Point { p, width } => match byte_of(table, p) {
+            Found::Byte(byte) => Char::Is { byte, width },
+            Found::Nothing => Char::Wrong { kind: 2 },
+        },
+    }
+}
+
+// How many bytes a text takes, or its first fault.
+fn encoded_length(src: &[u8]) -> Written
+    ensures { λ r. ⌜ r ≡ counted 0 (encodedFrom 0 0 (now (src .entry))) ⌝ }
+{
+    let table = POINTS;
+    let mut n: usize = 0;
+    let mut at: usize = 0;
+    while at < src.len() {
+        if src[at] < 0x80 {
+            n += 1;
+            at += 1;
+        } else {
+            match char_at(src, at, &table) {
+                Char::Is { byte: _, width } => {
+                    n += 1;
+                    at += width;
+                }
+                Char::Wrong { kind } => {
+                    return Written::Refused(Refusal::BadText { place: at, kind });
+                }
+            }
+        }
+    }
+    Written::Done(n)
+}
+
+// The bytes of a text that was counted, and so has no fault.
+fn put_encoded(src: &[u8], out: &mut [u8], needed: usize) -> Written
+    requires { ⌜ counted 0 (encodedFrom 0 0 (now src)) ≡ Written.Done needed ⌝ }
+    ensures { λ r. ⌜ Writes (encodedFrom 0 0 (now (src .entry))) (now (out .entry)) (now (out .exit)) r ⌝ }
+{
+    if out.len() < needed {
+        return Written::Refused(Refusal::OutputTooSmall {
+            needed,
+            lent: out.len(),
+        });
+    }
+    let table = POINTS;
+    let mut n: usize = 0;
+    let mut at: usize = 0;
+    while at < src.len() {
+        let b = src[at];
+        if b < 0x80 {
+            out[n] = b;
+            n += 1;
+            at += 1;
+        } else {
+            match char_at(src, at, &table) {
+                Char::Is { byte, width } => {
+                    out[n] = byte as u8;
+                    n += 1;
+                    at += width;
+                }
+                Char::Wrong { kind: _ } => {
+                    return Written::Done(n);
+                }
+            }
+        }
+    }
+    Written::Done(n)
+}
+
+// UTF-8 text to Windows-1252 bytes.
+pub fn encode(src: &[u8], out: &mut [u8]) -> Written
+    ensures { λ r. ⌜ Writes (encodeWriting (now (src .entry))) (now (out .entry)) (now (out .exit)) r ⌝ }
+{
+    if LIMIT < src.len() {
+        return Written::Refused(Refusal::TooLarge { length: src.len() });
+    }
+    if highest(src) < 0x80 {
+        return put_same(src, out);
+    }
+    // 11 is looked for in the whole text, before 6.
+    match encoded_length(src) {
+        Written::Done(needed) => put_encoded(src, out, needed),
+        Written::Refused(why) => Written::Refused(why),
+    }
+}
