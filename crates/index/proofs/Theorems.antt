@@ -1,0 +1,139 @@
+-- What holds of the index and of finding besides the contracts. Assumes nothing.
+use Prim.Native.Nat.{ℕ, zero, suc, _+_, _-_, _<_, _≤_}
+use native.Mathlib.Omega.{arith}
+use mathlib.Core.Path.{_≡_, refl, sym, ap, _∙_}
+use mathlib.Core.Bool.{Bool, true, false}
+use mathlib.Core.List.{List, [], _∷_}
+use lib.Dec.{ltb, leb}
+use borrow.Author.Tests.{eqb-true, lt-leb}
+use lib.ListN.{length, take, drop, length-take}
+use lib.Seq.{take-at}
+use Rattle.le.specs.Le.{if_then_else_, le4, part}
+use Rattle.refusal.specs.Refusal.{limit}
+use Rattle.refusal.specs.Writing.{Bytes, Refuse, Writes}
+use Rattle.refusal.specs.declared.Refusal.{Refusal}
+use Rattle.refusal.specs.declared.Refusal.the-variants.{ZeroEntryLength}
+use Rattle.refusal.specs.declared.Written.the-variants.{Done, Refused}
+use Rattle.entry.specs.Entry.{claimed, claimAt}
+use Rattle.entry.specs.declared.Met.the-variants as met
+use Rattle.entry.specs.Walk.{boundedFrom, walked}
+use Rattle.entry.specs.declared.WalkEnd.the-variants as walk-end
+use Rattle.symbol.specs.declared.AdsSymbolInfo.{AdsSymbolInfo}
+use Rattle.walk.specs.Walk.{symbolStep}
+use Rattle.walk.specs.declared.Step.{Step}
+use Rattle.walk.specs.declared.Step.the-variants as step
+use Rattle.index.specs.Names.{sameName}
+use Rattle.index.specs.Steps.{stands, stepsFrom, steps, byRecord, accepted, names, those, any}
+use Rattle.index.specs.Index.{starts, indexing, firstOf, find, findIndexed}
+use Rattle.index.specs.declared.FindAnswer.{FindAnswer}
+use Rattle.index.specs.declared.FindAnswer.the-variants.{Found}
+use Rattle.index.proofs.Laws.{same-steps, never}
+
+-- a step that does not move, before the end, is a claim of 0
+module _ (x y z : Refusal) (at n c : ℕ) (h : at < n) where
+  zero-by : (p q r t : Bool) → p ≡ false
+      → (if p then claimed met.Finished at else if q then claimed (met.Refused x) n else if r then claimed (met.Refused y) n else if t then claimed (met.Refused z) n else claimed (met.Entry c) (at + c)) .next ≡ at
+      → (if p then claimed met.Finished at else if q then claimed (met.Refused x) n else if r then claimed (met.Refused y) n else if t then claimed (met.Refused z) n else claimed (met.Entry c) (at + c)) .met ≡ met.Entry 0
+  zero-by true q r t p e = absurd (never refl p)
+  zero-by false true r t p e = absurd (omega arith)
+  zero-by false false true t p e = absurd (omega arith)
+  zero-by false false false true p e = absurd (omega arith)
+  zero-by false false false false p e = ap met.Entry (omega arith)
+
+pub zero-claim : (s : List ℕ) (at : ℕ) → at < length s → stands s at ≡ true → claimAt s at .met ≡ met.Entry 0
+unfolding claimAt
+zero-claim s at h e =
+    zero-by _ _ _ at (length s) (le4 s at) h (leb (length s) at) (ltb limit (length s)) (ltb (length s - at) 4) (ltb (length s - at) (le4 s at)) (lt-leb (length s) at h) (eqb-true (claimAt s at .next) at e)
+
+-- a walk allowed more steps than the upload has bytes is the whole walk
+pub steps-enough : (s : List ℕ) (n : ℕ) → length s ≤ n → stepsFrom s 0 n ≡ steps s
+unfolding steps
+steps-enough s n h = same-steps s n (length s) 0 (omega arith) (omega arith)
+
+-- its steps are those that the bounded walk counts
+counts : (s : List ℕ) (n at made : ℕ) → boundedFrom s at made n .steps ≡ made + length (stepsFrom s at n)
+unfolding boundedFrom stepsFrom
+counts s zero at made = end (leb (length s) at)
+  where
+    end : (t : Bool) → (if t then walked walk-end.Finished made at else walked walk-end.OutOfSteps made at) .steps ≡ made + 0
+    end true = omega arith
+    end false = omega arith
+counts s (suc n) at made = turn (counts s n (claimAt s at .next) (made + 1)) (leb (length s) at) (stands s at)
+  where
+    turn : boundedFrom s (claimAt s at .next) (made + 1) n .steps ≡ made + 1 + length (stepsFrom s (claimAt s at .next) n) → (p q : Bool) → (if p then walked walk-end.Finished made at else if q then walked (walk-end.Refused ZeroEntryLength) (made + 1) at else boundedFrom s (claimAt s at .next) (made + 1) n) .steps
+        ≡ made + length (if p then [] else at ∷ (if q then [] else stepsFrom s (claimAt s at .next) n))
+    turn h true q = omega arith
+    turn h false true = omega arith
+    turn h false false = omega arith
+
+pub steps-counted : (s : List ℕ) → length (steps s) ≡ boundedFrom s 0 0 (length s) .steps
+unfolding steps
+steps-counted s = omega (arith, counts s (length s) 0 0)
+
+-- how many of some places pass a test
+unfoldable pub number : (ℕ → Bool) → List ℕ → ℕ
+number test [] = 0
+number test (at ∷ more) = if test at then suc (number test more) else number test more
+
+number-those : (test : ℕ → Bool) (l : List ℕ) → length (those test l) ≡ number test l
+unfolding those number
+number-those test [] = refl
+number-those test (at ∷ l) = turn (number-those test l) (test at)
+  where
+    turn : length (those test l) ≡ number test l → (t : Bool) → length (if t then at ∷ those test l else those test l) ≡ (if t then suc (number test l) else number test l)
+    turn h true = ap suc h
+    turn h false = h
+
+-- what is known where an index was built
+module _ (s old new : List ℕ) (n : ℕ) where
+  fits : (t : Bool) (why : Refusal) (m : ℕ) → Done n ≡ (if t then Refused why else Done m) → (t ≡ false) × (m ≡ n)
+  fits true why m e = let z : _≡_ {A = ℕ} 0 1 = cc in absurd (omega arith)
+  fits false why m e = (refl, cc)
+
+  built-by : (p q : Bool) (a b : Refusal) (c : List ℕ) → Writes (if p then Refuse a else if q then Refuse b else Bytes c) old new (Done n) → (p ≡ false) × (q ≡ false) × (length c ≡ n) × (take n new ≡ c)
+  built-by true q a b c w = let z : _≡_ {A = ℕ} 0 1 = cc (w .said) in absurd (omega arith)
+  built-by false true a b c w = let z : _≡_ {A = ℕ} 0 1 = cc (w .said) in absurd (omega arith)
+  built-by false false a b c w =
+      let f = fits (ltb (length old) (length c)) _ (length c) (w .said) in
+      (refl, refl, f .1, ap (take n) (w .left ∙ simp (f .0)) ∙ take-at c (drop (length c) old) n (f .1))
+
+  built : Writes (indexing s) old new (Done n) → (ltb limit (length s) ≡ false) × (any (stands s) (steps s) ≡ false) × (length (starts s) ≡ n) × (take n new ≡ starts s)
+  unfolding indexing
+  built w = built-by (ltb limit (length s)) (any (stands s) (steps s)) _ _ (starts s) w
+
+  -- an index has as many slots as the walk has accepted entries
+  pub index-length : Writes (indexing s) old new (Done n) → n ≡ number (accepted s) (steps s)
+  unfolding starts
+  index-length w = sym (built w .2) ∙ number-those (accepted s) (steps s)
+
+  -- and stands within the slots
+  pub index-fits : Writes (indexing s) old new (Done n) → n ≤ length new
+  index-fits w = omega (arith, ap length (built w .3), built w .2, length-take n new)
+
+-- the first of those that pass a weaker test
+first-those : (p q : ℕ → Bool) → ((at : ℕ) → p at ≡ true → q at ≡ true) → (l : List ℕ) (other : FindAnswer) → firstOf p (those q l) other ≡ firstOf p l other
+unfolding firstOf those
+first-those p q h [] other = refl
+first-those p q h (at ∷ l) other = turn (first-those p q h l other) (p at) (q at) refl refl
+  where
+    turn : firstOf p (those q l) other ≡ firstOf p l other → (t u : Bool) → p at ≡ t → q at ≡ u → firstOf p (if u then at ∷ those q l else those q l) other ≡ (if t then Found at else firstOf p l other)
+    turn k true true a b = simp a
+    turn k false true a b = simp a k
+    turn k true false a b = absurd (never (h at a) b)
+    turn k false false a b = k
+
+names-accepted : (s name : List ℕ) (at : ℕ) → names s name at ≡ true → accepted s at ≡ true
+unfolding names accepted
+names-accepted s name at e = by-step (symbolStep s at .step) (λ info. sameName (part (part s at (info .length)) 30 (info .«name_len»)) name) e
+  where
+    by-step : (t : Step) (f : AdsSymbolInfo → Bool) → byRecord t f false ≡ true → byRecord t (λ info. true) false ≡ true
+    by-step step.Finished f x = x
+    by-step (step.Record info) f x = refl
+    by-step (step.Refused why) f x = x
+
+-- through an index that was built, a name is found as without one
+pub same-find : (s old new : List ℕ) (n : ℕ) → Writes (indexing s) old new (Done n) → (name : List ℕ) → findIndexed s (take n new) name ≡ find s name
+unfolding find findIndexed starts
+same-find s old new n w name =
+    let b = built s old new n w in
+    simp (b .0, b .1, b .3) (first-those (names s name) (accepted s) (names-accepted s name) (steps s) _)

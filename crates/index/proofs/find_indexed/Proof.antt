@@ -1,0 +1,77 @@
+use native.Mathlib.Omega.{arith}
+use borrow.Author.Needs.{needs}
+use Rattle.index.specs.declared.Looked.{Looked}
+use borrow.Author.Tests.{lt-ltb, le-ltb}
+use lib.ListN.{length, drop}
+use Rattle.refusal.specs.declared.Refusal.the-variants.{NameNotFound}
+use Rattle.index.specs.declared.FindAnswer.the-variants.{Refused}
+use Rattle.index.specs.Steps.{names}
+use Rattle.index.specs.Index.{firstOf, findIndexed}
+use Prim.Native.Nat.{_-_}
+use mathlib.Core.Path.{_≡_, _∙_, sym, ap}
+use Rattle.index.proofs.Laws.{first-turn, first-end}
+use Rattle.index.proofs.find_indexed.Statement.{statement}
+use Rattle.index.proofs.find_indexed.Tie as tie
+
+abbrev Inv-loop : tie.InvT-loop
+Inv-loop bytes slots name length₀ i₀ i = firstOf (names bytes name) (drop i slots) (Refused NameNotFound) ≡ findIndexed bytes slots name
+
+abbrev μ-loop : tie.MeasureT-loop
+μ-loop bytes slots name length₀ i₀ i = length slots - i
+
+returns : tie.Need-returns Inv-loop μ-loop
+unfolding findIndexed
+returns c = simp (lt-ltb _ _ (c .if1 .taken))
+
+loop-holds : tie.Need-loop-holds Inv-loop μ-loop
+unfolding findIndexed
+loop-holds c = simp (le-ltb _ _ (c .if1 .left))
+
+mul-at : tie.Need-mul-at Inv-loop μ-loop
+mul-at c = search needs
+
+shared-slice-read-at : tie.Need-shared-slice-read-at Inv-loop μ-loop
+shared-slice-read-at c = search needs
+
+cast-at : tie.Need-cast-at Inv-loop μ-loop
+cast-at c = omega (arith, c .shared-slice-known4 .given (c .before .before .loop .i))
+
+look-at-requires : tie.Need-look-at-requires Inv-loop μ-loop
+look-at-requires c κs = search needs
+
+named-requires : tie.Need-named-requires Inv-loop μ-loop
+named-requires c κs = ap (λ (x : Looked). x .head) (c .look-at .ensures)
+
+returns-2 : tie.Need-returns-2 Inv-loop μ-loop
+returns-2 c = sym (first-turn _ _ _ _ (c .before .before .before .before .loop-test .taken) ∙ simp (← c .before .named .ensures, c .if2 .taken)) ∙ c .before .before .before .before .before .loop .inv
+
+add-i : tie.Need-add-i Inv-loop μ-loop
+add-i c = search needs
+
+loop-less : tie.Need-loop-less Inv-loop μ-loop
+loop-less c = search needs
+
+loop-again : tie.Need-loop-again Inv-loop μ-loop
+loop-again c = sym (first-turn _ _ _ _ (c .before .before .before .before .loop-test .taken) ∙ simp (← c .before .named .ensures, c .if2 .left)) ∙ c .before .before .before .before .before .loop .inv
+
+returns-3 : tie.Need-returns-3 Inv-loop μ-loop
+returns-3 c = sym (first-end _ _ _ _ (c .loop-test .left)) ∙ c .before .loop .inv
+
+pub find-indexed-spec : {M : Type 1} → statement M
+find-indexed-spec =
+    tie.close
+    (tie.spec
+    Inv-loop
+    μ-loop
+    returns
+    loop-holds
+    mul-at
+    shared-slice-read-at
+    cast-at
+    look-at-requires
+    named-requires
+    returns-2
+    add-i
+    loop-less
+    loop-again
+    returns-3)

@@ -1,0 +1,41 @@
+-- 01: the index of starts, and finding by name.
+use Prim.Native.Nat.{ℕ}
+use mathlib.Core.Bool.{Bool}
+use mathlib.Core.List.{List, [], _∷_}
+use lib.Dec.{ltb}
+use lib.ListN.{length}
+use Rattle.le.specs.Le.{if_then_else_}
+use Rattle.refusal.specs.Refusal.{limit}
+use Rattle.refusal.specs.Writing.{Writing, Bytes, Refuse}
+use Rattle.refusal.specs.declared.Refusal.the-variants.{TooLarge, ZeroEntryLength, NameNotFound}
+use Rattle.index.specs.Steps.{stands, steps, accepted, names, those, any}
+use Rattle.index.specs.declared.FindAnswer.{FindAnswer}
+use Rattle.index.specs.declared.FindAnswer.the-variants.{Found, Refused}
+
+-- the start of every accepted symbol, in order
+unfoldable pub starts : List ℕ → List ℕ
+starts s = those (accepted s) (steps s)
+
+-- what index building writes into the lent slots: 5, then 10; 6 is the writer's
+unfoldable pub indexing : List ℕ → Writing
+indexing s =
+    if ltb limit (length s) then Refuse (TooLarge (length s))
+    else if any (stands s) (steps s) then Refuse ZeroEntryLength
+    else Bytes (starts s)
+
+-- the first of some places that passes a test, else another answer
+unfoldable pub firstOf : (ℕ → Bool) → List ℕ → FindAnswer → FindAnswer
+firstOf test [] other = other
+firstOf test (at ∷ more) other = if test at then Found at else firstOf test more other
+
+-- without an index: 5; a match before a zero claim is answered; else 10, else 13
+unfoldable pub find : List ℕ → List ℕ → FindAnswer
+find s name =
+    if ltb limit (length s) then Refused (TooLarge (length s))
+    else firstOf (names s name) (steps s) (if any (stands s) (steps s) then Refused ZeroEntryLength else Refused NameNotFound)
+
+-- through an index, in slot order: 5, else 13
+unfoldable pub findIndexed : List ℕ → List ℕ → List ℕ → FindAnswer
+findIndexed s slots name =
+    if ltb limit (length s) then Refused (TooLarge (length s))
+    else firstOf (names s name) slots (Refused NameNotFound)
