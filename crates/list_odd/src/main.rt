@@ -1,0 +1,4 @@
+// `list` on odd frames: crates/list_odd/stdin and stdout are written by tools/list_odd.py.
+fn main() {
+    lister::run();
+}

@@ -1,0 +1,83 @@
+-- 01, "Listing": the text that `list` prints.
+use Prim.Native.Nat.{ℕ, zero, suc, _+_, _-_}
+use mathlib.Core.Path.{_≡_}
+use mathlib.Core.List.{List, [], _∷_, _++_}
+use lib.Dec.{leb, eqb}
+use lib.ListN.{length}
+use Rattle.le.specs.Le.{if_then_else_, part}
+use Rattle.le.specs.Put.{Wrote}
+use Rattle.refusal.specs.declared.Refusal.{Refusal}
+use Rattle.refusal.specs.declared.Refusal.the-variants.{ZeroEntryLength}
+use Rattle.refusal.specs.Writing.{Writing, Bytes, Refuse, leaves}
+use Rattle.digits.specs.Frame.{frameOf}
+use Rattle.lines.specs.Lines.{lineFeed}
+use Rattle.rows.specs.Rows.{refusalLine, entryLine}
+use Rattle.symbol.specs.declared.AdsSymbolInfo.{AdsSymbolInfo}
+use Rattle.walk.specs.Walk.{symbolStep}
+use Rattle.walk.specs.declared.Step.{Step}
+use Rattle.walk.specs.declared.Step.the-variants as step
+
+-- "line at len group offset size type flags unread attrs refs name typename"
+abbrev pub header : List ℕ
+header =
+    108 ∷ 105 ∷ 110 ∷ 101 ∷ 32 ∷
+    97 ∷ 116 ∷ 32 ∷
+    108 ∷ 101 ∷ 110 ∷ 32 ∷
+    103 ∷ 114 ∷ 111 ∷ 117 ∷ 112 ∷ 32 ∷
+    111 ∷ 102 ∷ 102 ∷ 115 ∷ 101 ∷ 116 ∷ 32 ∷
+    115 ∷ 105 ∷ 122 ∷ 101 ∷ 32 ∷
+    116 ∷ 121 ∷ 112 ∷ 101 ∷ 32 ∷
+    102 ∷ 108 ∷ 97 ∷ 103 ∷ 115 ∷ 32 ∷
+    117 ∷ 110 ∷ 114 ∷ 101 ∷ 97 ∷ 100 ∷ 32 ∷
+    97 ∷ 116 ∷ 116 ∷ 114 ∷ 115 ∷ 32 ∷
+    114 ∷ 101 ∷ 102 ∷ 115 ∷ 32 ∷
+    110 ∷ 97 ∷ 109 ∷ 101 ∷ 32 ∷
+    116 ∷ 121 ∷ 112 ∷ 101 ∷ 110 ∷ 97 ∷ 109 ∷ 101 ∷ 10 ∷ []
+
+-- by what a step of the walk gives
+abbrev pub byStep : {A : Type 0} → Step → A → (AdsSymbolInfo → A) → (Refusal → A) → A
+byStep step.Finished finished entry stop = finished
+byStep (step.Record r) finished entry stop = entry r
+byStep (step.Refused why) finished entry stop = stop why
+
+-- what is printed of the step at a place of a frame: a step that does not move is a zero claim, refusal 10, any other moves over its entry
+unfoldable pub stepText : ℕ → List ℕ → ℕ → List ℕ
+stepText number s at =
+    if eqb (symbolStep s at .cursor .at) at then refusalLine number at ZeroEntryLength
+    else byStep (symbolStep s at .step) []
+    (λ r. entryLine number at r (part s at (symbolStep s at .cursor .at - at)))
+    (refusalLine number at)
+
+-- the place of the next step: a zero claim ends the line
+unfoldable pub stepNext : List ℕ → ℕ → ℕ
+stepNext s at = if eqb (symbolStep s at .cursor .at) at then length s else symbolStep s at .cursor .at
+
+-- at most so many steps from a place on
+unfoldable pub walkText : ℕ → List ℕ → ℕ → ℕ → List ℕ
+walkText number s at zero = []
+walkText number s at (suc left) = if leb (length s) at then [] else stepText number s at ++ walkText number s (stepNext s at) left
+
+-- every step moves, so a frame has no more steps than bytes; a line that is no frame is refused at start 0
+abbrev pub textOf : ℕ → Writing → List ℕ
+textOf number (Bytes s) = walkText number s 0 (length s)
+textOf number (Refuse why) = refusalLine number 0 why
+
+-- what is printed of a line of input, its characters without the LF
+unfoldable pub frameText : ℕ → List ℕ → List ℕ
+frameText number line = textOf number (frameOf line)
+
+-- what is printed of the rest of the input, where the line of this number has these characters so far: an LF ends a line, the last may lack it
+unfoldable pub inputText : ℕ → List ℕ → List ℕ → List ℕ
+inputText number line [] = frameText number line
+inputText number line (c ∷ s) =
+    if eqb c lineFeed then frameText number line ++ inputText (number + 1) [] s
+    else inputText number (line ++ (c ∷ [])) s
+
+-- what `list` prints of its input, whole
+unfoldable pub listing : List ℕ → List ℕ
+listing s = header ++ inputText 1 [] s
+
+-- the promise of the listing of a line: its text from place 0 of one buffer, the frame that it spells in the other
+pub record ListsLine (number : ℕ) (line oldFrame newFrame old new : List ℕ) (r : ℕ) : Type 0 where
+  pub text : Wrote old 0 (frameText number line) new r
+  pub frame : newFrame ≡ leaves (frameOf line) oldFrame
