@@ -18,15 +18,25 @@ abbrev pub byField : {A : Type 0} → FieldAnswer → (AdsFieldInfo → A) → (
 byField (Record r) on stop = on r
 byField (Refused why) on stop = stop why
 
+-- where each string begins: after the header, the strings before it and their end bytes
+abbrev pub nameAt : ℕ
+nameAt = 42
+
+abbrev pub typeNameAt : AdsFieldInfo → ℕ
+typeNameAt r = 43 + r .«name_len»
+
+abbrev pub commentAt : AdsFieldInfo → ℕ
+commentAt r = 44 + r .«name_len» + r .«type_name_len»
+
 -- the bytes that the lengths place, none where the reader refuses
 unfoldable pub fieldName : List ℕ → List ℕ
-fieldName s = byField (fieldRead s .answer) (λ r. part s 42 (r .«name_len»)) (λ why. [])
+fieldName s = byField (fieldRead s .answer) (λ r. part s nameAt (r .«name_len»)) (λ why. [])
 
 unfoldable pub fieldTypeName : List ℕ → List ℕ
-fieldTypeName s = byField (fieldRead s .answer) (λ r. part s (43 + r .«name_len») (r .«type_name_len»)) (λ why. [])
+fieldTypeName s = byField (fieldRead s .answer) (λ r. part s (typeNameAt r) (r .«type_name_len»)) (λ why. [])
 
 unfoldable pub fieldComment : List ℕ → List ℕ
-fieldComment s = byField (fieldRead s .answer) (λ r. part s (44 + r .«name_len» + r .«type_name_len») (r .«comment_len»)) (λ why. [])
+fieldComment s = byField (fieldRead s .answer) (λ r. part s (commentAt r) (r .«comment_len»)) (λ why. [])
 
 -- the reading refusals, then 14
 unfoldable pub fieldAttribute : List ℕ → ℕ → AttributeAnswer

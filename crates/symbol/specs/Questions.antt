@@ -21,15 +21,25 @@ abbrev pub bySymbol : {A : Type 0} → SymbolAnswer → (AdsSymbolInfo → A) �
 bySymbol (Record r) on stop = on r
 bySymbol (Refused why) on stop = stop why
 
+-- where each string begins: after the header, the strings before it and their end bytes
+abbrev pub nameAt : ℕ
+nameAt = 30
+
+abbrev pub typeNameAt : AdsSymbolInfo → ℕ
+typeNameAt r = 31 + r .«name_len»
+
+abbrev pub commentAt : AdsSymbolInfo → ℕ
+commentAt r = 32 + r .«name_len» + r .«type_name_len»
+
 -- the bytes that the lengths place, none where the reader refuses
 unfoldable pub symbolName : List ℕ → List ℕ
-symbolName s = bySymbol (symbolRead s .answer) (λ r. part s 30 (r .«name_len»)) (λ why. [])
+symbolName s = bySymbol (symbolRead s .answer) (λ r. part s nameAt (r .«name_len»)) (λ why. [])
 
 unfoldable pub symbolTypeName : List ℕ → List ℕ
-symbolTypeName s = bySymbol (symbolRead s .answer) (λ r. part s (31 + r .«name_len») (r .«type_name_len»)) (λ why. [])
+symbolTypeName s = bySymbol (symbolRead s .answer) (λ r. part s (typeNameAt r) (r .«type_name_len»)) (λ why. [])
 
 unfoldable pub symbolComment : List ℕ → List ℕ
-symbolComment s = bySymbol (symbolRead s .answer) (λ r. part s (32 + r .«name_len» + r .«type_name_len») (r .«comment_len»)) (λ why. [])
+symbolComment s = bySymbol (symbolRead s .answer) (λ r. part s (commentAt r) (r .«comment_len»)) (λ why. [])
 
 -- the reading refusals, then 14
 unfoldable pub symbolAttribute : List ℕ → ℕ → AttributeAnswer
