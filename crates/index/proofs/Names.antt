@@ -49,3 +49,12 @@ same-turn a b i h k = rw (drop-cons a i 0 h, drop-cons b i 0 k, add-one)
 pub same-end : (a b : List ℕ) (i : ℕ) → length a ≤ i → length b ≤ i → sameName (drop i a) (drop i b) ≡ true
 unfolding sameName
 same-end a b i h k = rw (drop-of-length-le a {i = i} h, drop-of-length-le b {i = i} k)
+
+-- what was the same so far, and the next bytes
+pub same-step : (p q x : Bool) → (if (if p then q else false) then x else false) ≡ (if p then (if q then x else false) else false)
+same-step true q x = refl
+same-step false q x = refl
+
+pub same-so-far : (p : Bool) → (if p then true else false) ≡ p
+same-so-far true = refl
+same-so-far false = refl

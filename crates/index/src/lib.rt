@@ -14,6 +14,7 @@ ghost use Rattle.index.specs.Index.{starts, indexing, find, findIndexed}
 ghost use Rattle.index.specs.Inside.{headIs, lookAt, tallyOf};
 ghost use Rattle.symbol.specs.Symbol.{symbolEntry};
 ghost use Rattle.walk.specs.Walk.{stepIs};
+ghost use Rattle.le.specs.Le.{if_then_else_};
 ghost use Rattle.le.specs.Put.{put};
 
 // The start of the entry that was asked for.
@@ -38,21 +39,27 @@ enum Tally {
     ZeroClaim,
 }
 
+fn both(x: bool, y: bool) -> bool
+    ensures { λ r. ⌜ r ≡ (if x then y else false) ⌝ }
+{
+    if x { y } else { false }
+}
+
 // Whether a name is the one that is asked for. Names of other lengths differ, whatever their bytes.
+// It looks at all bytes, so that the compiler takes many at once: names of a rig are short and begin alike.
 pub fn same_name(a: &[u8], b: &[u8]) -> bool
     ensures { λ r. ⌜ r ≡ sameName (now (a .entry)) (now (b .entry)) ⌝ }
 {
     if a.len() != b.len() {
         return false;
     }
+    let mut same = true;
     let mut i = 0;
     while i < a.len() {
-        if a[i] != b[i] {
-            return false;
-        }
+        same = both(same, a[i] == b[i]);
         i += 1;
     }
-    true
+    same
 }
 
 fn wide(x: u16) -> usize
