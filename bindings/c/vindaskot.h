@@ -1,0 +1,288 @@
+/* Vindaskot for C: reads, walks, writes, indexes and finds in TwinCAT symbol uploads.
+ *
+ * Link libvindaskot.a (`rt staticlib vindaskot`, or tools/bindings for all of it). Every function is proved to
+ * meet a contract: the status, the answer and every lent buffer afterwards are a function of the inputs
+ * (crates/vindaskot/src). None allocates, keeps a pointer, or prints.
+ *
+ * How a call answers
+ *   The result is a status:
+ *     VINDASKOT_DONE (0)            the call did what it is for
+ *     1 to 14                       a refusal: the table below
+ *     VINDASKOT_FINISHED (100)      a walk is at the end
+ *     VINDASKOT_OUT_OF_STEPS (101)  a bounded walk has used its steps and is not at the end
+ *   answer[0], answer[1] are set by every call. After a refusal they are its figures, expected and got. After
+ *   VINDASKOT_DONE they hold what the call says below under "answer", and 0 where it says nothing.
+ *   A refusal changes no lent buffer: out, slots and guid are as they were. (The cursor of a step and of a walk
+ *   is part of the answer: it moves past what was refused.)
+ *
+ * Slices
+ *   Bytes come as a pointer and a length; NULL is allowed where the length is 0. `answer`, `slots[N]`, `guid[16]`,
+ *   `cursor` and `steps` point to as many numbers as their type says and are never NULL. What a call writes does
+ *   not overlap what it reads.
+ *
+ * Places
+ *   A name, a value and the like are told as a place and a length: bytes + place, length bytes. After a read they
+ *   count from the bytes given. After a step they count from the start of the entry: the cursor before the step.
+ *   Strings are Windows-1252 (vindaskot_decode makes UTF-8) and have no end byte of their own.
+ *
+ * Refusals: number, meaning, answer[0] (expected) and answer[1] (got)
+ *    1  unexpected length                               needed, present
+ *    2  too short                                       needed, present
+ *    3  an entry's length does not match                claimed or needed, available
+ *    4  direct read: header there, claim below it       30 or 42, claim
+ *    5  input or written entry too large                16777216, its length
+ *    6  lent output too small                           needed, lent
+ *    7  string or count too long                        255 or 65535, actual
+ *    8  symbol flags and sections disagree              section (1 GUID, 2 attributes, 3 extended flags, 4 chain), 0
+ *    9  a block is not exactly its count of good records  count, good records at its start
+ *   10  a zero entry length stops the walk              1, 0
+ *   11  text                                            byte place, 1 not UTF-8 or 2 no Windows-1252 byte
+ *   12  bad hexadecimal line (the listing program only) 0, 0
+ *   13  name not found                                  0, 0
+ *   14  no such attribute or refactor number            how many there are, number asked
+ */
+#ifndef VINDASKOT_H
+#define VINDASKOT_H
+
+#include <stdbool.h>
+#include <stddef.h>
+#include <stdint.h>
+
+#ifdef __cplusplus
+extern "C" {
+#define VINDASKOT_AT_LEAST
+#else
+#define VINDASKOT_AT_LEAST static
+#endif
+
+#define VINDASKOT_DONE 0u
+#define VINDASKOT_FINISHED 100u
+#define VINDASKOT_OUT_OF_STEPS 101u
+#define VINDASKOT_LIMIT 16777216u
+
+/* The interface that this header describes. It changes with the arguments or the slots of any call, which a linker does
+ * not see: a program compares vindaskot_interface() with it before its first call. */
+#define VINDASKOT_INTERFACE 1u
+uint32_t vindaskot_interface(void);
+
+/* ---- Symbols ---- */
+
+/* What a symbol's slots hold. */
+enum {
+    VINDASKOT_SYMBOL_LENGTH,          /* bytes of the entry */
+    VINDASKOT_SYMBOL_INDEX_GROUP,
+    VINDASKOT_SYMBOL_INDEX_OFFSET,
+    VINDASKOT_SYMBOL_SIZE,
+    VINDASKOT_SYMBOL_DATA_TYPE_ID,
+    VINDASKOT_SYMBOL_FLAGS,
+    VINDASKOT_SYMBOL_NAME,            /* place */
+    VINDASKOT_SYMBOL_NAME_LEN,
+    VINDASKOT_SYMBOL_TYPE_NAME,       /* place */
+    VINDASKOT_SYMBOL_TYPE_NAME_LEN,
+    VINDASKOT_SYMBOL_COMMENT,         /* place */
+    VINDASKOT_SYMBOL_COMMENT_LEN,
+    VINDASKOT_SYMBOL_HAS_GUID,        /* 1, or 0: then guid is 16 zeros */
+    VINDASKOT_SYMBOL_ATTRIBUTES,      /* place of the first attribute */
+    VINDASKOT_SYMBOL_ATTRIBUTE_COUNT, /* attributes shown */
+    VINDASKOT_SYMBOL_HAS_EXTENDED,    /* 1 where extended flags are there */
+    VINDASKOT_SYMBOL_EXTENDED_FLAGS,  /* 0 where they are not */
+    VINDASKOT_SYMBOL_REFACTORS,       /* place of the first refactor record */
+    VINDASKOT_SYMBOL_REFACTOR_COUNT,  /* refactor records shown */
+    VINDASKOT_SYMBOL_UNREAD,          /* bytes after the last section */
+    VINDASKOT_SYMBOL_SLOTS
+};
+
+/* Reads the entry at the start of bytes. Refusals: 5, 2, 3, 4, 3. */
+uint32_t vindaskot_symbol_read(const uint8_t *bytes, size_t bytes_len,
+                               uint64_t slots[VINDASKOT_AT_LEAST 20],
+                               uint8_t guid[VINDASKOT_AT_LEAST 16],
+                               uint64_t answer[VINDASKOT_AT_LEAST 2]);
+
+/* One step of the walk over an upload: VINDASKOT_FINISHED at the end, VINDASKOT_DONE with the entry at the cursor,
+ * or a refusal. Begin with *cursor = 0; it is moved past the entry, and to the end after refusals 5, 3 (a claim
+ * beyond the data) and 2 (under 4 bytes left). Only a claim of 0 is refused (2: 30, 0) without a move: a loop stops
+ * where *cursor did not change. */
+uint32_t vindaskot_symbol_step(const uint8_t *bytes, size_t bytes_len, size_t *cursor,
+                               uint64_t slots[VINDASKOT_AT_LEAST 20],
+                               uint8_t guid[VINDASKOT_AT_LEAST 16],
+                               uint64_t answer[VINDASKOT_AT_LEAST 2]);
+
+/* What an attribute's slots hold. */
+enum {
+    VINDASKOT_ATTRIBUTE_NAME, /* place */
+    VINDASKOT_ATTRIBUTE_NAME_LEN,
+    VINDASKOT_ATTRIBUTE_VALUE, /* place */
+    VINDASKOT_ATTRIBUTE_VALUE_LEN,
+    VINDASKOT_ATTRIBUTE_NEXT, /* the place after the record */
+    VINDASKOT_ATTRIBUTE_SLOTS
+};
+
+/* What a refactor record's slots hold. */
+enum {
+    VINDASKOT_REFACTOR_COUNT,    /* packed with mask 0x01111111 */
+    VINDASKOT_REFACTOR_HAS_NEXT, /* 1 where another record follows */
+    VINDASKOT_REFACTOR_NAME,     /* place */
+    VINDASKOT_REFACTOR_NAME_LEN,
+    VINDASKOT_REFACTOR_NEXT, /* the place after the record */
+    VINDASKOT_REFACTOR_SLOTS
+};
+
+/* The attribute, or the refactor record, of that number, from 0, of the symbol entry at the start of bytes.
+ * Refusals: those of vindaskot_symbol_read, then 14. Each call reads the entry anew; to go through all of them, use
+ * vindaskot_attribute_read (vindaskot_refactor_read) from slot ATTRIBUTES (REFACTORS) on, ATTRIBUTE_COUNT
+ * (REFACTOR_COUNT) times, each from where the NEXT before it led. */
+uint32_t vindaskot_symbol_attribute(const uint8_t *bytes, size_t bytes_len, size_t number,
+                                    uint64_t slots[VINDASKOT_AT_LEAST 5],
+                                    uint64_t answer[VINDASKOT_AT_LEAST 2]);
+uint32_t vindaskot_symbol_refactor_info(const uint8_t *bytes, size_t bytes_len, size_t number,
+                                        uint64_t slots[VINDASKOT_AT_LEAST 5],
+                                        uint64_t answer[VINDASKOT_AT_LEAST 2]);
+
+/* ---- Fields ---- */
+
+/* What a field's slots hold. */
+enum {
+    VINDASKOT_FIELD_LENGTH, /* bytes of the entry */
+    VINDASKOT_FIELD_VERSION,
+    VINDASKOT_FIELD_HASH_VALUE,
+    VINDASKOT_FIELD_TYPE_HASH_VALUE,
+    VINDASKOT_FIELD_SIZE,
+    VINDASKOT_FIELD_OFFSET,
+    VINDASKOT_FIELD_TYPE_ID,
+    VINDASKOT_FIELD_FLAGS,
+    VINDASKOT_FIELD_NAME, /* place */
+    VINDASKOT_FIELD_NAME_LEN,
+    VINDASKOT_FIELD_TYPE_NAME, /* place */
+    VINDASKOT_FIELD_TYPE_NAME_LEN,
+    VINDASKOT_FIELD_COMMENT, /* place */
+    VINDASKOT_FIELD_COMMENT_LEN,
+    VINDASKOT_FIELD_HAS_GUID,   /* 1, or 0: then guid is 16 zeros */
+    VINDASKOT_FIELD_ATTRIBUTES, /* place of the first attribute; where the count is 0 it may lie past the entry */
+    VINDASKOT_FIELD_ATTRIBUTE_COUNT,
+    VINDASKOT_FIELD_SLOTS
+};
+
+/* As for symbols, with 42 for 30. A refused attribute refuses the field. Refusals: 5, 2, 3, 4, 3, then 2 and 1 of an
+ * attribute; of vindaskot_field_attribute then 14. */
+uint32_t vindaskot_field_read(const uint8_t *bytes, size_t bytes_len,
+                              uint64_t slots[VINDASKOT_AT_LEAST 17],
+                              uint8_t guid[VINDASKOT_AT_LEAST 16],
+                              uint64_t answer[VINDASKOT_AT_LEAST 2]);
+uint32_t vindaskot_field_step(const uint8_t *bytes, size_t bytes_len, size_t *cursor,
+                              uint64_t slots[VINDASKOT_AT_LEAST 17],
+                              uint8_t guid[VINDASKOT_AT_LEAST 16],
+                              uint64_t answer[VINDASKOT_AT_LEAST 2]);
+uint32_t vindaskot_field_attribute(const uint8_t *bytes, size_t bytes_len, size_t number,
+                                   uint64_t slots[VINDASKOT_AT_LEAST 5],
+                                   uint64_t answer[VINDASKOT_AT_LEAST 2]);
+
+/* ---- The bounded walk, over symbols and over fields ---- */
+
+/* Makes at most `allowed` steps from *cursor on, reading no more of an entry than its length. *steps is how many were
+ * made, *cursor where they led. Status: VINDASKOT_FINISHED at the end, else VINDASKOT_OUT_OF_STEPS; 10 at a zero
+ * entry length, that step counted. */
+uint32_t vindaskot_walk(const uint8_t *bytes, size_t bytes_len, size_t allowed, size_t *cursor,
+                        size_t *steps, uint64_t answer[VINDASKOT_AT_LEAST 2]);
+
+/* ---- Records by themselves ---- */
+
+/* The record at the start of bytes. Refusals: 5, 2, 1 (attribute); 5, 2 (refactor record). */
+uint32_t vindaskot_attribute_read(const uint8_t *bytes, size_t bytes_len,
+                                  uint64_t slots[VINDASKOT_AT_LEAST 5],
+                                  uint64_t answer[VINDASKOT_AT_LEAST 2]);
+uint32_t vindaskot_refactor_read(const uint8_t *bytes, size_t bytes_len,
+                                 uint64_t slots[VINDASKOT_AT_LEAST 5],
+                                 uint64_t answer[VINDASKOT_AT_LEAST 2]);
+
+/* The chain of refactor records at the start of bytes. answer: how many, and the place after the last. Refusals: 5, 2. */
+uint32_t vindaskot_chain_read(const uint8_t *bytes, size_t bytes_len, uint64_t answer[VINDASKOT_AT_LEAST 2]);
+
+/* A chain's record of that number, from 0. Refusals: those of vindaskot_chain_read, then 14. */
+uint32_t vindaskot_chain_record(const uint8_t *bytes, size_t bytes_len, size_t number,
+                                uint64_t slots[VINDASKOT_AT_LEAST 5],
+                                uint64_t answer[VINDASKOT_AT_LEAST 2]);
+
+/* A flag word of exactly 2 (symbol) or 4 bytes. answer[0]: the word. Refusals: 5, 1. */
+uint32_t vindaskot_symbol_flags_read(const uint8_t *bytes, size_t bytes_len, uint64_t answer[VINDASKOT_AT_LEAST 2]);
+uint32_t vindaskot_symbol2_flags_read(const uint8_t *bytes, size_t bytes_len, uint64_t answer[VINDASKOT_AT_LEAST 2]);
+uint32_t vindaskot_type_flags_read(const uint8_t *bytes, size_t bytes_len, uint64_t answer[VINDASKOT_AT_LEAST 2]);
+
+/* The flags that decide which sections an entry has. */
+#define VINDASKOT_SYMBOL_FLAG_TYPE_GUID 0x0008u
+#define VINDASKOT_SYMBOL_FLAG_ATTRIBUTES 0x1000u
+#define VINDASKOT_SYMBOL_FLAG_EXTENDED_FLAGS 0x8000u
+#define VINDASKOT_SYMBOL2_FLAG_REFACTOR_INFO 0x0004u
+#define VINDASKOT_TYPE_FLAG_TYPE_GUID 0x0080u
+#define VINDASKOT_TYPE_FLAG_COPY_MASK 0x0200u
+#define VINDASKOT_TYPE_FLAG_METHOD_INFOS 0x0800u
+#define VINDASKOT_TYPE_FLAG_ATTRIBUTES 0x1000u
+
+/* ---- Writing ---- */
+
+/* Each writes from out[0] on and changes nothing after what it wrote. answer[0]: bytes written. Asked with out_len 0
+ * it is refused with 6, whose first figure is the room that is needed. */
+
+/* Refusals: 7 (name, value), 6. */
+uint32_t vindaskot_attribute_write(const uint8_t *name, size_t name_len, const uint8_t *value,
+                                   size_t value_len, uint8_t *out, size_t out_len,
+                                   uint64_t answer[VINDASKOT_AT_LEAST 2]);
+
+/* Refusals: 7, 6. */
+uint32_t vindaskot_refactor_write(uint32_t count, bool has_next, const uint8_t *name, size_t name_len,
+                                  uint8_t *out, size_t out_len, uint64_t answer[VINDASKOT_AT_LEAST 2]);
+
+/* A block of refactor records with its count in front, as 2 bytes. Refusals: 7, 9, 5, 6. */
+uint32_t vindaskot_refactor_block_write(size_t count, const uint8_t *block, size_t block_len,
+                                        uint8_t *out, size_t out_len,
+                                        uint64_t answer[VINDASKOT_AT_LEAST 2]);
+
+/* A symbol entry. guid: 16 bytes, or NULL and 0 for none; another length is refusal 1 (16, length) before all else.
+ * block: `count` attributes, one after another, as vindaskot_attribute_write makes them. chain: `links` refactor
+ * records, one after another, has_next set on all but the last. Refusals: 1, 7, 9, 8, 5, 6. */
+uint32_t vindaskot_symbol_write(uint32_t index_group, uint32_t index_offset, uint32_t size,
+                                uint32_t data_type_id, uint16_t flags, uint32_t extended_flags,
+                                const uint8_t *guid, size_t guid_len, const uint8_t *name,
+                                size_t name_len, const uint8_t *type_name, size_t type_name_len,
+                                const uint8_t *comment, size_t comment_len, size_t count,
+                                const uint8_t *block, size_t block_len, size_t links,
+                                const uint8_t *chain, size_t chain_len, uint8_t *out, size_t out_len,
+                                uint64_t answer[VINDASKOT_AT_LEAST 2]);
+
+/* A field entry. guid and block as for symbols; a flagged GUID that is not given is written as 16 zeros, a flagged copy
+ * mask as `size` zeros, and attributes that are not flagged are ignored. Refusals: 1, 7, 9, 5, 6. */
+uint32_t vindaskot_field_write(uint32_t version, uint32_t hash_value, uint32_t type_hash_value,
+                               uint32_t size, uint32_t offset, uint32_t type_id, uint32_t flags,
+                               const uint8_t *guid, size_t guid_len, const uint8_t *name,
+                               size_t name_len, const uint8_t *type_name, size_t type_name_len,
+                               const uint8_t *comment, size_t comment_len, size_t count,
+                               const uint8_t *block, size_t block_len, uint8_t *out, size_t out_len,
+                               uint64_t answer[VINDASKOT_AT_LEAST 2]);
+
+/* ---- Index and finding ---- */
+
+/* The start of every accepted symbol of an upload, in order, in slots[0 .. answer[0]]. Refusals: 5, 10, 6. */
+uint32_t vindaskot_index_build(const uint8_t *bytes, size_t bytes_len, uint32_t *slots,
+                               size_t slots_len, uint64_t answer[VINDASKOT_AT_LEAST 2]);
+
+/* answer[0]: where the first accepted symbol of that name starts. Refusals: 5, 10, 13. */
+uint32_t vindaskot_find(const uint8_t *bytes, size_t bytes_len, const uint8_t *name, size_t name_len,
+                        uint64_t answer[VINDASKOT_AT_LEAST 2]);
+
+/* The same through an index, of which slots_len slots are used. Refusals: 5, 13. */
+uint32_t vindaskot_find_indexed(const uint8_t *bytes, size_t bytes_len, const uint32_t *slots,
+                                size_t slots_len, const uint8_t *name, size_t name_len,
+                                uint64_t answer[VINDASKOT_AT_LEAST 2]);
+
+/* ---- Text ---- */
+
+/* Windows-1252 to UTF-8, and back. answer[0]: bytes written. Refusals: 5, 11 (encode only), 6. */
+uint32_t vindaskot_decode(const uint8_t *src, size_t src_len, uint8_t *out, size_t out_len,
+                          uint64_t answer[VINDASKOT_AT_LEAST 2]);
+uint32_t vindaskot_encode(const uint8_t *src, size_t src_len, uint8_t *out, size_t out_len,
+                          uint64_t answer[VINDASKOT_AT_LEAST 2]);
+
+#ifdef __cplusplus
+}
+#endif
+
+#endif

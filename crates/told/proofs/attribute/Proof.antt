@@ -1,0 +1,44 @@
+use borrow.Author.Needs.{needs}
+use Rattle.told.proofs.attribute.Statement.{statement}
+use Rattle.told.proofs.attribute.Tie as tie
+use Rattle.told.proofs.attribute.Reads as reads
+use Rattle.told.proofs.attribute.Lts as lts
+use Rattle.told.proofs.refused.Reads as refused-reads
+use Rattle.told.proofs.tell.Reads as tell-reads
+
+enum-known-a : tie.Need-enum-known-a
+enum-known-a c = search needs
+
+cast-t8 : tie.Need-cast-t8
+cast-t8 c = search needs
+
+cast-t10 : tie.Need-cast-t10
+cast-t10 c = search needs
+
+tell-requires : tie.Need-tell-requires
+tell-requires c κs = search needs
+
+enum-known-a-2 : tie.Need-enum-known-a-2
+enum-known-a-2 c = search needs
+
+refused-requires : tie.Need-refused-requires
+refused-requires c κs = search needs
+
+returns : tie.Need-returns
+returns c = (simp (c .before .before .before .before .before .before .a .given .1) (c .tell .ensures), simp (c .before .before .before .before .before .before .a .given .1))
+
+returns-2 : tie.Need-returns-2
+returns-2 c = (simp (c .before .before .before .a2 .given .1) (c .refused .ensures), simp (c .before .before .before .a2 .given .1))
+
+pub attribute-spec : {M : Type 1} → statement M
+attribute-spec =
+    tie.close
+    (tie.spec
+    enum-known-a
+    cast-t8
+    cast-t10
+    tell-requires
+    enum-known-a-2
+    refused-requires
+    returns
+    returns-2)

@@ -1,0 +1,19 @@
+use borrow.Author.Needs.{needs}
+use Rattle.vindaskot.proofs.vindaskot_chain_read.Statement.{statement}
+use Rattle.vindaskot.proofs.vindaskot_chain_read.Tie as tie
+use Rattle.vindaskot.proofs.vindaskot_chain_read.Reads as reads
+use Rattle.vindaskot.proofs.vindaskot_chain_read.Lts as lts
+use Rattle.refactor.proofs.AdsRefactorInfo.parse_chain.Reads as parse-chain-reads
+use Rattle.told.proofs.chain.Reads as chain-reads
+
+parse-chain-requires : tie.Need-parse-chain-requires
+parse-chain-requires c κs = search needs
+
+chain-requires : tie.Need-chain-requires
+chain-requires c κs = search needs
+
+returns : tie.Need-returns
+returns c = simp (← c .before .before .parse-chain .ensures) (c .chain .ensures)
+
+pub vindaskot-chain-read-spec : {M : Type 1} → statement M
+vindaskot-chain-read-spec = tie.close (tie.spec parse-chain-requires chain-requires returns)

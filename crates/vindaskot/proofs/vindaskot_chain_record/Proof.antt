@@ -1,0 +1,19 @@
+use borrow.Author.Needs.{needs}
+use Rattle.vindaskot.proofs.vindaskot_chain_record.Statement.{statement}
+use Rattle.vindaskot.proofs.vindaskot_chain_record.Tie as tie
+use Rattle.vindaskot.proofs.vindaskot_chain_record.Reads as reads
+use Rattle.vindaskot.proofs.vindaskot_chain_record.Lts as lts
+use Rattle.refactor.proofs.AdsRefactorInfo.chain_record.Reads as chain-record-reads
+use Rattle.told.proofs.refactor.Reads as refactor-reads
+
+chain-record-requires : tie.Need-chain-record-requires
+chain-record-requires c κs = search needs
+
+refactor-requires : tie.Need-refactor-requires
+refactor-requires c κs = search needs
+
+returns : tie.Need-returns
+returns c = simp (← c .before .before .before .chain-record .ensures) (c .refactor .ensures)
+
+pub vindaskot-chain-record-spec : {M : Type 1} → statement M
+vindaskot-chain-record-spec = tie.close (tie.spec chain-record-requires refactor-requires returns)

@@ -1,0 +1,20 @@
+use borrow.Author.Needs.{needs}
+use Rattle.vindaskot.proofs.vindaskot_field_attribute.Statement.{statement}
+use Rattle.vindaskot.proofs.vindaskot_field_attribute.Tie as tie
+use Rattle.vindaskot.proofs.vindaskot_field_attribute.Reads as reads
+use Rattle.vindaskot.proofs.vindaskot_field_attribute.Lts as lts
+use Rattle.field.proofs.AdsFieldInfo.attribute.Reads as AdsFieldInfo-attribute-reads
+use Rattle.told.proofs.attribute.Reads as attribute-reads
+
+attribute-requires : tie.Need-attribute-requires
+attribute-requires c κs = search needs
+
+attribute-requires-2 : tie.Need-attribute-requires-2
+attribute-requires-2 c κs = search needs
+
+returns : tie.Need-returns
+returns c = simp (← c .before .before .before .attribute .ensures) (c .attribute2 .ensures)
+
+pub vindaskot-field-attribute-spec : {M : Type 1} → statement M
+vindaskot-field-attribute-spec =
+    tie.close (tie.spec attribute-requires attribute-requires-2 returns)

@@ -1,0 +1,20 @@
+use borrow.Author.Needs.{needs}
+use Rattle.vindaskot.proofs.vindaskot_field_read.Statement.{statement}
+use Rattle.vindaskot.proofs.vindaskot_field_read.Tie as tie
+use Rattle.vindaskot.proofs.vindaskot_field_read.Reads as reads
+use Rattle.vindaskot.proofs.vindaskot_field_read.Lts as lts
+use Rattle.field.proofs.AdsFieldInfo.try_from_slice.Reads as try-from-slice-reads
+use Rattle.told.proofs.field_read.Reads as field-read-reads
+
+try-from-slice-requires : tie.Need-try-from-slice-requires
+try-from-slice-requires c κs = search needs
+
+field-read-requires : tie.Need-field-read-requires
+field-read-requires c κs = search needs
+
+returns : tie.Need-returns
+returns c = simp (← c .before .before .before .before .try-from-slice .ensures) (c .field-read .ensures)
+
+pub vindaskot-field-read-spec : {M : Type 1} → statement M
+vindaskot-field-read-spec =
+    tie.close (tie.spec try-from-slice-requires field-read-requires returns)

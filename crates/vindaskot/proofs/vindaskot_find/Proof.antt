@@ -1,0 +1,19 @@
+use borrow.Author.Needs.{needs}
+use Rattle.vindaskot.proofs.vindaskot_find.Statement.{statement}
+use Rattle.vindaskot.proofs.vindaskot_find.Tie as tie
+use Rattle.vindaskot.proofs.vindaskot_find.Reads as reads
+use Rattle.vindaskot.proofs.vindaskot_find.Lts as lts
+use Rattle.index.proofs.find.Reads as find-reads
+use Rattle.told.proofs.found.Reads as found-reads
+
+find-requires : tie.Need-find-requires
+find-requires c κs = search needs
+
+found-requires : tie.Need-found-requires
+found-requires c κs = search needs
+
+returns : tie.Need-returns
+returns c = simp (← c .before .before .find .ensures) (c .found .ensures)
+
+pub vindaskot-find-spec : {M : Type 1} → statement M
+vindaskot-find-spec = tie.close (tie.spec find-requires found-requires returns)

@@ -1,0 +1,24 @@
+use Rattle.told.proofs.Laws.{told-written}
+use borrow.Author.Needs.{needs}
+use Rattle.vindaskot.proofs.vindaskot_index_build.Statement.{statement}
+use Rattle.vindaskot.proofs.vindaskot_index_build.Tie as tie
+use Rattle.vindaskot.proofs.vindaskot_index_build.Reads as reads
+use Rattle.vindaskot.proofs.vindaskot_index_build.Lts as lts
+use Rattle.index.proofs.build.Reads as build-reads
+use Rattle.told.proofs.written.Reads as written-reads
+
+build-requires : tie.Need-build-requires
+build-requires c κs = search needs
+
+written-requires : tie.Need-written-requires
+written-requires c κs = search needs
+
+same-length : tie.Need-same-length
+same-length c = search needs
+
+returns : tie.Need-returns
+returns c = told-written (c .before .before .before .before .build .ensures) (c .written .ensures)
+
+pub vindaskot-index-build-spec : {M : Type 1} → statement M
+vindaskot-index-build-spec =
+    tie.close (tie.spec build-requires written-requires same-length returns)

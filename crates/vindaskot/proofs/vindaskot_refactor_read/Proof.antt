@@ -1,0 +1,20 @@
+use borrow.Author.Needs.{needs}
+use Rattle.vindaskot.proofs.vindaskot_refactor_read.Statement.{statement}
+use Rattle.vindaskot.proofs.vindaskot_refactor_read.Tie as tie
+use Rattle.vindaskot.proofs.vindaskot_refactor_read.Reads as reads
+use Rattle.vindaskot.proofs.vindaskot_refactor_read.Lts as lts
+use Rattle.refactor.proofs.AdsRefactorInfo.try_from_slice.Reads as try-from-slice-reads
+use Rattle.told.proofs.refactor.Reads as refactor-reads
+
+try-from-slice-requires : tie.Need-try-from-slice-requires
+try-from-slice-requires c κs = search needs
+
+refactor-requires : tie.Need-refactor-requires
+refactor-requires c κs = search needs
+
+returns : tie.Need-returns
+returns c = simp (← c .before .before .before .try-from-slice .ensures) (c .refactor .ensures)
+
+pub vindaskot-refactor-read-spec : {M : Type 1} → statement M
+vindaskot-refactor-read-spec =
+    tie.close (tie.spec try-from-slice-requires refactor-requires returns)

@@ -1,0 +1,20 @@
+use borrow.Author.Needs.{needs}
+use Rattle.vindaskot.proofs.vindaskot_symbol_read.Statement.{statement}
+use Rattle.vindaskot.proofs.vindaskot_symbol_read.Tie as tie
+use Rattle.vindaskot.proofs.vindaskot_symbol_read.Reads as reads
+use Rattle.vindaskot.proofs.vindaskot_symbol_read.Lts as lts
+use Rattle.symbol.proofs.AdsSymbolInfo.try_from_slice.Reads as try-from-slice-reads
+use Rattle.told.proofs.symbol_read.Reads as symbol-read-reads
+
+try-from-slice-requires : tie.Need-try-from-slice-requires
+try-from-slice-requires c κs = search needs
+
+symbol-read-requires : tie.Need-symbol-read-requires
+symbol-read-requires c κs = search needs
+
+returns : tie.Need-returns
+returns c = simp (← c .before .before .before .before .try-from-slice .ensures) (c .symbol-read .ensures)
+
+pub vindaskot-symbol-read-spec : {M : Type 1} → statement M
+vindaskot-symbol-read-spec =
+    tie.close (tie.spec try-from-slice-requires symbol-read-requires returns)

@@ -1,0 +1,20 @@
+use borrow.Author.Needs.{needs}
+use Rattle.vindaskot.proofs.vindaskot_symbol_refactor_info.Statement.{statement}
+use Rattle.vindaskot.proofs.vindaskot_symbol_refactor_info.Tie as tie
+use Rattle.vindaskot.proofs.vindaskot_symbol_refactor_info.Reads as reads
+use Rattle.vindaskot.proofs.vindaskot_symbol_refactor_info.Lts as lts
+use Rattle.symbol.proofs.AdsSymbolInfo.refactor_info.Reads as refactor-info-reads
+use Rattle.told.proofs.refactor.Reads as refactor-reads
+
+refactor-info-requires : tie.Need-refactor-info-requires
+refactor-info-requires c κs = search needs
+
+refactor-requires : tie.Need-refactor-requires
+refactor-requires c κs = search needs
+
+returns : tie.Need-returns
+returns c = simp (← c .before .before .before .refactor-info .ensures) (c .refactor .ensures)
+
+pub vindaskot-symbol-refactor-info-spec : {M : Type 1} → statement M
+vindaskot-symbol-refactor-info-spec =
+    tie.close (tie.spec refactor-info-requires refactor-requires returns)

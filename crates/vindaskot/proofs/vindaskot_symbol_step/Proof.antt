@@ -1,0 +1,19 @@
+use borrow.Author.Needs.{needs}
+use Rattle.vindaskot.proofs.vindaskot_symbol_step.Statement.{statement}
+use Rattle.vindaskot.proofs.vindaskot_symbol_step.Tie as tie
+use Rattle.vindaskot.proofs.vindaskot_symbol_step.Reads as reads
+use Rattle.vindaskot.proofs.vindaskot_symbol_step.Lts as lts
+use Rattle.told.proofs.symbol_step.Reads as symbol-step-reads
+use Rattle.walk.proofs.Cursor.step.Reads as step-reads
+
+step-requires : tie.Need-step-requires
+step-requires c κs = search needs
+
+symbol-step-requires : tie.Need-symbol-step-requires
+symbol-step-requires c κs = search needs
+
+returns : tie.Need-returns
+returns c = simp (← c .before .before .before .before .before .step .ensures) (c .symbol-step .ensures)
+
+pub vindaskot-symbol-step-spec : {M : Type 1} → statement M
+vindaskot-symbol-step-spec = tie.close (tie.spec step-requires symbol-step-requires returns)
