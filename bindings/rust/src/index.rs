@@ -1,0 +1,97 @@
+//! The index of an upload, and finding a symbol by name.
+
+#[cfg(feature = "alloc")]
+use alloc::vec::Vec;
+
+use crate::refusal::Refusal;
+use crate::sys;
+use crate::told::{done, needed};
+
+/// Where the accepted symbols of an upload start, in order, in lent slots.
+#[derive(Debug, Clone, Copy, PartialEq, Eq, Hash)]
+pub struct Index<'s> {
+    starts: &'s [u32],
+}
+
+impl<'s> Index<'s> {
+    /// Stores the start of every accepted symbol of `data` in `slots`. Refusals: 5, 10, 6.
+    pub fn build(data: &[u8], slots: &'s mut [u32]) -> Result<Self, Refusal> {
+        let used = fill(data, slots)?;
+        let starts = &slots[..used];
+        Ok(Self { starts })
+    }
+
+    /// An index over starts that were stored before. A start where `find`'s upload has no accepted symbol is passed
+    /// over.
+    pub const fn over(starts: &'s [u32]) -> Self {
+        Self { starts }
+    }
+
+    /// The starts.
+    pub const fn starts(&self) -> &'s [u32] {
+        self.starts
+    }
+
+    /// Where the first symbol of that name starts in `data`, by the starts in order. Names are equal if their bytes
+    /// are. Refusals: 5, 13.
+    pub fn find(&self, data: &[u8], name: &[u8]) -> Result<usize, Refusal> {
+        let starts = self.starts;
+        let mut answer = [0; 2];
+        // SAFETY: each pointer stands with its slice's own length; answer is lent for the call.
+        let status = unsafe {
+            sys::vindaskot_find_indexed(
+                data.as_ptr(),
+                data.len(),
+                starts.as_ptr(),
+                starts.len(),
+                name.as_ptr(),
+                name.len(),
+                &mut answer,
+            )
+        };
+        Ok(done(status, answer)?[0])
+    }
+}
+
+fn fill(data: &[u8], slots: &mut [u32]) -> Result<usize, Refusal> {
+    let mut answer = [0; 2];
+    // SAFETY: each pointer stands with its slice's own length; slots is borrowed alone, so it overlaps nothing.
+    let status = unsafe {
+        sys::vindaskot_index_build(
+            data.as_ptr(),
+            data.len(),
+            slots.as_mut_ptr(),
+            slots.len(),
+            &mut answer,
+        )
+    };
+    Ok(done(status, answer)?[0])
+}
+
+/// How many slots the index of an upload needs. Refusals: 5, 10.
+pub fn slots_needed(data: &[u8]) -> Result<usize, Refusal> {
+    needed(|slots| fill(data, slots))
+}
+
+/// The starts of an upload's accepted symbols, for [`Index::over`]. Refusals: 5, 10.
+#[cfg(feature = "alloc")]
+pub fn starts_to_vec(data: &[u8]) -> Result<Vec<u32>, Refusal> {
+    crate::told::filled(|slots| fill(data, slots))
+}
+
+/// Where the first accepted symbol of that name starts, without an index. A match before a zero claim is answered.
+/// Refusals: 5, 10, 13.
+pub fn find(data: &[u8], name: &[u8]) -> Result<usize, Refusal> {
+    let mut answer = [0; 2];
+    // SAFETY: each pointer stands with its slice's own length; answer is lent for the call.
+    let status = unsafe {
+        sys::vindaskot_find(
+            data.as_ptr(),
+            data.len(),
+            name.as_ptr(),
+            name.len(),
+            &mut answer,
+        )
+    };
+    Ok(done(status, answer)?[0])
+}

@@ -1,0 +1,37 @@
+#![doc = include_str!("../README.md")]
+#![no_std]
+#![deny(missing_docs)]
+#![deny(clippy::undocumented_unsafe_blocks)]
+
+#[cfg(feature = "alloc")]
+extern crate alloc;
+
+pub mod attributes;
+pub mod block;
+pub mod field;
+pub mod flags;
+pub mod index;
+pub mod refactor_info;
+pub mod refusal;
+pub mod symbol;
+mod sys;
+pub mod text;
+mod told;
+pub mod walk;
+
+pub use attributes::{AdsAttribute, AdsAttributes, AttributeWriter};
+pub use block::Block;
+pub use field::{AdsFieldInfo, AdsFieldInfoIterator, FieldNumbers, FieldParts};
+pub use flags::{AdsSymbol2Flags, AdsSymbolFlags, AdsTypeFlags, IndexGroup, IndexOffset};
+pub use index::{Index, find};
+pub use refactor_info::{AdsRefactorInfo, AdsRefactorInfos, RefactorWriter};
+pub use refusal::{LIMIT, Refusal, RefusalKind};
+pub use symbol::{AdsSymbolInfo, AdsSymbolInfoIterator, SymbolNumbers, SymbolParts};
+pub use walk::{WalkEnd, Walked, walk};
+
+/// Whether the archive that was linked has the interface that this crate was written for: its arguments and slots,
+/// which no linker compares.
+pub fn interface_matches() -> bool {
+    // SAFETY: the call takes nothing.
+    unsafe { sys::vindaskot_interface() == sys::INTERFACE }
+}

@@ -1,0 +1,65 @@
+//! The functions that answer with a `Vec` or a `String`, against those that write into a lent buffer.
+
+mod common;
+
+use common::plain::{PlainField, PlainSymbol};
+use common::{Random, refusal, rig};
+use vindaskot::index::starts_to_vec;
+use vindaskot::text::{decode_to_string, encode_to_vec};
+use vindaskot::{AdsAttribute, AdsFieldInfo, AdsRefactorInfo, AdsSymbolInfo, Index, SymbolParts};
+
+#[test]
+fn entries() {
+    let mut r = Random(11);
+    for _ in 0..300 {
+        let bytes = PlainSymbol::random(&mut r).bytes();
+        let info = AdsSymbolInfo::try_from_slice(&bytes).unwrap();
+        assert_eq!(info.numbers().to_vec(&info.parts()), Ok(bytes.clone()));
+        let bytes = PlainField::random(&mut r).bytes();
+        let info = AdsFieldInfo::try_from_slice(&bytes).unwrap();
+        assert_eq!(info.numbers().to_vec(&info.parts()), Ok(bytes.clone()));
+    }
+    let upload = rig();
+    let info = AdsSymbolInfo::try_from_slice(&upload).unwrap();
+    let without = SymbolParts {
+        guid: None,
+        ..info.parts()
+    };
+    assert_eq!(info.numbers().to_vec(&without), Err(refusal(8, 1, 0)));
+}
+
+#[test]
+fn records() {
+    let attribute = AdsAttribute::new(b"unit", b"\xB0");
+    assert_eq!(attribute.to_vec(), Ok(b"\x04\x01unit\0\xB0\0".to_vec()));
+    let former = [Some(&b"a"[..]), None].map(|name| AdsRefactorInfo::new(1, name));
+    let first = b"\x01\0\0\x01\x01\0a\0";
+    assert_eq!(former[0].to_vec_with_next(true), Ok(first.to_vec()));
+    let entries = [b"\x02\0", &first[..], b"\x01\0\0\0\0\0\0"].concat();
+    assert_eq!(AdsRefactorInfo::entries_to_vec(&former), Ok(entries));
+    assert_eq!(AdsRefactorInfo::entries_to_vec(&[]), Ok(vec![0, 0]));
+    // A count that has the follower bit says that another follows, also at the end.
+    let endless = [AdsRefactorInfo::new(0x0100_0000, None)];
+    let refused = AdsRefactorInfo::entries_to_vec(&endless);
+    assert_eq!(refused, Err(refusal(9, 1, 0)));
+}
+
+#[test]
+fn texts() {
+    assert_eq!(decode_to_string(b"gepr\xFCft \x80").unwrap(), "geprüft €");
+    assert_eq!(decode_to_string(b"").unwrap(), "");
+    assert_eq!(encode_to_vec("geprüft €"), Ok(b"gepr\xFCft \x80".to_vec()));
+    assert_eq!(encode_to_vec(b"ab\xFF"), Err(refusal(11, 2, 1)));
+    assert_eq!(encode_to_vec("ab\u{3A9}"), Err(refusal(11, 2, 2)));
+}
+
+#[test]
+fn starts() {
+    let upload = rig();
+    let starts = starts_to_vec(&upload).unwrap();
+    let mut slots = [0; 40];
+    let index = Index::build(&upload, &mut slots).unwrap();
+    assert_eq!(index, Index::over(&starts));
+    assert_eq!(starts_to_vec(&[]), Ok(vec![]));
+    assert_eq!(starts_to_vec(&[0; 9]), Err(refusal(10, 1, 0)));
+}
