@@ -1,0 +1,145 @@
+//! The walk, every entry read: numbers and places alone, and with all text as UTF-8.
+use crate::AdsSymbolInfo;
+use crate::c::{self, Told, slot};
+use crate::clock::{plain, race, wrong};
+use crate::report::Report;
+use crate::rig::Rig;
+use crate::symbol_info::AdsSymbolInfoIterator;
+use std::hint::black_box;
+
+/// Of each entry: what both sides can tell of it without text. An unread byte, which the Rust does not tell, would show as a
+/// difference, since written entries have none.
+pub fn ours(upload: &[u8]) -> u64 {
+    let mut told = Told::<20>::new();
+    let (mut cursor, mut sum) = (0, 0);
+    loop {
+        match c::symbol_step(upload, &mut cursor, &mut told) {
+            c::DONE => sum += ours_sum(&told),
+            c::FINISHED => return sum,
+            status => wrong(&format!("vindaskot_symbol_step refused with {status}")),
+        }
+    }
+}
+
+fn ours_sum(told: &Told<20>) -> u64 {
+    told.slots[slot::NAME_LEN]
+        + told.slots[slot::TYPE_NAME_LEN]
+        + (told.slots[slot::COMMENT_LEN] != 0) as u64
+        + told.slots[slot::INDEX_GROUP]
+        + told.slots[slot::INDEX_OFFSET]
+        + told.slots[slot::SIZE]
+        + told.slots[slot::DATA_TYPE_ID]
+        + told.slots[slot::FLAGS]
+        + told.slots[slot::HAS_GUID]
+        + told.guid[0] as u64
+        + told.slots[slot::ATTRIBUTE_COUNT]
+        + told.slots[slot::EXTENDED_FLAGS]
+        + told.slots[slot::REFACTOR_COUNT]
+        + told.slots[slot::UNREAD]
+}
+
+pub fn theirs(upload: &[u8]) -> u64 {
+    let mut sum = 0;
+    for record in AdsSymbolInfoIterator::new(black_box(upload)) {
+        match black_box(&record) {
+            Ok(r) => sum += theirs_sum(r),
+            Err(e) => wrong(&format!("the Rust's walk: {e}")),
+        }
+    }
+    sum
+}
+
+fn theirs_sum(r: &AdsSymbolInfo) -> u64 {
+    r.name().len() as u64
+        + r.type_name().len() as u64
+        + !r.comment().is_empty() as u64
+        + r.index_group().as_u32() as u64
+        + r.index_offset().as_u32() as u64
+        + r.size() as u64
+        + u32::from(r.data_type_id()) as u64
+        + r.flags().as_raw() as u64
+        + r.guid().is_some() as u64
+        + r.guid().map_or(0, |g| g.as_bytes()[0]) as u64
+        + r.attributes().len() as u64
+        + r.extended_flags().map_or(0, |f| f.as_raw()) as u64
+        + r.refactor_infos().len() as u64
+}
+
+/// The same walk, with every string of every entry decoded into a lent buffer, where the Rust has it as a `String`. The sum is
+/// that of the lengths in UTF-8.
+fn ours_text(upload: &[u8], out: &mut [u8]) -> u64 {
+    let mut told = Told::<20>::new();
+    let (mut cursor, mut sum) = (0, 0);
+    loop {
+        let entry = &upload[cursor..];
+        match c::symbol_step(upload, &mut cursor, &mut told) {
+            c::DONE => sum += ours_text_of(entry, &told, out),
+            c::FINISHED => return sum,
+            status => wrong(&format!("vindaskot_symbol_step refused with {status}")),
+        }
+    }
+}
+
+fn ours_text_of(entry: &[u8], told: &Told<20>, out: &mut [u8]) -> u64 {
+    let mut sum = 0;
+    let mut decode = |bytes: &[u8], place: u64, len: u64| {
+        sum += c::decode(&bytes[place as usize..][..len as usize], out);
+        black_box(&out);
+    };
+    for place in [slot::NAME, slot::TYPE_NAME, slot::COMMENT] {
+        decode(entry, told.slots[place], told.slots[place + 1]);
+    }
+    let mut record = Told::<5>::new();
+    let mut left = &entry[told.number(slot::ATTRIBUTES)..];
+    for _ in 0..told.slots[slot::ATTRIBUTE_COUNT] {
+        c::attribute_read(left, &mut record);
+        decode(left, record.slots[0], record.slots[1]);
+        decode(left, record.slots[2], record.slots[3]);
+        left = &left[record.number(4)..];
+    }
+    let mut left = &entry[told.number(slot::REFACTORS)..];
+    for _ in 0..told.slots[slot::REFACTOR_COUNT] {
+        c::refactor_read(left, &mut record);
+        decode(left, record.slots[2], record.slots[3]);
+        left = &left[record.number(4)..];
+    }
+    sum as u64
+}
+
+fn theirs_text(upload: &[u8]) -> u64 {
+    let mut sum = 0;
+    for record in AdsSymbolInfoIterator::new(black_box(upload)) {
+        let Ok(r) = black_box(&record) else {
+            wrong("the Rust's walk refused an entry");
+        };
+        sum += r.name().len() + r.type_name().len() + r.comment().len();
+        for a in r.attributes() {
+            sum += a.name().len() + a.value().len();
+        }
+        for f in r.refactor_infos() {
+            sum += f.name().map_or(0, str::len);
+        }
+    }
+    sum as u64
+}
+
+pub fn rows(report: &mut Report, rig: &Rig) {
+    let (upload, entries) = (rig.upload.as_slice(), rig.symbols.len());
+    report.heading("walking", "ns an entry");
+    let what = "walk, every entry read";
+    let runs = vec![plain(|| ours(upload)), plain(|| theirs(upload))];
+    let times = race(report.allowed, what, runs);
+    report.goals.walk = report.row(what, entries, times[0], times[1]);
+    let what = "walk, and all text as UTF-8";
+    let mut out = vec![0; 4096];
+    let runs = vec![
+        plain(|| ours_text(upload, &mut out)),
+        plain(|| theirs_text(upload)),
+    ];
+    let times = race(report.allowed, what, runs);
+    report.row(what, entries, times[0], times[1]);
+    let what = "bounded walk, lengths alone";
+    let runs = vec![plain(|| c::walk(black_box(upload)) as u64)];
+    let times = race(report.allowed, what, runs);
+    report.alone(what, entries, times[0]);
+}

@@ -1,0 +1,203 @@
+//! Writing entries and records, and reading fields.
+use crate::c::{self, Told, field_slot};
+use crate::clock::{plain, race, wrong};
+use crate::report::Report;
+use crate::rig::{Rig, Symbol};
+use crate::verify::text;
+use crate::{AdsAttribute, AdsFieldInfo, AdsRefactorInfo};
+use std::hint::black_box;
+
+/// A field, as each side keeps it.
+struct Field<'a> {
+    symbol: &'a Symbol,
+    strings: [String; 3],
+    bytes: Vec<u8>,
+    record: AdsFieldInfo,
+}
+
+/// The fields of a rig, written by the library and parsed by the Rust, which has no other way to make one. Both write the same.
+fn fields(rig: &Rig) -> Vec<Field<'_>> {
+    let mut out = [0; 4096];
+    let field = |symbol: &'_ Symbol| {
+        let strings = [&symbol.name[..], &symbol.type_name, &symbol.comment];
+        let n = c::field_write(symbol, strings, &symbol.block, &mut out);
+        let bytes = out[..n].to_vec();
+        let record = match AdsFieldInfo::try_from_slice(&bytes) {
+            Ok((record, _)) if record.to_vec() == bytes => record,
+            _ => wrong("a field that was written is not the Rust's"),
+        };
+        (strings.map(text), bytes, record)
+    };
+    let made: Vec<_> = rig.symbols.iter().map(field).collect();
+    let pair = |(symbol, (strings, bytes, record))| Field {
+        symbol,
+        strings,
+        bytes,
+        record,
+    };
+    rig.symbols.iter().zip(made).map(pair).collect()
+}
+
+fn field_from_bytes(f: &Field, out: &mut [u8]) -> usize {
+    let s = f.symbol;
+    c::field_write(s, [&s.name, &s.type_name, &s.comment], &s.block, out)
+}
+
+/// The same from UTF-8 and single attributes, as the Rust has them: the strings are encoded, the block is put together.
+fn field_from_text(
+    f: &Field,
+    rooms: &mut [[u8; 1024]; 3],
+    block: &mut [u8],
+    out: &mut [u8],
+) -> usize {
+    let mut lengths = [0; 3];
+    for (i, s) in f.strings.iter().enumerate() {
+        lengths[i] = c::encode(s.as_bytes(), &mut rooms[i]);
+    }
+    let mut at = 0;
+    for (name, value) in &f.symbol.attributes {
+        at += c::attribute_write(name, value, &mut block[at..]);
+    }
+    let strings = [
+        &rooms[0][..lengths[0]],
+        &rooms[1][..lengths[1]],
+        &rooms[2][..lengths[2]],
+    ];
+    c::field_write(f.symbol, strings, &block[..at], out)
+}
+
+fn field_write_rows(report: &mut Report, fields: &[Field]) {
+    let (mut out, mut other) = ([0; 4096], [0; 4096]);
+    let (mut rooms, mut block) = ([[0; 1024]; 3], [0; 4096]);
+    let what = "write a field";
+    let sum = |write: &mut dyn FnMut(&Field) -> usize| fields.iter().map(|f| write(f) as u64).sum();
+    let runs = vec![
+        plain(|| sum(&mut |f| field_from_bytes(black_box(f), &mut out))),
+        plain(|| sum(&mut |f| black_box(black_box(f).record.to_vec()).len())),
+        plain(|| sum(&mut |f| field_from_text(black_box(f), &mut rooms, &mut block, &mut other))),
+    ];
+    let times = race(report.allowed, what, runs);
+    report.row(what, fields.len(), times[0], times[1]);
+    report.row(
+        "  the same, from UTF-8 and single attributes",
+        fields.len(),
+        times[2],
+        times[1],
+    );
+}
+
+fn ours_read(fields: &[Field]) -> u64 {
+    use field_slot::*;
+    const SUMMED: [usize; 8] = [
+        SIZE,
+        OFFSET,
+        TYPE_ID,
+        FLAGS,
+        NAME_LEN,
+        TYPE_NAME_LEN,
+        HAS_GUID,
+        ATTRIBUTE_COUNT,
+    ];
+    let mut told = Told::<17>::new();
+    let mut sum = 0;
+    for f in fields {
+        c::field_read(black_box(&f.bytes), &mut told);
+        sum += SUMMED.iter().map(|slot| told.slots[*slot]).sum::<u64>();
+        sum += (told.slots[COMMENT_LEN] != 0) as u64 + told.guid[0] as u64;
+    }
+    sum
+}
+
+fn theirs_read(fields: &[Field]) -> u64 {
+    let mut sum = 0;
+    for f in fields {
+        let Ok((r, _)) = black_box(AdsFieldInfo::try_from_slice(black_box(&f.bytes))) else {
+            wrong("the Rust refuses a field");
+        };
+        sum += r.size() as u64 + r.offset() as u64 + u32::from(r.data_type()) as u64;
+        sum += r.flags().as_raw() as u64 + r.name().len() as u64 + r.type_name().len() as u64;
+        sum += r.guid().is_some() as u64 + r.attributes().len() as u64;
+        sum += !r.comment().is_empty() as u64 + r.guid().map_or(0, |g| g.as_bytes()[0]) as u64;
+    }
+    sum
+}
+
+fn attribute_row(report: &mut Report, rig: &Rig) {
+    let ours: Vec<_> = rig.symbols.iter().flat_map(|s| &s.attributes).collect();
+    let theirs: Vec<_> = ours
+        .iter()
+        .map(|(n, v)| AdsAttribute::new(text(n), text(v)))
+        .collect();
+    let mut out = [0; 515];
+    for ((name, value), a) in ours.iter().zip(&theirs) {
+        let n = c::attribute_write(name, value, &mut out);
+        if out[..n] != a.to_vec()[..] {
+            wrong("an attribute that was written is not the Rust's");
+        }
+    }
+    let what = "write an attribute";
+    let runs = vec![
+        plain(|| {
+            ours.iter()
+                .map(|(n, v)| c::attribute_write(n, v, black_box(&mut out)) as u64)
+                .sum()
+        }),
+        plain(|| {
+            theirs
+                .iter()
+                .map(|a| black_box(black_box(a).to_vec()).len() as u64)
+                .sum()
+        }),
+    ];
+    let times = race(report.allowed, what, runs);
+    report.row(what, ours.len(), times[0], times[1]);
+}
+
+/// Former names are few in a rig, so each symbol's name stands for one.
+fn refactor_row(report: &mut Report, rig: &Rig) {
+    let ours: Vec<_> = rig.symbols.iter().map(|s| &s.name).collect();
+    let theirs: Vec<_> = ours
+        .iter()
+        .map(|n| AdsRefactorInfo::new(1, text(n)))
+        .collect();
+    let mut out = [0; 1024];
+    for (name, r) in ours.iter().zip(&theirs) {
+        let n = c::refactor_write(1, true, name, &mut out);
+        if out[..n] != r.to_vec_with_next(true)[..] {
+            wrong("a refactor record that was written is not the Rust's");
+        }
+    }
+    let what = "write a refactor record";
+    let theirs_one =
+        |r: &AdsRefactorInfo| black_box(black_box(r).to_vec_with_next(true)).len() as u64;
+    let runs = vec![
+        plain(|| {
+            ours.iter()
+                .map(|n| c::refactor_write(1, true, n, black_box(&mut out)) as u64)
+                .sum()
+        }),
+        plain(|| theirs.iter().map(theirs_one).sum()),
+    ];
+    let times = race(report.allowed, what, runs);
+    report.row(what, ours.len(), times[0], times[1]);
+}
+
+pub fn rows(report: &mut Report, rig: &Rig) {
+    report.heading("writing, and reading fields", "ns an entry or record");
+    let fields = fields(rig);
+    let mut out = [0; 4096];
+    let what = "write a symbol";
+    let write = |s: &Symbol, out: &mut [u8]| c::symbol_write(black_box(s), out) as u64;
+    let runs = vec![plain(|| {
+        rig.symbols.iter().map(|s| write(s, &mut out)).sum()
+    })];
+    let times = race(report.allowed, what, runs);
+    report.alone(what, rig.symbols.len(), times[0]);
+    field_write_rows(report, &fields);
+    attribute_row(report, rig);
+    refactor_row(report, rig);
+    let what = "read a field";
+    let runs = vec![plain(|| ours_read(&fields)), plain(|| theirs_read(&fields))];
+    let times = race(report.allowed, what, runs);
+    report.row(what, fields.len(), times[0], times[1]);
+}
