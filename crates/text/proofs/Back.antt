@@ -1,12 +1,13 @@
 -- The way back from a text, character by character. Assumes nothing.
 use mathlib.Core.Path.{_≡_, refl, sym, ap, _∙_}
 use mathlib.Core.List.{List, [], _∷_, _++_, append-assoc, append-nil}
-use Prim.Native.Nat.{ℕ, zero, suc, _+_, _-_, _≤_, _<_}
+use Prim.Native.Nat.{ℕ, zero, suc, _+_, _-_, _*_, _%_, _≤_, _<_}
 use native.Mathlib.Nat.{add-zero}
 use native.Mathlib.Numerals.{add-one}
 use native.Mathlib.Omega.{arith}
 use lib.ListN.{length, take, drop, getD, set, length-append, length-drop, drop-of-length-le}
 use lib.Seq.{drop-drop, take-suc-set}
+use borrow.Author.Tests.{le-leb}
 use Rattle.le.specs.Put.{Wrote}
 use Rattle.le.proofs.Laws.{put-one, wrote, wrote-none, after, same-bytes}
 use Rattle.refusal.specs.Writing.{Writing, Bytes, Refuse, Writes}
@@ -14,10 +15,10 @@ use Rattle.refusal.specs.declared.Refusal.{Refusal}
 use Rattle.refusal.specs.declared.Refusal.the-variants.{BadText, OutputTooSmall}
 use Rattle.refusal.specs.declared.Written.the-variants.{Done, Refused}
 use Rattle.text.proofs.Laws.{same-writing, writes-none, writes-small, writes-done}
-use Rattle.text.proofs.Utf8.{utf8-some, at-front, lead-1}
+use Rattle.text.proofs.Utf8.{utf8-some, at-front, lead-1, lead-2, following-byte}
 use Rattle.text.proofs.Exact.{point-starts}
-use Rattle.text.proofs.Byte.{byte-low, seek-sound}
-use Rattle.text.specs.Utf8.{utf8, scalarOf}
+use Rattle.text.proofs.Byte.{byte-low, byte-high, seek-sound}
+use Rattle.text.specs.Utf8.{utf8, following, scalarOf}
 use Rattle.text.specs.Text.{byteOf, byteIn, charIn, charOf, before, encodedFrom, counted}
 use Rattle.text.specs.declared.Scalar.{Scalar}
 use Rattle.text.specs.declared.Scalar.the-variants.{Point, Bad}
@@ -63,6 +64,11 @@ char-byte l b w h =
 pub char-low : (s : List ℕ) (at : ℕ) → at < length s → getD s at 0 < 128 → charOf (drop at s) ≡ Is (getD s at 0) 1
 unfolding charOf
 char-low s at h k = simp (at-front s at h, lead-1 (getD s at 0) (drop (at + 1) s) k, byte-low (getD s at 0) k)
+
+pub char-latin : (s : List ℕ) (at r : ℕ) → at + 1 < length s → 194 ≤ getD s at 0 → getD s at 0 < 224 → 128 ≤ getD s (at + 1) 0 → getD s (at + 1) 0 ≤ 191
+    → getD s at 0 % 32 * 64 + getD s (at + 1) 0 % 64 ≡ r → 160 ≤ r → r < 256 → charOf (drop at s) ≡ Is r 2
+unfolding charOf following
+char-latin s at r h i j k l e m n = simp (at-front s at (omega arith), lead-2 (getD s at 0) (drop (at + 1) s) i j, following-byte s (at + 1) 128 191 (getD s at 0 % 32) 1 1 (omega arith) h, le-leb 128 (getD s (at + 1) 0) k, le-leb (getD s (at + 1) 0) 191 l, e, byte-high r m n)
 
 -- ---- the text from a place on: its end, a fault, and a character with what comes after it
 encoded-skip : (k place : ℕ) (l : List ℕ) → encodedFrom k place l ≡ encodedFrom 0 (place + k) (drop k l)

@@ -5,7 +5,7 @@ use mathlib.Core.List.{List, [], _∷_}
 use mathlib.Core.Bool.{Bool, true, false}
 use Prim.Native.Nat.{ℕ, zero, suc, _+_, _-_, _*_, _≤_, _<_}
 use native.Mathlib.Nat.{zero-add, add-zero, suc-add, add-sub-cancel-left}
-use native.Mathlib.Numerals.{sub-one}
+use native.Mathlib.Numerals.{sub-one, add-one}
 use native.Mathlib.Omega.{arith}
 use lib.Dec.{T, ltb, leb, eqb, ltb→lt, leb→le, eqb→eq}
 use lib.ListN.{length, getD, length-append}
@@ -74,6 +74,15 @@ unfolding seek
 seek-sound zero b p c e = let z : _≡_ {A = ℕ} 0 1 = cc in absurd (omega arith)
 seek-sound (suc n) b p c e = seek-either (eqb (codePoint b) p) n b p c refl (seek-sound n (b + 1) p c) e
 
+from-either : (t : Bool) (n b p c : ℕ) → (seek n (b + 1) p ≡ Byte c → b + 1 ≤ c) → (if t then Byte b else seek n (b + 1) p) ≡ Byte c → b ≤ c
+from-either true n b p c rest v = let q : b ≡ c = cc in omega arith
+from-either false n b p c rest v = omega (arith, rest v)
+
+seek-from : (n b p c : ℕ) → seek n b p ≡ Byte c → b ≤ c
+unfolding seek
+seek-from zero b p c e = let z : _≡_ {A = ℕ} 0 1 = cc in absurd (omega arith)
+seek-from (suc n) b p c e = from-either (eqb (codePoint b) p) n b p c (seek-from n (b + 1) p c) e
+
 -- ---- the table's rule, at all of its entries: above 7F, outside A0 to FF, below the surrogates, and found at its own place
 outside : ℕ → Bool
 outside x = if ltb x 0xA0 then true else leb 0x100 x
@@ -130,22 +139,52 @@ looked {table} e b h k =
     let q : getD table (b - 128) 0 ≡ getD points (b - 128) 0 = ap (λ (l : List ℕ). getD l (b - 128) 0) e in
     record { is = q ∙ sym (point-mid h k); high = omega (arith, points-ruled (b - 128) (omega arith) .high) }
 
--- ---- the search in the table, from its entry i on
-module _ (p i : ℕ) where
-  pub table-here : i < 32 → getD points i 0 ≡ p → seek (32 - i) (128 + i) p ≡ Byte (128 + i)
-  table-here h e = seek-step (32 - i) (128 + i) p (omega arith) ∙ simp (eq-eqb (codePoint (128 + i)) p (table-point i h ∙ e))
+-- ---- the search in the table, as a sum over all of its entries: the byte of each that is p
+unfoldable pub sumTo : ℕ → ℕ → ℕ
+sumTo zero p = 0
+sumTo (suc i) p = sumTo i p + (if eqb (getD points i 0) p then 128 + i else 0)
 
-  pub table-next : i < 32 → (getD points i 0 ≡ p → ⊥) → seek (32 - i) (128 + i) p ≡ seek (32 - (i + 1)) (128 + (i + 1)) p
-  table-next h e =
-      let n : 32 - i - 1 ≡ 32 - (i + 1) = omega arith in
-      let b : 128 + i + 1 ≡ 128 + (i + 1) = omega arith in
-      seek-step (32 - i) (128 + i) p (omega arith) ∙ simp (ne-eqb (codePoint (128 + i)) p (λ q. e (sym (table-point i h) ∙ q)), n, b)
+pub sum-step : (i p : ℕ) → sumTo (i + 1) p ≡ sumTo i p + (if eqb (getD points i 0) p then 128 + i else 0)
+unfolding sumTo
+sum-step i p = simp add-one
 
-  pub table-end : 32 ≤ i → seek (32 - i) (128 + i) p ≡ Nothing
-  unfolding seek
-  table-end h =
-      let n : 32 - i ≡ 0 = omega arith in
-      simp n
+-- a sum of 0 is no byte
+abbrev pub sumIs : ℕ → Found
+sumIs zero = Nothing
+sumIs (suc n) = Byte (suc n)
+
+summed : ℕ → ℕ → Bool
+summed k x = eqb (sumTo 32 x) (128 + k)
+
+sum-here : (k : ℕ) → k < 32 → sumTo 32 (getD points k 0) ≡ 128 + k
+unfolding points summed sumTo
+sum-here k h = eqb→eq (sumTo 32 (getD points k 0)) (128 + k) (at summed points tt k h)
+
+sum-none : (p i : ℕ) → i ≤ 32 → None 32 128 p → sumTo i p ≡ 0
+unfolding sumTo
+sum-none p zero l h = refl
+sum-none p (suc i) l h = simp (sum-none p i (omega arith) h, ne-eqb (getD points i 0) p (λ e. h i (omega arith) (table-point i (omega arith) ∙ e)))
+
+pub sum-some : (b : ℕ) → 0 < b → sumIs b ≡ Byte b
+sum-some zero h = absurd (omega arith)
+sum-some (suc n) h = refl
+
+by-seek : (p : ℕ) (f : Found) → seek 32 128 p ≡ f → sumIs (sumTo 32 p) ≡ f
+by-seek p (Byte b) e =
+    let k : ℕ = b - 128 in
+    let s = seek-sound 32 128 p b e in
+    let l = seek-from 32 128 p b e in
+    let q : getD points k 0 ≡ p = sym (point-mid l (s .1)) ∙ s .0 in
+    let r : 128 + k ≡ b = omega arith in
+    ap sumIs (ap (sumTo 32) (sym q) ∙ sum-here k (omega (arith, s .1, l)) ∙ r) ∙ sum-some b (omega (arith, l))
+by-seek p Nothing e = ap sumIs (sum-none p 32 (omega arith) (λ k h q. absurd (let z : _≡_ {A = ℕ} 0 1 = cc (points-ruled k h .found, e, sym (table-point k h) ∙ q) in omega arith)))
+
+pub sum-is : (p : ℕ) → sumIs (sumTo 32 p) ≡ seek 32 128 p
+sum-is p = by-seek p (seek 32 128 p) refl
+
+-- no code point of the table is above FFFF
+pub table-above : (p : ℕ) → 65535 < p → seek 32 128 p ≡ Nothing
+table-above p h = seek-none 32 128 p (λ k l e. absurd (let q : getD points k 0 ≡ p = sym (table-point k l) ∙ e in omega (arith, points-ruled k l .below)))
 
 -- ---- the byte of a code point
 module _ (p : ℕ) where

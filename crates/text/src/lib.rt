@@ -283,25 +283,34 @@ fn scalar_at(s: &[u8], at: usize) -> Scalar
     Scalar::Bad
 }
 
-fn wide(x: u16) -> usize
-    ensures { λ r. ⌜ r ≡ x ⌝ }
+fn if_here(here: bool, byte: u16) -> u16
+    ensures { λ r. ⌜ (r ≡ (if here then byte else 0)) × (r ≤ byte) ⌝ }
 {
-    x as usize
+    if here { byte } else { 0 }
 }
 
-// The byte of a code point, looked for in the table.
+// The byte of a code point, looked for in the table. It looks at all 32, so that the compiler takes many at once: no code point
+// stands there twice, so the sum is the byte of the one that is equal.
 fn find(table: &[u16; 32], p: usize) -> Found
     requires { ⌜ now table ≡ points ⌝ }
     ensures { λ r. ⌜ r ≡ seek 32 0x80 p ⌝ }
 {
+    if 0xFFFF < p {
+        return Found::Nothing;
+    }
+    let q = p as u16;
+    let mut sum: u16 = 0;
+    let mut byte: u16 = 0x80;
     let mut i: usize = 0;
     while i < 32 {
-        if wide(table[i]) == p {
-            return Found::Byte(0x80 + i);
-        }
+        sum += if_here(table[i] == q, byte);
+        byte += 1;
         i += 1;
     }
-    Found::Nothing
+    if sum == 0 {
+        return Found::Nothing;
+    }
+    Found::Byte(sum as usize)
 }
 
 fn byte_of(table: &[u16; 32], p: usize) -> Found
@@ -334,19 +343,51 @@ fn char_at(s: &[u8], at: usize, table: &[u16; 32]) -> Char
     }
 }
 
+// The byte of a character of two bytes that is its own code point, A0 to FF; 0 where another stands.
+// Most that are not ASCII are such, and this is small enough to stand in the loops.
+fn latin_at(s: &[u8], at: usize) -> u8
+    requires { ⌜ at < length (now s) ⌝ }
+    ensures { λ r. ⌜ ((r ≡ 0 → ⊥) → charOf (drop at (now (s .entry))) ≡ Char.Is r 2) ⌝ }
+{
+    let next = at + 1;
+    if s.len() <= next {
+        return 0;
+    }
+    let b = s[at];
+    let c = s[next];
+    if 0xBF < c {
+        return 0;
+    }
+    if b == 0xC3 {
+        if 0x80 <= c {
+            return c + 0x40;
+        }
+        return 0;
+    }
+    if b == 0xC2 {
+        if 0xA0 <= c {
+            return c;
+        }
+    }
+    0
+}
+
 // How many bytes a text takes, or its first fault.
-fn encoded_length(src: &[u8]) -> Written
+fn encoded_length(src: &[u8], table: &[u16; 32]) -> Written
+    requires { ⌜ now table ≡ points ⌝ }
     ensures { λ r. ⌜ r ≡ counted 0 (encodedFrom 0 0 (now (src .entry))) ⌝ }
 {
-    let table = POINTS;
     let mut n: usize = 0;
     let mut at: usize = 0;
     while at < src.len() {
         if src[at] < 0x80 {
             n += 1;
             at += 1;
+        } else if latin_at(src, at) != 0 {
+            n += 1;
+            at += 2;
         } else {
-            match char_at(src, at, &table) {
+            match char_at(src, at, table) {
                 Char::Is { byte: _, width } => {
                     n += 1;
                     at += width;
@@ -361,8 +402,9 @@ fn encoded_length(src: &[u8]) -> Written
 }
 
 // The bytes of a text that was counted, and so has no fault.
-fn put_encoded(src: &[u8], out: &mut [u8], needed: usize) -> Written
+fn put_encoded(src: &[u8], out: &mut [u8], needed: usize, table: &[u16; 32]) -> Written
     requires { ⌜ counted 0 (encodedFrom 0 0 (now src)) ≡ Written.Done needed ⌝ }
+    requires { ⌜ now table ≡ points ⌝ }
     ensures { λ r. ⌜ Writes (encodedFrom 0 0 (now (src .entry))) (now (out .entry)) (now (out .exit)) r ⌝ }
 {
     if out.len() < needed {
@@ -371,7 +413,6 @@ fn put_encoded(src: &[u8], out: &mut [u8], needed: usize) -> Written
             lent: out.len(),
         });
     }
-    let table = POINTS;
     let mut n: usize = 0;
     let mut at: usize = 0;
     while at < src.len() {
@@ -381,14 +422,21 @@ fn put_encoded(src: &[u8], out: &mut [u8], needed: usize) -> Written
             n += 1;
             at += 1;
         } else {
-            match char_at(src, at, &table) {
-                Char::Is { byte, width } => {
-                    out[n] = byte as u8;
-                    n += 1;
-                    at += width;
-                }
-                Char::Wrong { kind: _ } => {
-                    return Written::Done(n);
+            let latin = latin_at(src, at);
+            if latin != 0 {
+                out[n] = latin;
+                n += 1;
+                at += 2;
+            } else {
+                match char_at(src, at, table) {
+                    Char::Is { byte, width } => {
+                        out[n] = byte as u8;
+                        n += 1;
+                        at += width;
+                    }
+                    Char::Wrong { kind: _ } => {
+                        return Written::Done(n);
+                    }
                 }
             }
         }
@@ -406,9 +454,10 @@ pub fn encode(src: &[u8], out: &mut [u8]) -> Written
     if highest(src) < 0x80 {
         return put_same(src, out);
     }
+    let table = POINTS;
     // 11 is looked for in the whole text, before 6.
-    match encoded_length(src) {
-        Written::Done(needed) => put_encoded(src, out, needed),
+    match encoded_length(src, &table) {
+        Written::Done(needed) => put_encoded(src, out, needed, &table),
         Written::Refused(why) => Written::Refused(why),
     }
 }

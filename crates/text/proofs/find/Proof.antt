@@ -1,40 +1,51 @@
 use mathlib.Core.List.{List}
-use mathlib.Core.Path.{_≡_, ap, sym, _∙_}
-use Prim.Native.Nat.{ℕ, _+_, _≤_, _-_}
+use mathlib.Core.Path.{_≡_, refl, sym, ap, _∙_}
+use Prim.Native.Nat.{ℕ, _+_, _*_, _-_, _≤_}
 use native.Mathlib.Omega.{arith}
+use lib.Dec.{eqb}
 use lib.ListN.{getD}
 use borrow.Author.Needs.{needs}
-use Rattle.text.proofs.Byte.{table-here, table-next, table-end}
+use borrow.Author.Tests.{eq-eqb}
+use Rattle.le.specs.Le.{if_then_else_}
+use Rattle.text.proofs.Byte.{sumTo, sumIs, sum-step, sum-is, sum-some, table-above}
 use Rattle.text.specs.Text.{points, seek}
+use Rattle.text.specs.declared.Found.the-variants.{Byte, Nothing}
 use Rattle.text.proofs.find.Statement.{statement}
 use Rattle.text.proofs.find.Tie as tie
+use Rattle.text.proofs.find.Reads as reads
+use Rattle.text.proofs.find.Lts as lts
+use Rattle.text.proofs.if_here.Reads as if-here-reads
 
 abbrev Inv-loop : tie.InvT-loop
-Inv-loop table p i₀ i = (i ≤ 32) × (seek (32 - i) (0x80 + i) p ≡ seek 32 0x80 p)
+Inv-loop table p q sum₀ byte₀ i₀ sum byte i = (i ≤ 32) × (byte ≡ 128 + i) × (sum ≡ sumTo i p) × (sum ≤ i * 160)
 
 abbrev μ-loop : tie.MeasureT-loop
-μ-loop table p i₀ i = 32 - i
-
-loop-holds : tie.Need-loop-holds Inv-loop μ-loop
-loop-holds c = search needs
-
-mul-wide : tie.Need-mul-wide Inv-loop μ-loop
-mul-wide c = search needs
-
-element-copy-out-wide : tie.Need-element-copy-out-wide Inv-loop μ-loop
-element-copy-out-wide c = search needs
-
-wide-requires : tie.Need-wide-requires Inv-loop μ-loop
-wide-requires c κs = search needs
-
-add-t10 : tie.Need-add-t10 Inv-loop μ-loop
-add-t10 c = search needs
+μ-loop table p q sum₀ byte₀ i₀ sum byte i = 32 - i
 
 returns : tie.Need-returns Inv-loop μ-loop
-returns c =
-    let q = c .before .before .before .before in
-    let e : getD points (q .loop .i) 0 ≡ q .before .args .p = ap (λ (l : List ℕ). getD l (q .loop .i) 0) (sym (q .before .pre)) ∙ sym (c .before .wide .ensures) ∙ c .if1 .taken in
-    sym (table-here (q .before .args .p) (q .loop .i) (omega arith) e) ∙ q .loop .inv .1
+returns c = sym (table-above (c .before .args .p) (c .if1 .taken))
+
+cast-q : tie.Need-cast-q Inv-loop μ-loop
+cast-q c = search needs
+
+loop-holds : tie.Need-loop-holds Inv-loop μ-loop
+unfolding sumTo
+loop-holds c = (omega arith, refl, refl, omega arith)
+
+mul-if-here : tie.Need-mul-if-here Inv-loop μ-loop
+mul-if-here c = search needs
+
+element-copy-out-if-here : tie.Need-element-copy-out-if-here Inv-loop μ-loop
+element-copy-out-if-here c = search needs
+
+if-here-requires : tie.Need-if-here-requires Inv-loop μ-loop
+if-here-requires c κs = search needs
+
+add-sum : tie.Need-add-sum Inv-loop μ-loop
+add-sum c = omega (arith, c .if-here .ensures .1, c .before .before .before .loop .inv)
+
+add-byte : tie.Need-add-byte Inv-loop μ-loop
+add-byte c = omega (arith, c .before .before .before .loop .inv .1)
 
 add-i : tie.Need-add-i Inv-loop μ-loop
 add-i c = search needs
@@ -43,13 +54,16 @@ loop-less : tie.Need-loop-less Inv-loop μ-loop
 loop-less c = search needs
 
 loop-again : tie.Need-loop-again Inv-loop μ-loop
-loop-again c =
-    let q = c .before .before .before .before in
-    let e : getD points (q .loop .i) 0 ≡ c .before .wide .result = ap (λ (l : List ℕ). getD l (q .loop .i) 0) (sym (q .before .pre)) ∙ sym (c .before .wide .ensures) in
-    (omega arith, sym (table-next (q .before .args .p) (q .loop .i) (omega arith) (λ d. c .if1 .left (sym e ∙ d))) ∙ q .loop .inv .1)
+loop-again c = let e : c .if-here .result ≡ (if eqb (getD points (c .before .before .before .loop .i) 0) (c .before .before .before .before .before .args .p) then 128 + c .before .before .before .loop .i else 0) = simp (← c .before .before .before .before .before .pre, ← c .before .before .before .loop .inv .1) (c .if-here .ensures .0) in (omega arith, omega (arith, c .before .before .before .loop .inv .1), simp (sum-step (c .before .before .before .loop .i) (c .before .before .before .before .before .args .p), ← c .before .before .before .loop .inv .2, e), omega (arith, c .if-here .ensures .1, c .before .before .before .loop .inv))
 
 returns-2 : tie.Need-returns-2 Inv-loop μ-loop
-returns-2 c = sym (table-end (c .before .before .args .p) (c .before .loop .i) (c .loop-test .left)) ∙ c .before .loop .inv .1
+returns-2 c = let i : c .before .before .loop .i ≡ 32 = omega (arith, c .before .before .loop .inv .0) in let s : c .before .before .loop .sum ≡ sumTo 32 (c .before .before .before .before .args .p) = c .before .before .loop .inv .2 ∙ ap (λ (n : ℕ). sumTo n (c .before .before .before .before .args .p)) i in sym (ap sumIs (sym s ∙ c .if2 .taken)) ∙ sum-is (c .before .before .before .before .args .p)
+
+cast-t14 : tie.Need-cast-t14 Inv-loop μ-loop
+cast-t14 c = search needs
+
+returns-3 : tie.Need-returns-3 Inv-loop μ-loop
+returns-3 c = let i : c .before .before .loop .i ≡ 32 = omega (arith, c .before .before .loop .inv .0) in let s : c .before .before .loop .sum ≡ sumTo 32 (c .before .before .before .before .args .p) = c .before .before .loop .inv .2 ∙ ap (λ (n : ℕ). sumTo n (c .before .before .before .before .args .p)) i in sym (sum-some (c .before .before .loop .sum) (omega (arith, c .if2 .left))) ∙ ap sumIs s ∙ sum-is (c .before .before .before .before .args .p)
 
 pub find-spec : {M : Type 1} → statement M
 find-spec =
@@ -57,13 +71,17 @@ find-spec =
     (tie.spec
     Inv-loop
     μ-loop
-    loop-holds
-    mul-wide
-    element-copy-out-wide
-    wide-requires
-    add-t10
     returns
+    cast-q
+    loop-holds
+    mul-if-here
+    element-copy-out-if-here
+    if-here-requires
+    add-sum
+    add-byte
     add-i
     loop-less
     loop-again
-    returns-2)
+    returns-2
+    cast-t14
+    returns-3)
