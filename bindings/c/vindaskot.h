@@ -2,7 +2,8 @@
  *
  * Link libvindaskot.a (`rt staticlib vindaskot`, or tools/bindings for all of it). Every function is proved to
  * meet a contract: the status, the answer and every lent buffer afterwards are a function of the inputs
- * (crates/vindaskot/src). None allocates, keeps a pointer, or prints.
+ * (crates/vindaskot/src). None allocates, keeps a pointer or anything else between calls, or prints: any thread may
+ * call.
  *
  * How a call answers
  *   The result is a status:
@@ -10,20 +11,21 @@
  *     1 to 14                       a refusal: the table below
  *     VINDASKOT_FINISHED (100)      a walk is at the end
  *     VINDASKOT_OUT_OF_STEPS (101)  a bounded walk has used its steps and is not at the end
- *   answer[0], answer[1] are set by every call. After a refusal they are its figures, expected and got. After
- *   VINDASKOT_DONE they hold what the call says below under "answer", and 0 where it says nothing.
+ *   answer[0], answer[1] are set by every call. After a refusal they are its figures, expected and got. After any
+ *   other status they hold what the call says below under "answer", and 0 where it says nothing.
  *   A refusal changes no lent buffer: out, slots and guid are as they were. (The cursor of a step and of a walk
  *   is part of the answer: it moves past what was refused.)
  *
  * Slices
  *   Bytes come as a pointer and a length; NULL is allowed where the length is 0. `answer`, `slots[N]`, `guid[16]`,
- *   `cursor` and `steps` point to as many numbers as their type says and are never NULL. What a call writes does
- *   not overlap what it reads.
+ *   `cursor` and `steps` point to as many numbers as their type says and are never NULL. The caller sees to it that
+ *   nothing that a call writes (out, slots, guid, answer, cursor, steps) overlaps what it reads or what else it writes.
  *
  * Places
  *   A name, a value and the like are told as a place and a length: bytes + place, length bytes. After a read they
  *   count from the bytes given. After a step they count from the start of the entry: the cursor before the step.
- *   Strings are Windows-1252 (vindaskot_decode makes UTF-8) and have no end byte of their own.
+ *   Strings are Windows-1252 (vindaskot_decode makes UTF-8), and their length has no end byte in it. The place of the
+ *   first of no records (a count of 0) is nothing to look at: in a field it may lie past the entry.
  *
  * Refusals: number, meaning, answer[0] (expected) and answer[1] (got)
  *    1  unexpected length                               needed, present
@@ -119,7 +121,7 @@ enum {
 
 /* What a refactor record's slots hold. */
 enum {
-    VINDASKOT_REFACTOR_COUNT,    /* packed with mask 0x01111111 */
+    VINDASKOT_REFACTOR_COUNT,    /* the packed number's bits in 0x01111111: 0x01000000 is set where another follows */
     VINDASKOT_REFACTOR_HAS_NEXT, /* 1 where another record follows */
     VINDASKOT_REFACTOR_NAME,     /* place */
     VINDASKOT_REFACTOR_NAME_LEN,
@@ -180,7 +182,7 @@ uint32_t vindaskot_field_attribute(const uint8_t *bytes, size_t bytes_len, size_
 
 /* Makes at most `allowed` steps from *cursor on, reading no more of an entry than its length. *steps is how many were
  * made, *cursor where they led. Status: VINDASKOT_FINISHED at the end, else VINDASKOT_OUT_OF_STEPS; 10 at a zero
- * entry length, that step counted. */
+ * entry length, that step counted. An upload above the limit is one step, to the end. */
 uint32_t vindaskot_walk(const uint8_t *bytes, size_t bytes_len, size_t allowed, size_t *cursor,
                         size_t *steps, uint64_t answer[VINDASKOT_AT_LEAST 2]);
 
@@ -227,7 +229,8 @@ uint32_t vindaskot_attribute_write(const uint8_t *name, size_t name_len, const u
                                    size_t value_len, uint8_t *out, size_t out_len,
                                    uint64_t answer[VINDASKOT_AT_LEAST 2]);
 
-/* Refusals: 7, 6. */
+/* Of count the bits in 0x01111111 are written, and 0x01000000 is set where has_next says so: a count that has that bit
+ * itself says that another follows. Refusals: 7, 6. */
 uint32_t vindaskot_refactor_write(uint32_t count, bool has_next, const uint8_t *name, size_t name_len,
                                   uint8_t *out, size_t out_len, uint64_t answer[VINDASKOT_AT_LEAST 2]);
 
@@ -260,11 +263,13 @@ uint32_t vindaskot_field_write(uint32_t version, uint32_t hash_value, uint32_t t
 
 /* ---- Index and finding ---- */
 
-/* The start of every accepted symbol of an upload, in order, in slots[0 .. answer[0]]. Refusals: 5, 10, 6. */
+/* The start of every accepted symbol of an upload, in order, from slots[0] on. answer[0]: how many. A slot for every 33
+ * bytes is always enough. Refusals: 5, 10, 6. */
 uint32_t vindaskot_index_build(const uint8_t *bytes, size_t bytes_len, uint32_t *slots,
                                size_t slots_len, uint64_t answer[VINDASKOT_AT_LEAST 2]);
 
-/* answer[0]: where the first accepted symbol of that name starts. Refusals: 5, 10, 13. */
+/* answer[0]: where the first accepted symbol of that name starts. The name is Windows-1252, compared byte for byte.
+ * Refusals: 5, 10, 13. */
 uint32_t vindaskot_find(const uint8_t *bytes, size_t bytes_len, const uint8_t *name, size_t name_len,
                         uint64_t answer[VINDASKOT_AT_LEAST 2]);
 
@@ -275,7 +280,8 @@ uint32_t vindaskot_find_indexed(const uint8_t *bytes, size_t bytes_len, const ui
 
 /* ---- Text ---- */
 
-/* Windows-1252 to UTF-8, and back. answer[0]: bytes written. Refusals: 5, 11 (encode only), 6. */
+/* Windows-1252 to UTF-8, and back. answer[0]: bytes written. To UTF-8 three times src_len is always enough, and back
+ * src_len. Refusals: 5, 11 (encode only), 6. */
 uint32_t vindaskot_decode(const uint8_t *src, size_t src_len, uint8_t *out, size_t out_len,
                           uint64_t answer[VINDASKOT_AT_LEAST 2]);
 uint32_t vindaskot_encode(const uint8_t *src, size_t src_len, uint8_t *out, size_t out_len,

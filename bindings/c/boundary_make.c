@@ -1,0 +1,508 @@
+/* Random numbers, entries made of them, and damage. */
+#include <stdio.h>
+#include <stdlib.h>
+
+#include "boundary.h"
+
+/* ---- Numbers ---- */
+
+static uint64_t state;
+
+void seed(uint64_t from)
+{
+    state = from;
+}
+
+/* splitmix64: any seed gives a good sequence, so a case is made from its own number alone. */
+uint64_t any(void)
+{
+    uint64_t z = state += 0x9E3779B97F4A7C15u;
+    z = (z ^ z >> 30) * 0xBF58476D1CE4E5B9u;
+    z = (z ^ z >> 27) * 0x94D049BB133111EBu;
+    return z ^ z >> 31;
+}
+
+size_t below(size_t n)
+{
+    return n == 0 ? 0 : (size_t)(any() % n);
+}
+
+bool one_in(size_t n)
+{
+    return below(n) == 0;
+}
+
+/* ---- Buffers ---- */
+
+struct bytes whole(const struct buffer *b)
+{
+    return (struct bytes){b->at, b->len};
+}
+
+static uint8_t *take(struct buffer *to, size_t len)
+{
+    if (len > BUFFER - to->len) {
+        fputs("boundary: a buffer is full\n", stderr);
+        exit(2);
+    }
+    to->len += len;
+    return to->at + to->len - len;
+}
+
+void put(struct buffer *to, struct bytes from)
+{
+    uint8_t *at = take(to, from.len);
+    if (from.len > 0)
+        memcpy(at, from.at, from.len);
+}
+
+void put_number(struct buffer *to, uint64_t number, size_t width)
+{
+    uint8_t *at = take(to, width);
+    for (size_t i = 0; i < width; i++)
+        at[i] = (uint8_t)(number >> 8 * i);
+}
+
+static void put_any(struct buffer *to, size_t len)
+{
+    uint8_t *at = take(to, len);
+    for (size_t i = 0; i < len; i++)
+        at[i] = (uint8_t)any();
+}
+
+static void put_zeros(struct buffer *to, size_t len)
+{
+    memset(take(to, len), 0, len);
+}
+
+static void put_string(struct buffer *to, struct bytes s)
+{
+    put(to, s);
+    put_number(to, 0, 1);
+}
+
+void put_attribute(struct buffer *to, struct bytes name, struct bytes value)
+{
+    put_number(to, name.len, 1);
+    put_number(to, value.len, 1);
+    put_string(to, name);
+    put_string(to, value);
+}
+
+void put_refactor(struct buffer *to, uint32_t packed, struct bytes name)
+{
+    put_number(to, packed, 4);
+    put_number(to, name.len, 2);
+    put_string(to, name);
+}
+
+/* ---- Entries as their writers lay them out ---- */
+
+static void put_lengths(struct buffer *to, const struct parts *p)
+{
+    put_number(to, p->name.len, 2);
+    put_number(to, p->type_name.len, 2);
+    put_number(to, p->comment.len, 2);
+}
+
+static void put_strings(struct buffer *to, const struct parts *p)
+{
+    put_string(to, p->name);
+    put_string(to, p->type_name);
+    put_string(to, p->comment);
+}
+
+static void put_block(struct buffer *to, const struct parts *p)
+{
+    if ((p->flags & 0x1000) != 0) {
+        put_number(to, p->count, 2);
+        put(to, p->block);
+    }
+}
+
+/* The entry's length, once it is known. */
+static void set_claim(struct buffer *to, size_t start, size_t claim)
+{
+    for (size_t i = 0; i < 4; i++)
+        to->at[start + i] = (uint8_t)(claim >> 8 * i);
+}
+
+void put_symbol(struct buffer *to, const struct parts *p)
+{
+    size_t start = to->len;
+    put_number(to, 0, 4);
+    for (size_t i = 0; i < 4; i++)
+        put_number(to, p->numbers[i], 4);
+    put_number(to, p->flags, 2);
+    put_number(to, 0, 2);
+    put_lengths(to, p);
+    put_strings(to, p);
+    put(to, p->guid);
+    put_block(to, p);
+    if ((p->flags & 0x8000) != 0)
+        put_number(to, p->extended, 4);
+    put(to, p->chain);
+    set_claim(to, start, to->len - start);
+}
+
+static void put_field_head(struct buffer *to, const struct parts *p, size_t arrays, size_t items)
+{
+    put_number(to, 0, 4);
+    for (size_t i = 0; i < 6; i++)
+        put_number(to, p->numbers[i], 4);
+    put_number(to, p->flags, 4);
+    put_lengths(to, p);
+    put_number(to, arrays, 2);
+    put_number(to, items, 2);
+    put_strings(to, p);
+}
+
+static void put_field_guid(struct buffer *to, const struct parts *p)
+{
+    if ((p->flags & 0x80) == 0)
+        return;
+    if (p->guid.len == 16)
+        put(to, p->guid);
+    else
+        put_zeros(to, 16);
+}
+
+void put_field(struct buffer *to, const struct parts *p)
+{
+    size_t start = to->len;
+    put_field_head(to, p, 0, 0);
+    put_field_guid(to, p);
+    if ((p->flags & 0x200) != 0)
+        put_zeros(to, p->numbers[3]);
+    put_block(to, p);
+    set_claim(to, start, to->len - start);
+}
+
+/* ---- Drafts ---- */
+
+/* Letters, any bytes, or few different ones, so that names are met again. */
+static void make_string(struct buffer *to, size_t most)
+{
+    size_t len = below(most + 1), way = below(3);
+    for (size_t i = 0; i < len; i++)
+        put_number(to, way == 0 ? 'A' + below(26) : way == 1 ? any() : 'a' + below(2), 1);
+}
+
+static struct bytes string_in(struct buffer *pool, size_t most)
+{
+    size_t start = pool->len;
+    make_string(pool, most);
+    return (struct bytes){pool->at + start, pool->len - start};
+}
+
+static struct bytes since(const struct buffer *pool, size_t start)
+{
+    return (struct bytes){pool->at + start, pool->len - start};
+}
+
+static size_t some_length(void)
+{
+    return one_in(40) ? 300 : one_in(3) ? 40 : 5;
+}
+
+static void draft_strings(struct draft *d)
+{
+    struct parts *p = &d->parts;
+    d->pool.len = 0;
+    memset(p, 0, sizeof *p);
+    for (size_t i = 0; i < 6; i++)
+        p->numbers[i] = (uint32_t)any();
+    p->name = string_in(&d->pool, some_length());
+    p->type_name = string_in(&d->pool, some_length());
+    p->comment = string_in(&d->pool, some_length());
+}
+
+static void draft_guid(struct draft *d)
+{
+    size_t start = d->pool.len;
+    put_any(&d->pool, 16);
+    d->parts.guid = since(&d->pool, start);
+}
+
+static void draft_attributes(struct draft *d)
+{
+    struct parts *p = &d->parts;
+    p->count = below(SOME + 1);
+    for (size_t i = 0; i < p->count; i++) {
+        d->names[i] = string_in(&d->pool, one_in(20) ? 255 : 8);
+        d->values[i] = string_in(&d->pool, one_in(20) ? 255 : 8);
+    }
+    size_t start = d->pool.len;
+    for (size_t i = 0; i < p->count; i++)
+        put_attribute(&d->pool, d->names[i], d->values[i]);
+    p->block = since(&d->pool, start);
+}
+
+static void draft_chain(struct draft *d)
+{
+    struct parts *p = &d->parts;
+    p->links = 1 + below(SOME);
+    for (size_t i = 0; i < p->links; i++) {
+        d->formers[i] = string_in(&d->pool, some_length());
+        d->counts[i] = (uint32_t)any() & COUNT_MASK & ~NEXT_BIT;
+        d->counts[i] |= i + 1 < p->links ? NEXT_BIT : 0;
+    }
+    size_t start = d->pool.len;
+    for (size_t i = 0; i < p->links; i++)
+        put_refactor(&d->pool, d->counts[i], d->formers[i]);
+    p->chain = since(&d->pool, start);
+}
+
+/* A symbol that the writer accepts. */
+void draft_symbol(struct draft *d)
+{
+    struct parts *p = &d->parts;
+    draft_strings(d);
+    p->flags = (uint32_t)any() & 0xFFFF;
+    if ((p->flags & 0x0008) != 0)
+        draft_guid(d);
+    if ((p->flags & 0x1000) != 0)
+        draft_attributes(d);
+    if ((p->flags & 0x8000) != 0)
+        p->extended = one_in(2) ? (uint32_t)any() : 4;
+    if ((p->extended & 0x0004) != 0)
+        draft_chain(d);
+}
+
+/* A field that the writer accepts: without the method flag it is fit. */
+void draft_field(struct draft *d)
+{
+    struct parts *p = &d->parts;
+    draft_strings(d);
+    p->flags = (uint32_t)any();
+    p->numbers[3] = (uint32_t)below(one_in(10) ? 3000 : 40);
+    if ((p->flags & 0x80) != 0 ? !one_in(8) : one_in(8))
+        draft_guid(d);
+    if ((p->flags & 0x1000) != 0)
+        draft_attributes(d);
+}
+
+/* A byte that is 0, as end bytes are, is so no more. */
+static void spoil_end(struct draft *d, struct bytes block)
+{
+    uint8_t *at = d->pool.at + (block.len > 0 ? block.at - d->pool.at : 0);
+    size_t i = below(block.len);
+    while (i < block.len && at[i] != 0)
+        i++;
+    if (i < block.len)
+        at[i] = (uint8_t)(1 + below(255));
+}
+
+/* One argument changed, which may or may not be refused. */
+void spoil(struct draft *d)
+{
+    static const uint8_t long_one[65538];
+    struct parts *p = &d->parts;
+    struct bytes *strings[] = {&p->name, &p->type_name, &p->comment};
+    struct bytes *block = one_in(2) ? &p->block : &p->chain;
+    uint8_t *byte = block->len > 0 ? &d->pool.at[(size_t)(block->at - d->pool.at) + below(block->len)] : NULL;
+    switch (below(11)) {
+    case 0: p->flags ^= 1u << below(16); break;
+    case 1: p->extended ^= 1u << below(32); break;
+    case 2: p->count += 1 + below(3); break;
+    case 3: p->count = one_in(3) ? SIZE_MAX - below(2) : below(SOME); break;
+    case 4: p->links = one_in(3) ? SIZE_MAX - below(2) : below(SOME); break;
+    case 5: p->guid.len = p->guid.len > 0 ? below(17) : 0; break;
+    case 6: block->len = below(block->len + 1); break;
+    case 7: p->numbers[3] = (uint32_t)any(); break;
+    case 8: *strings[below(3)] = (struct bytes){long_one, 65535 + below(4)}; break;
+    case 9:
+        if (byte != NULL)
+            *byte ^= (uint8_t)(1u << below(8));
+        break;
+    default: spoil_end(d, *block);
+    }
+}
+
+/* ---- Bytes to be read ---- */
+
+static struct draft made;
+
+/* The right claim and short strings, so that random bytes are read as sections. */
+static void believe(struct buffer *b, size_t header)
+{
+    if (b->len < header)
+        return;
+    set_claim(b, 0, b->len);
+    for (size_t at = header == 30 ? 24 : 32; at < header; at += 2) {
+        b->at[at] = (uint8_t)below(4);
+        b->at[at + 1] = 0;
+    }
+}
+
+static size_t random_length(void)
+{
+    return below(one_in(50) ? 3000 : one_in(3) ? 300 : 64);
+}
+
+/* Any bytes, or mostly small ones, which are believable lengths. */
+void make_random(struct buffer *to)
+{
+    size_t len = random_length(), small = below(3);
+    for (size_t i = 0; i < len; i++)
+        put_number(to, small > 0 && !one_in(4) ? below(small == 1 ? 2 : 40) : any(), 1);
+    if (one_in(2))
+        believe(to, one_in(2) ? 30 : 42);
+}
+
+void make_symbol(struct buffer *to)
+{
+    size_t start = to->len;
+    draft_symbol(&made);
+    put_symbol(to, &made.parts);
+    if (one_in(4)) {
+        put_any(to, below(20));
+        set_claim(to, start, to->len - start);
+    }
+}
+
+/* Items that begin with their length, which may lie. */
+static void put_items(struct buffer *to, size_t count)
+{
+    static const uint32_t lies[] = {0, 1, 2, 3, 6, 200, 0x7FFFFFFF, 0xFFFFFFFF};
+    for (size_t i = 0; i < count; i++) {
+        size_t len = 4 + below(9);
+        put_number(to, one_in(6) ? lies[below(8)] : len, 4);
+        put_any(to, len - 4);
+    }
+}
+
+/* A field as a controller sends it, with what the writer never writes. */
+void make_field(struct buffer *to)
+{
+    struct parts *p = &made.parts;
+    size_t start = to->len, arrays = one_in(3) ? below(4) : 0, items = one_in(3) ? below(4) : 0;
+    draft_field(&made);
+    if (one_in(8))
+        p->numbers[3] = (uint32_t)any();
+    put_field_head(to, p, arrays, items);
+    put_any(to, 8 * arrays);
+    put_items(to, items);
+    put_field_guid(to, p);
+    if ((p->flags & 0x200) != 0)
+        put_any(to, p->numbers[3] < 4000 ? p->numbers[3] : below(40));
+    if ((p->flags & 0x800) != 0) {
+        size_t methods = below(4);
+        put_number(to, methods, 2);
+        put_items(to, methods);
+    }
+    put_block(to, p);
+    if (one_in(4))
+        put_any(to, below(20));
+    set_claim(to, start, to->len - start);
+}
+
+/* A chain, or attributes, and what stands behind them. */
+void make_records(struct buffer *to)
+{
+    draft_symbol(&made);
+    draft_attributes(&made);
+    draft_chain(&made);
+    put(to, one_in(2) ? made.parts.block : made.parts.chain);
+    if (one_in(3))
+        put_any(to, below(20));
+}
+
+/* Entries of both kinds, sound, damaged and refused. */
+void make_upload(struct buffer *to)
+{
+    static struct buffer entry;
+    for (size_t left = 1 + below(6); left > 0; left--) {
+        entry.len = 0;
+        if (one_in(4))
+            make_field(&entry);
+        else
+            make_symbol(&entry);
+        if (one_in(4))
+            damage(&entry, 30);
+        put(to, whole(&entry));
+    }
+}
+
+/* UTF-8 that has Windows-1252 bytes, mostly, and pieces of what has none or is none. */
+void make_text(struct buffer *to)
+{
+    static const char *const pieces[] = {
+        "a",
+        "\xC2\x81",
+        "\xC3\xA4",
+        "\xE2\x82\xAC",
+        "\xC5\xBD",
+        "\xC2\x80",
+        "\xE2\x82\xAD",
+        "\x80",
+        "\xC3",
+        "\xE2\x82",
+        "\xC0\x80",
+        "\xE0\x80\x80",
+        "\xED\xA0\x80",
+        "\xF0\x80\x80\x80",
+        "\xF4",
+        "\xF0\x9F\x98\x80",
+        "\xF4\x8F\xBF\xBF",
+        "\xF4\x90\x80\x80",
+        "\xEF\xBB\xBF",
+        "\xFE\xFF",
+        "\xC4\x80",
+    };
+    const size_t good = 5, all = sizeof pieces / sizeof *pieces;
+    bool sound = one_in(2);
+    for (size_t left = below(30); left > 0; left--) {
+        const char *piece = pieces[below(sound || !one_in(8) ? good : all)];
+        put(to, (struct bytes){(const uint8_t *)piece, strlen(piece)});
+    }
+}
+
+/* ---- Damage ---- */
+
+static void flip(struct buffer *b)
+{
+    for (size_t left = 1 + below(4); left > 0 && b->len > 0; left--)
+        b->at[below(b->len)] ^= (uint8_t)(1u << below(8));
+}
+
+static void overwrite(struct buffer *b)
+{
+    static const uint8_t telling[] = {0, 1, 2, 3, 4, 7, 0x10, 0x7F, 0x80, 0xFF};
+    for (size_t left = 1 + below(3); left > 0 && b->len > 0; left--)
+        b->at[below(b->len)] = telling[below(sizeof telling)];
+}
+
+static void reclaim(struct buffer *b, size_t header)
+{
+    const size_t claims[] = {0,          1,          3,          4,          header - 1,
+                             header,     header + 2, header + 3, b->len,     b->len + 1,
+                             b->len - 1, b->len / 2, 0x7FFFFFFF, 0xFFFFFFFF, (size_t)(any() & 0xFFFFFFFF)};
+    if (b->len >= 4)
+        set_claim(b, 0, claims[below(sizeof claims / sizeof *claims)]);
+}
+
+/* The lengths of the strings and, in a field, the counts of arrays and sub-items: just right, or far off. */
+static void relength(struct buffer *b, size_t header)
+{
+    size_t first = header == 30 ? 24 : 32, at = first + 2 * below((header - first) / 2);
+    if (b->len < header)
+        return;
+    size_t now = (size_t)number_at(whole(b), at, 2);
+    size_t then = one_in(3) ? below(65536) : one_in(2) ? now + 1 : b->len - header - below(6);
+    b->at[at] = (uint8_t)then;
+    b->at[at + 1] = (uint8_t)(then >> 8);
+}
+
+void damage(struct buffer *b, size_t header)
+{
+    for (size_t left = 1 + below(2); left > 0; left--)
+        switch (below(6)) {
+        case 0: b->len = below(b->len + 1); break;
+        case 1: put_any(b, below(40)); break;
+        case 2: flip(b); break;
+        case 3: overwrite(b); break;
+        case 4: reclaim(b, header); break;
+        default: relength(b, header);
+        }
+}

@@ -1,0 +1,585 @@
+/* What document 01 says the answer is, worked out from the bytes in plain C. It shares no code with the library. Where
+ * 01 leaves a choice it follows docs/DECISIONS.md. */
+#include "boundary.h"
+
+uint64_t number_at(struct bytes b, size_t at, size_t width)
+{
+    uint64_t n = 0;
+    for (size_t i = width; i > 0; i--)
+        n = n << 8 | b.at[at + i - 1];
+    return n;
+}
+
+bool equal(struct bytes a, struct bytes b)
+{
+    return a.len == b.len && (a.len == 0 || memcmp(a.at, b.at, a.len) == 0);
+}
+
+struct bytes part(struct bytes b, size_t at, size_t len)
+{
+    return (struct bytes){b.at + at, len};
+}
+
+struct told done(uint64_t first, uint64_t second)
+{
+    return (struct told){.status = VINDASKOT_DONE, .answer = {first, second}};
+}
+
+struct told refused(uint32_t number, uint64_t expected, uint64_t got)
+{
+    return (struct told){.status = number, .answer = {expected, got}};
+}
+
+static size_t left_at(struct bytes b, size_t at)
+{
+    return at < b.len ? b.len - at : 0;
+}
+
+static bool too_large(struct bytes b)
+{
+    return b.len > VINDASKOT_LIMIT;
+}
+
+static struct told refused_size(size_t len)
+{
+    return refused(5, VINDASKOT_LIMIT, len);
+}
+
+/* ---- Records ---- */
+
+static struct told attribute_at(struct bytes b, size_t at)
+{
+    size_t left = left_at(b, at);
+    if (left < 4)
+        return refused(2, 4, left);
+    size_t name = b.at[at], value = b.at[at + 1];
+    if (left < name + value + 4)
+        return refused(1, name + value + 4, left);
+    return (struct told){.slots = {at + 2, name, at + name + 3, value, at + name + value + 4}};
+}
+
+static struct told refactor_at(struct bytes b, size_t at)
+{
+    size_t left = left_at(b, at);
+    if (left < 7)
+        return refused(2, 7, left);
+    size_t name = (size_t)number_at(b, at + 4, 2);
+    if (left < name + 7)
+        return refused(2, name + 7, left);
+    uint64_t packed = number_at(b, at, 4);
+    return (struct told){.slots = {packed & COUNT_MASK, (packed & NEXT_BIT) != 0, at + 6, name, at + name + 7}};
+}
+
+static struct told chain_at(struct bytes b, size_t at)
+{
+    for (uint64_t count = 1;; count++) {
+        struct told record = refactor_at(b, at);
+        if (record.status != VINDASKOT_DONE)
+            return record;
+        at = (size_t)record.slots[VINDASKOT_REFACTOR_NEXT];
+        if (!record.slots[VINDASKOT_REFACTOR_HAS_NEXT])
+            return done(count, at);
+    }
+}
+
+/* The record of a number: those before it say where it is. */
+static struct told nth(struct bytes b, size_t at, size_t number, size_t next,
+                       struct told (*record)(struct bytes, size_t))
+{
+    for (; number > 0; number--)
+        at = (size_t)record(b, at).slots[next];
+    return record(b, at);
+}
+
+struct told model_attribute_read(struct bytes b)
+{
+    return too_large(b) ? refused_size(b.len) : attribute_at(b, 0);
+}
+
+struct told model_refactor_read(struct bytes b)
+{
+    return too_large(b) ? refused_size(b.len) : refactor_at(b, 0);
+}
+
+struct told model_chain_read(struct bytes b)
+{
+    return too_large(b) ? refused_size(b.len) : chain_at(b, 0);
+}
+
+struct told model_chain_record(struct bytes b, size_t number)
+{
+    struct told chain = model_chain_read(b);
+    if (chain.status != VINDASKOT_DONE)
+        return chain;
+    if (number >= chain.answer[0])
+        return refused(14, chain.answer[0], number);
+    return nth(b, 0, number, VINDASKOT_REFACTOR_NEXT, refactor_at);
+}
+
+struct told model_flags_read(struct bytes b, size_t width)
+{
+    if (too_large(b))
+        return refused_size(b.len);
+    return b.len == width ? done(number_at(b, 0, width), 0) : refused(1, width, b.len);
+}
+
+/* ---- Entries ---- */
+
+struct list {
+    size_t first, count, next;
+    struct told stopped;
+};
+
+static struct list attributes_at(struct bytes e, size_t at, bool flagged)
+{
+    struct list list = {at, 0, at, done(0, 0)};
+    if (!flagged || left_at(e, at) < 2)
+        return list;
+    size_t count = (size_t)number_at(e, at, 2);
+    list.first = list.next = at + 2;
+    while (count-- > 0) {
+        list.stopped = attribute_at(e, list.next);
+        if (list.stopped.status != VINDASKOT_DONE)
+            break;
+        list.next = (size_t)list.stopped.slots[VINDASKOT_ATTRIBUTE_NEXT];
+        list.count++;
+        if (list.next >= e.len)
+            break;
+    }
+    return list;
+}
+
+/* Places and lengths of the three strings, and the place after them. */
+static size_t strings_of(struct bytes e, size_t header, size_t lengths, uint64_t *slots)
+{
+    size_t at = header;
+    for (size_t i = 0; i < 3; i++) {
+        slots[2 * i] = at;
+        slots[2 * i + 1] = number_at(e, lengths + 2 * i, 2);
+        at += (size_t)slots[2 * i + 1] + 1;
+    }
+    return at;
+}
+
+static size_t guid_of(struct bytes e, size_t at, bool flagged, struct told *told, size_t slot)
+{
+    if (!flagged || left_at(e, at) < 16)
+        return at;
+    told->slots[slot] = 1;
+    memcpy(told->guid, e.at + at, 16);
+    return at + 16;
+}
+
+static size_t symbol_sections(struct bytes e, size_t at, struct told *told)
+{
+    uint64_t *s = told->slots;
+    uint64_t flags = s[VINDASKOT_SYMBOL_FLAGS];
+    at = guid_of(e, at, (flags & 0x0008) != 0, told, VINDASKOT_SYMBOL_HAS_GUID);
+    struct list list = attributes_at(e, at, (flags & 0x1000) != 0);
+    s[VINDASKOT_SYMBOL_ATTRIBUTES] = list.first;
+    s[VINDASKOT_SYMBOL_ATTRIBUTE_COUNT] = list.count;
+    at = list.next;
+    if ((flags & 0x8000) != 0 && left_at(e, at) >= 4) {
+        s[VINDASKOT_SYMBOL_HAS_EXTENDED] = 1;
+        s[VINDASKOT_SYMBOL_EXTENDED_FLAGS] = number_at(e, at, 4);
+        at += 4;
+    }
+    s[VINDASKOT_SYMBOL_REFACTORS] = at;
+    if ((s[VINDASKOT_SYMBOL_EXTENDED_FLAGS] & 0x0004) != 0 && left_at(e, at) > 0) {
+        struct told chain = chain_at(e, at);
+        if (chain.status == VINDASKOT_DONE) {
+            s[VINDASKOT_SYMBOL_REFACTOR_COUNT] = chain.answer[0];
+            at = (size_t)chain.answer[1];
+        }
+    }
+    return at;
+}
+
+/* An entry's own bytes. */
+static struct told symbol_entry(struct bytes e)
+{
+    struct told told = done(0, 0);
+    uint64_t *s = told.slots;
+    if (e.len < 30)
+        return refused(2, 30, e.len);
+    size_t at = strings_of(e, 30, 24, s + VINDASKOT_SYMBOL_NAME);
+    if (e.len < at)
+        return refused(3, at, e.len);
+    s[VINDASKOT_SYMBOL_LENGTH] = e.len;
+    for (size_t i = 0; i < 4; i++)
+        s[VINDASKOT_SYMBOL_INDEX_GROUP + i] = number_at(e, 4 + 4 * i, 4);
+    s[VINDASKOT_SYMBOL_FLAGS] = number_at(e, 20, 2);
+    s[VINDASKOT_SYMBOL_UNREAD] = left_at(e, symbol_sections(e, at, &told));
+    return told;
+}
+
+/* Sub-items or methods: each begins with its length. */
+static size_t skip(struct bytes e, size_t at, uint64_t count)
+{
+    for (; count > 0 && left_at(e, at) >= 4; count--)
+        at += (size_t)number_at(e, at, 4);
+    return at;
+}
+
+static struct list field_sections(struct bytes e, size_t at, struct told *told)
+{
+    uint64_t flags = told->slots[VINDASKOT_FIELD_FLAGS], size = told->slots[VINDASKOT_FIELD_SIZE];
+    at += 8 * (size_t)number_at(e, 38, 2);
+    at = skip(e, at, number_at(e, 40, 2));
+    at = guid_of(e, at, (flags & 0x80) != 0, told, VINDASKOT_FIELD_HAS_GUID);
+    if ((flags & 0x200) != 0)
+        at = size < left_at(e, at) ? at + (size_t)size : e.len;
+    if ((flags & 0x800) != 0 && left_at(e, at) >= 2)
+        at = skip(e, at + 2, number_at(e, at, 2));
+    return attributes_at(e, at, (flags & 0x1000) != 0);
+}
+
+static struct told field_entry(struct bytes e)
+{
+    struct told told = done(0, 0);
+    uint64_t *s = told.slots;
+    if (e.len < 42)
+        return refused(2, 42, e.len);
+    size_t at = strings_of(e, 42, 32, s + VINDASKOT_FIELD_NAME);
+    if (e.len < at)
+        return refused(3, at, e.len);
+    s[VINDASKOT_FIELD_LENGTH] = e.len;
+    for (size_t i = 0; i < 7; i++)
+        s[VINDASKOT_FIELD_VERSION + i] = number_at(e, 4 + 4 * i, 4);
+    struct list list = field_sections(e, at, &told);
+    if (list.stopped.status != VINDASKOT_DONE)
+        return list.stopped;
+    s[VINDASKOT_FIELD_ATTRIBUTES] = list.first;
+    s[VINDASKOT_FIELD_ATTRIBUTE_COUNT] = list.count;
+    return told;
+}
+
+static struct told direct(struct bytes b, size_t header, reading entry)
+{
+    if (too_large(b))
+        return refused_size(b.len);
+    if (b.len < header)
+        return refused(2, header, b.len);
+    size_t claim = (size_t)number_at(b, 0, 4);
+    if (claim > b.len)
+        return refused(3, claim, b.len);
+    return claim < header ? refused(4, header, claim) : entry(part(b, 0, claim));
+}
+
+struct told model_symbol_read(struct bytes b)
+{
+    return direct(b, 30, symbol_entry);
+}
+
+struct told model_field_read(struct bytes b)
+{
+    return direct(b, 42, field_entry);
+}
+
+/* A record of an entry that was read, by number. */
+static struct told of_entry(struct bytes b, struct told read, size_t first, size_t number, size_t next,
+                            struct told (*record)(struct bytes, size_t))
+{
+    if (read.status != VINDASKOT_DONE)
+        return read;
+    if (number >= read.slots[first + 1])
+        return refused(14, read.slots[first + 1], number);
+    return nth(part(b, 0, (size_t)read.slots[0]), (size_t)read.slots[first], number, next, record);
+}
+
+struct told model_symbol_attribute(struct bytes b, size_t number)
+{
+    return of_entry(b, model_symbol_read(b), VINDASKOT_SYMBOL_ATTRIBUTES, number, VINDASKOT_ATTRIBUTE_NEXT,
+                    attribute_at);
+}
+
+struct told model_symbol_refactor_info(struct bytes b, size_t number)
+{
+    return of_entry(b, model_symbol_read(b), VINDASKOT_SYMBOL_REFACTORS, number, VINDASKOT_REFACTOR_NEXT, refactor_at);
+}
+
+struct told model_field_attribute(struct bytes b, size_t number)
+{
+    return of_entry(b, model_field_read(b), VINDASKOT_FIELD_ATTRIBUTES, number, VINDASKOT_ATTRIBUTE_NEXT, attribute_at);
+}
+
+/* ---- Walking ---- */
+
+static struct told with_cursor(struct told told, size_t cursor)
+{
+    told.cursor = cursor;
+    return told;
+}
+
+static struct told step(struct bytes b, size_t cursor, reading entry)
+{
+    size_t left = left_at(b, cursor);
+    if (left == 0)
+        return (struct told){.status = VINDASKOT_FINISHED, .cursor = cursor};
+    if (too_large(b))
+        return with_cursor(refused_size(b.len), b.len);
+    if (left < 4)
+        return with_cursor(refused(2, cursor + 4, b.len), b.len);
+    size_t claim = (size_t)number_at(b, cursor, 4);
+    if (claim > left)
+        return with_cursor(refused(3, claim, left), b.len);
+    return with_cursor(entry(part(b, cursor, claim)), cursor + claim);
+}
+
+struct told model_symbol_step(struct bytes b, size_t cursor)
+{
+    return step(b, cursor, symbol_entry);
+}
+
+struct told model_field_step(struct bytes b, size_t cursor)
+{
+    return step(b, cursor, field_entry);
+}
+
+struct told model_walk(struct bytes b, size_t allowed, size_t cursor)
+{
+    struct told told = {.status = VINDASKOT_OUT_OF_STEPS, .cursor = cursor};
+    for (; told.cursor < b.len && told.steps < allowed; told.steps++) {
+        size_t next = step(b, told.cursor, symbol_entry).cursor;
+        if (next == told.cursor)
+            return (struct told){.status = 10, .answer = {1, 0}, .cursor = next, .steps = told.steps + 1};
+        told.cursor = next;
+    }
+    if (told.cursor >= b.len)
+        told.status = VINDASKOT_FINISHED;
+    return told;
+}
+
+/* ---- Index and finding ---- */
+
+struct told model_index(struct bytes b, uint32_t *starts)
+{
+    uint64_t count = 0;
+    if (too_large(b))
+        return refused_size(b.len);
+    for (size_t at = 0; at < b.len;) {
+        struct told told = step(b, at, symbol_entry);
+        if (told.cursor == at)
+            return refused(10, 1, 0);
+        if (told.status == VINDASKOT_DONE)
+            starts[count++] = (uint32_t)at;
+        at = told.cursor;
+    }
+    return done(count, 0);
+}
+
+static bool named(struct bytes b, size_t at, struct bytes name)
+{
+    struct told told = step(b, at, symbol_entry);
+    return told.status == VINDASKOT_DONE &&
+           equal(part(b, at + 30, (size_t)told.slots[VINDASKOT_SYMBOL_NAME_LEN]), name);
+}
+
+struct told model_find(struct bytes b, struct bytes name)
+{
+    if (too_large(b))
+        return refused_size(b.len);
+    for (size_t at = 0; at < b.len;) {
+        if (named(b, at, name))
+            return done(at, 0);
+        size_t next = step(b, at, symbol_entry).cursor;
+        if (next == at)
+            return refused(10, 1, 0);
+        at = next;
+    }
+    return refused(13, 0, 0);
+}
+
+struct told model_find_indexed(struct bytes b, struct bytes slots, struct bytes name)
+{
+    if (too_large(b))
+        return refused_size(b.len);
+    for (size_t i = 0; i + 4 <= slots.len; i += 4) {
+        size_t at = (size_t)number_at(slots, i, 4);
+        if (named(b, at, name))
+            return done(at, 0);
+    }
+    return refused(13, 0, 0);
+}
+
+/* ---- Writing ---- */
+
+static struct told good_attributes(size_t count, struct bytes block)
+{
+    size_t at = 0, good = 0;
+    for (; good < count; good++) {
+        struct told a = attribute_at(block, at);
+        const uint64_t *s = a.slots;
+        if (a.status != VINDASKOT_DONE || block.at[s[0] + s[1]] != 0 || block.at[s[2] + s[3]] != 0)
+            break;
+        at = (size_t)s[VINDASKOT_ATTRIBUTE_NEXT];
+    }
+    return good == count && at == block.len ? done(0, 0) : refused(9, count, good);
+}
+
+static struct told good_refactors(size_t count, struct bytes block)
+{
+    size_t at = 0, good = 0;
+    for (; good < count; good++) {
+        struct told r = refactor_at(block, at);
+        const uint64_t *s = r.slots;
+        if (r.status != VINDASKOT_DONE || block.at[s[VINDASKOT_REFACTOR_NAME] + s[VINDASKOT_REFACTOR_NAME_LEN]] != 0)
+            break;
+        if ((number_at(block, at, 4) & ~(uint64_t)COUNT_MASK) != 0 ||
+            (s[VINDASKOT_REFACTOR_HAS_NEXT] != 0) != (good + 1 < count))
+            break;
+        at = (size_t)s[VINDASKOT_REFACTOR_NEXT];
+    }
+    return good == count && at == block.len ? done(0, 0) : refused(9, count, good);
+}
+
+static struct told room_for(uint64_t needed, size_t lent)
+{
+    if (needed > VINDASKOT_LIMIT)
+        return refused_size((size_t)needed);
+    return needed > lent ? refused(6, needed, lent) : done(needed, 0);
+}
+
+/* What both entry writers refuse first. */
+static struct told strings_fit(const struct parts *p)
+{
+    const struct bytes strings[3] = {p->name, p->type_name, p->comment};
+    if (p->guid.len != 0 && p->guid.len != 16)
+        return refused(1, 16, p->guid.len);
+    for (size_t i = 0; i < 3; i++)
+        if (strings[i].len > 65535)
+            return refused(7, 65535, strings[i].len);
+    return done(0, 0);
+}
+
+static struct told attributes_fit(const struct parts *p)
+{
+    return p->count > 65535 ? refused(7, 65535, p->count) : good_attributes(p->count, p->block);
+}
+
+static struct told sections_agree(const struct parts *p)
+{
+    if ((p->guid.len == 16) != ((p->flags & 0x0008) != 0))
+        return refused(8, 1, 0);
+    if (p->block.len > 0 && (p->flags & 0x1000) == 0)
+        return refused(8, 2, 0);
+    if (p->extended != 0 && (p->flags & 0x8000) == 0)
+        return refused(8, 3, 0);
+    return (p->links > 0) != ((p->extended & 0x0004) != 0) ? refused(8, 4, 0) : done(0, 0);
+}
+
+struct told model_symbol_write(const struct parts *p, size_t lent)
+{
+    struct told told = strings_fit(p);
+    if (told.status == VINDASKOT_DONE)
+        told = attributes_fit(p);
+    if (told.status == VINDASKOT_DONE)
+        told = good_refactors(p->links, p->chain);
+    if (told.status == VINDASKOT_DONE)
+        told = sections_agree(p);
+    if (told.status != VINDASKOT_DONE)
+        return told;
+    uint64_t needed = 33 + (uint64_t)p->name.len + p->type_name.len + p->comment.len + p->guid.len + p->chain.len;
+    needed += (p->flags & 0x1000) != 0 ? 2 + (uint64_t)p->block.len : 0;
+    needed += (p->flags & 0x8000) != 0 ? 4 : 0;
+    return room_for(needed, lent);
+}
+
+struct told model_field_write(const struct parts *p, size_t lent)
+{
+    bool attributes = (p->flags & 0x1000) != 0;
+    struct told told = strings_fit(p);
+    if (told.status == VINDASKOT_DONE && attributes)
+        told = attributes_fit(p);
+    if (told.status != VINDASKOT_DONE)
+        return told;
+    uint64_t needed = 45 + (uint64_t)p->name.len + p->type_name.len + p->comment.len;
+    needed += (p->flags & 0x80) != 0 ? 16 : 0;
+    needed += (p->flags & 0x200) != 0 ? p->numbers[3] : 0;
+    needed += attributes ? 2 + (uint64_t)p->block.len : 0;
+    return room_for(needed, lent);
+}
+
+struct told model_block_write(size_t count, struct bytes block, size_t lent)
+{
+    if (count > 65535)
+        return refused(7, 65535, count);
+    struct told told = good_refactors(count, block);
+    return told.status == VINDASKOT_DONE ? room_for((uint64_t)block.len + 2, lent) : told;
+}
+
+/* ---- Text ---- */
+
+static const uint32_t points[32] = {
+    0x20AC, 0x0081, 0x201A, 0x0192, 0x201E, 0x2026, 0x2020, 0x2021, 0x02C6, 0x2030, 0x0160,
+    0x2039, 0x0152, 0x008D, 0x017D, 0x008F, 0x0090, 0x2018, 0x2019, 0x201C, 0x201D, 0x2022,
+    0x2013, 0x2014, 0x02DC, 0x2122, 0x0161, 0x203A, 0x0153, 0x009D, 0x017E, 0x0178,
+};
+
+struct told model_decode(struct bytes src, uint8_t *out)
+{
+    uint8_t *to = out;
+    if (too_large(src))
+        return refused_size(src.len);
+    for (size_t i = 0; i < src.len; i++) {
+        uint32_t p = src.at[i] >= 0x80 && src.at[i] < 0xA0 ? points[src.at[i] - 0x80] : src.at[i];
+        if (p < 0x80) {
+            *to++ = (uint8_t)p;
+            continue;
+        }
+        if (p < 0x800) {
+            *to++ = (uint8_t)(0xC0 | p >> 6);
+        } else {
+            *to++ = (uint8_t)(0xE0 | p >> 12);
+            *to++ = (uint8_t)(0x80 | (p >> 6 & 0x3F));
+        }
+        *to++ = (uint8_t)(0x80 | (p & 0x3F));
+    }
+    return done((uint64_t)(to - out), 0);
+}
+
+/* The scalar value at a place, and how many bytes it takes: 0 where there is none. */
+static size_t scalar_at(struct bytes b, size_t at, uint32_t *p)
+{
+    static const uint32_t least[5] = {0, 0, 0x80, 0x800, 0x10000};
+    uint8_t first = b.at[at];
+    size_t width = first < 0x80 ? 1 : first < 0xC0 ? 0 : first < 0xE0 ? 2 : first < 0xF0 ? 3 : first < 0xF8 ? 4 : 0;
+    if (width == 0 || left_at(b, at) < width)
+        return 0;
+    *p = width == 1 ? first : first & (0x7Fu >> width);
+    for (size_t i = 1; i < width; i++) {
+        if ((b.at[at + i] & 0xC0) != 0x80)
+            return 0;
+        *p = *p << 6 | (b.at[at + i] & 0x3F);
+    }
+    return *p < least[width] || *p > 0x10FFFF || (*p >= 0xD800 && *p < 0xE000) ? 0 : width;
+}
+
+static int byte_of(uint32_t p)
+{
+    if (p < 0x80 || (p >= 0xA0 && p < 0x100))
+        return (int)p;
+    for (int i = 0; i < 32; i++)
+        if (points[i] == p)
+            return 0x80 + i;
+    return -1;
+}
+
+struct told model_encode(struct bytes src, uint8_t *out)
+{
+    size_t count = 0;
+    if (too_large(src))
+        return refused_size(src.len);
+    for (size_t at = 0; at < src.len;) {
+        uint32_t p = 0;
+        size_t width = scalar_at(src, at, &p);
+        if (width == 0)
+            return refused(11, at, 1);
+        int byte = byte_of(p);
+        if (byte < 0)
+            return refused(11, at, 2);
+        out[count++] = (uint8_t)byte;
+        at += width;
+    }
+    return done(count, 0);
+}

@@ -1,0 +1,481 @@
+/* Random cases. Each is made from the seed and its own number, and tried twice: its slices ending at a guard page, then
+ * starting at one. */
+#include "boundary.h"
+
+static struct buffer input;
+static struct draft draft;
+
+/* ---- Reading ---- */
+
+/* Records of an entry that ends there: the first by number, those around the last, and one that never is there. */
+static void try_numbers(struct bytes b, uint64_t end, uint64_t count, numbered call, numbered model)
+{
+    const size_t last = (size_t)count, numbers[] = {0, 1, last / 2, last - 1, last, last + 1, SIZE_MAX};
+    for (size_t i = 0; i < sizeof numbers / sizeof *numbers; i++) {
+        struct told told = call(b, numbers[i]);
+        SAME(NUMBERED, told, model(b, numbers[i]));
+        if (told.status == VINDASKOT_DONE)
+            CHECK(PLACES, told.slots[4] <= end && told.slots[2] <= told.slots[4], "%s: a record ends past its entry",
+                  name_of(told.function));
+    }
+}
+
+static void try_records(struct bytes b)
+{
+    struct told attribute = call_attribute_read(b), refactor = call_refactor_read(b), chain = call_chain_read(b);
+    SAME(READS, attribute, model_attribute_read(b));
+    SAME(READS, refactor, model_refactor_read(b));
+    SAME(READS, chain, model_chain_read(b));
+    SAME(READS, call_symbol_flags_read(b), model_flags_read(b, 2));
+    SAME(READS, call_symbol2_flags_read(b), model_flags_read(b, 4));
+    SAME(READS, call_type_flags_read(b), model_flags_read(b, 4));
+    if (attribute.status == VINDASKOT_DONE)
+        CHECK(PLACES, attribute.slots[VINDASKOT_ATTRIBUTE_NEXT] <= b.len, "an attribute ends past its bytes");
+    if (refactor.status == VINDASKOT_DONE)
+        CHECK(PLACES, refactor.slots[VINDASKOT_REFACTOR_NEXT] <= b.len, "a refactor record ends past its bytes");
+    if (chain.status == VINDASKOT_DONE)
+        CHECK(PLACES, chain.answer[1] <= b.len && 7 * chain.answer[0] <= chain.answer[1],
+              "a chain ends past its bytes");
+    try_numbers(b, b.len, chain.status == VINDASKOT_DONE ? chain.answer[0] : 0, call_chain_record, model_chain_record);
+}
+
+/* A place and a length, or a place and a count of records that take at least so many bytes, within an entry. */
+static bool within(const uint64_t *slots, size_t slot, size_t width)
+{
+    return slots[slot + 1] == 0 || slots[slot] + width * slots[slot + 1] <= slots[0];
+}
+
+/* The strings follow the header, each with an end byte: worked out from the entry's own length fields. */
+static void check_strings(struct bytes e, const uint64_t *slots, size_t first, size_t header, size_t lengths)
+{
+    size_t name = (size_t)number_at(e, lengths, 2), type_name = (size_t)number_at(e, lengths + 2, 2);
+    size_t comment = (size_t)number_at(e, lengths + 4, 2);
+    CHECK(PLACES, slots[first] == header && slots[first + 1] == name, "the name is told at another place");
+    CHECK(PLACES, slots[first + 2] == header + 1 + name && slots[first + 3] == type_name,
+          "the type is told at another place");
+    CHECK(PLACES, slots[first + 4] == header + 2 + name + type_name && slots[first + 5] == comment,
+          "the comment is told at another place");
+    CHECK(PLACES, slots[first + 4] + comment < slots[0] && slots[0] <= e.len, "strings or an entry past the end");
+}
+
+static void try_symbol(struct bytes b)
+{
+    struct told told = call_symbol_read(b);
+    const uint64_t *s = told.slots;
+    SAME(READS, told, model_symbol_read(b));
+    try_numbers(b, s[0], s[VINDASKOT_SYMBOL_ATTRIBUTE_COUNT], call_symbol_attribute, model_symbol_attribute);
+    try_numbers(b, s[0], s[VINDASKOT_SYMBOL_REFACTOR_COUNT], call_symbol_refactor_info, model_symbol_refactor_info);
+    if (told.status != VINDASKOT_DONE)
+        return;
+    check_strings(b, s, VINDASKOT_SYMBOL_NAME, 30, 24);
+    CHECK(PLACES,
+          within(s, VINDASKOT_SYMBOL_ATTRIBUTES, 4) && within(s, VINDASKOT_SYMBOL_REFACTORS, 7) &&
+              s[VINDASKOT_SYMBOL_REFACTORS] + s[VINDASKOT_SYMBOL_UNREAD] <= s[0],
+          "a symbol tells records past its end");
+}
+
+static void try_field(struct bytes b)
+{
+    struct told told = call_field_read(b);
+    SAME(READS, told, model_field_read(b));
+    try_numbers(b, told.slots[0], told.slots[VINDASKOT_FIELD_ATTRIBUTE_COUNT], call_field_attribute,
+                model_field_attribute);
+    if (told.status != VINDASKOT_DONE)
+        return;
+    check_strings(b, told.slots, VINDASKOT_FIELD_NAME, 42, 32);
+    CHECK(PLACES, within(told.slots, VINDASKOT_FIELD_ATTRIBUTES, 4), "a field tells attributes past its end");
+}
+
+/* ---- Walking ---- */
+
+/* From a cursor to the end or to a step that does not move; how many steps it took. */
+static size_t steps_of(struct bytes b, size_t cursor, stepping call, stepping model, bool *stuck)
+{
+    size_t steps = 0;
+    *stuck = false;
+    while (!*stuck) {
+        struct told told = call(b, cursor);
+        SAME(WALKS, told, model(b, cursor));
+        if (told.status == VINDASKOT_FINISHED)
+            break;
+        steps++;
+        *stuck = told.cursor <= cursor;
+        CHECK(WALKS, told.cursor >= cursor && told.cursor <= b.len, "a step leads from %zu to %zu of %zu", cursor,
+              told.cursor, b.len);
+        CHECK(WALKS, !*stuck || number_at(b, cursor, 4) == 0, "a step stands at %zu without a zero claim", cursor);
+        CHECK(WALKS, steps <= b.len + 1, "more steps than bytes");
+        cursor = told.cursor;
+    }
+    return steps;
+}
+
+static void try_walk_from(struct bytes b, size_t cursor)
+{
+    bool stuck, field_stuck;
+    size_t steps = steps_of(b, cursor, call_symbol_step, model_symbol_step, &stuck);
+    size_t field_steps = steps_of(b, cursor, call_field_step, model_field_step, &field_stuck);
+    CHECK(WALKS, steps == field_steps && stuck == field_stuck, "symbols walk in %zu steps, fields in %zu", steps,
+          field_steps);
+    const size_t allowed[] = {0, steps - (steps > 0), steps, steps + 1, below(8), SIZE_MAX};
+    for (size_t i = 0; i < sizeof allowed / sizeof *allowed; i++) {
+        struct told told = call_walk(b, allowed[i], cursor);
+        SAME(WALKS, told, model_walk(b, allowed[i], cursor));
+        CHECK(WALKS, told.steps == (allowed[i] < steps ? allowed[i] : steps), "a walk of %zu steps makes %zu", steps,
+              told.steps);
+        CHECK(WALKS, (told.status == 10) == (stuck && allowed[i] >= steps), "a zero claim and refusal 10 disagree");
+    }
+}
+
+static void try_walk(struct bytes b, size_t some)
+{
+    try_walk_from(b, 0);
+    try_walk_from(b, some % (b.len + 3));
+    SAME(WALKS, call_symbol_step(b, SIZE_MAX), model_symbol_step(b, SIZE_MAX));
+    SAME(WALKS, call_field_step(b, SIZE_MAX), model_field_step(b, SIZE_MAX));
+    SAME(WALKS, call_walk(b, SIZE_MAX, SIZE_MAX), model_walk(b, SIZE_MAX, SIZE_MAX));
+}
+
+/* ---- Index and finding ---- */
+
+static void try_name(struct bytes b, struct bytes index, struct bytes name, bool indexed)
+{
+    struct told found = call_find(b, name), through = call_find_indexed(b, index, name);
+    SAME(FINDS, found, model_find(b, name));
+    SAME(FINDS, through, model_find_indexed(b, index, name));
+    if (indexed)
+        CHECK(FINDS, found.status == through.status && found.answer[0] == through.answer[0],
+              "found with status %u at %llu, through the index with %u at %llu", (unsigned)found.status,
+              (unsigned long long)found.answer[0], (unsigned)through.status, (unsigned long long)through.answer[0]);
+}
+
+static struct bytes try_index(struct bytes b, struct told want, const uint32_t *starts)
+{
+    const size_t needed = want.status == VINDASKOT_DONE ? (size_t)want.answer[0] : 2;
+    const size_t lent[] = {0, needed - (needed > 0), needed + 3, needed};
+    struct room out = {NULL, 0};
+    for (size_t i = 0; i < sizeof lent / sizeof *lent; i++) {
+        bool short_of = want.status == VINDASKOT_DONE && lent[i] < needed;
+        out = lend(4 * lent[i]);
+        SAME(FINDS, call_index_build(b, out), short_of ? refused(6, needed, lent[i]) : want);
+    }
+    if (want.status != VINDASKOT_DONE)
+        return (struct bytes){NULL, 0};
+    CHECK(FINDS, needed == 0 || memcmp(out.at, starts, 4 * needed) == 0, "the index has other starts");
+    return lay(SLOTS, (struct bytes){out.at, out.len});
+}
+
+static void try_finds(struct bytes b, struct bytes other)
+{
+    static uint32_t starts[BUFFER];
+    uint32_t odd[5] = {(uint32_t)any(), (uint32_t)below(b.len + 9), (uint32_t)below(b.len + 9), 0, UINT32_MAX};
+    struct told want = model_index(b, starts);
+    bool indexed = want.status == VINDASKOT_DONE;
+    struct bytes index = try_index(b, want, starts);
+    for (uint64_t i = 0; indexed && i < want.answer[0] && i < 3; i++) {
+        struct bytes name = part(b, starts[i] + 30, (size_t)number_at(b, starts[i] + 24, 2));
+        try_name(b, index, lay(NAME, name), true);
+        try_name(b, lay(SLOTS, (struct bytes){(const uint8_t *)odd, sizeof odd}), lay(NAME, name), false);
+        index = lay(SLOTS, (struct bytes){(const uint8_t *)starts, 4 * (size_t)want.answer[0]});
+    }
+    try_name(b, index, lay(NAME, other), indexed);
+    try_name(b, index, lay(NAME, part(other, 0, 0)), indexed);
+}
+
+/* ---- Text ---- */
+
+static void try_conversion(struct bytes src, struct told want, const uint8_t *wanted, converting call)
+{
+    const size_t needed = want.status == VINDASKOT_DONE ? (size_t)want.answer[0] : 4;
+    const size_t lent[] = {0, needed / 2, needed - (needed > 0), 3 * needed, needed};
+    struct room out = {NULL, 0};
+    for (size_t i = 0; i < sizeof lent / sizeof *lent; i++) {
+        bool short_of = want.status == VINDASKOT_DONE && lent[i] < needed;
+        out = lend(lent[i]);
+        SAME(TEXTS, call(src, out), short_of ? refused(6, needed, lent[i]) : want);
+    }
+    if (want.status == VINDASKOT_DONE)
+        CHECK(TEXTS, needed == 0 || memcmp(out.at, wanted, needed) == 0, "other text of %zu bytes", needed);
+}
+
+/* There and back: the bytes again. */
+static void try_text(struct bytes b)
+{
+    static uint8_t wanted[3 * BUFFER];
+    struct told want = model_decode(b, wanted);
+    try_conversion(b, want, wanted, call_decode);
+    struct room out = lend((size_t)want.answer[0]);
+    struct told decoded = call_decode(b, out);
+    struct bytes utf8 = lay(COMMENT, (struct bytes){out.at, (size_t)decoded.answer[0]});
+    out = lend(b.len);
+    struct told encoded = call_encode(utf8, out);
+    CHECK(TEXTS, encoded.status == VINDASKOT_DONE && equal((struct bytes){out.at, (size_t)encoded.answer[0]}, b),
+          "decoded and encoded, %zu bytes are others", b.len);
+    try_conversion(b, model_encode(b, wanted), wanted, call_encode);
+}
+
+static void try_input(struct bytes from, size_t some)
+{
+    struct bytes b = lay(UPLOAD, from);
+    try_records(b);
+    try_symbol(b);
+    try_field(b);
+    try_walk(b, some);
+    try_finds(b, part(from, 0, from.len < 9 ? from.len : 9));
+    try_text(b);
+    CHECK(INPUTS, equal(b, from), "an input was changed");
+}
+
+/* ---- Writing ---- */
+
+static bool unchanged(const struct parts *p, const struct parts *from)
+{
+    return equal(p->guid, from->guid) && equal(p->name, from->name) && equal(p->type_name, from->type_name) &&
+           equal(p->comment, from->comment) && equal(p->block, from->block) && equal(p->chain, from->chain);
+}
+
+/* An entry written where nothing, too little, just enough and more is lent. What was written, if anything was. */
+static struct bytes try_entry(const struct parts *from, writing call,
+                              struct told (*model)(const struct parts *, size_t),
+                              void (*lay_out)(struct buffer *, const struct parts *))
+{
+    static struct buffer wanted;
+    struct parts p = laid(from);
+    struct told least = model(&p, 0);
+    size_t needed = least.status == 6 && least.answer[0] < BUFFER ? (size_t)least.answer[0] : 0;
+    const size_t lent[] = {0, below(needed + 1), needed - (needed > 0), needed + below(40), needed};
+    struct room out = {NULL, 0};
+    for (size_t i = 0; i < sizeof lent / sizeof *lent; i++) {
+        out = lend(lent[i]);
+        SAME(WRITES, call(&p, out), model(&p, lent[i]));
+    }
+    CHECK(INPUTS, unchanged(&p, from), "an argument of a writer was changed");
+    if (needed == 0)
+        return (struct bytes){NULL, 0};
+    wanted.len = 0;
+    lay_out(&wanted, from);
+    CHECK(WRITES, equal((struct bytes){out.at, needed}, whole(&wanted)), "an entry of other bytes");
+    return lay(UPLOAD, (struct bytes){out.at, needed});
+}
+
+static bool holds(struct bytes e, const uint64_t *slots, size_t slot, struct bytes want)
+{
+    return slots[slot + 1] == want.len && equal(part(e, (size_t)slots[slot], want.len), want);
+}
+
+static void back_attributes(struct bytes e, const struct draft *d, numbered call)
+{
+    for (size_t i = 0; i < d->parts.count; i++) {
+        struct told told = call(e, i);
+        CHECK(ROUND_TRIPS,
+              told.status == VINDASKOT_DONE && holds(e, told.slots, VINDASKOT_ATTRIBUTE_NAME, d->names[i]) &&
+                  holds(e, told.slots, VINDASKOT_ATTRIBUTE_VALUE, d->values[i]),
+              "attribute %zu is read as another", i);
+    }
+}
+
+static void back_chain(struct bytes e, const struct draft *d, numbered call)
+{
+    for (size_t i = 0; i < d->parts.links; i++) {
+        struct told told = call(e, i);
+        CHECK(ROUND_TRIPS,
+              told.status == VINDASKOT_DONE && holds(e, told.slots, VINDASKOT_REFACTOR_NAME, d->formers[i]) &&
+                  told.slots[VINDASKOT_REFACTOR_COUNT] == d->counts[i] &&
+                  told.slots[VINDASKOT_REFACTOR_HAS_NEXT] == (i + 1 < d->parts.links),
+              "refactor record %zu is read as another", i);
+    }
+}
+
+static bool numbers_back(const uint64_t *slots, const uint32_t *numbers, size_t count)
+{
+    for (size_t i = 0; i < count; i++)
+        if (slots[i] != numbers[i])
+            return false;
+    return true;
+}
+
+static bool guid_back(const struct told *told, uint64_t has, struct bytes guid)
+{
+    static const uint8_t zeros[16];
+    return has == (guid.len == 16) && memcmp(told->guid, guid.len == 16 ? guid.at : zeros, 16) == 0;
+}
+
+static void try_symbol_back(const struct draft *d)
+{
+    const struct parts *p = &d->parts;
+    struct bytes e = try_entry(p, call_symbol_write, model_symbol_write, put_symbol);
+    struct told told = call_symbol_read(e);
+    const uint64_t *s = told.slots;
+    CHECK(ROUND_TRIPS,
+          told.status == VINDASKOT_DONE && s[VINDASKOT_SYMBOL_LENGTH] == e.len && s[VINDASKOT_SYMBOL_UNREAD] == 0,
+          "a written symbol is read with status %u", (unsigned)told.status);
+    CHECK(ROUND_TRIPS,
+          numbers_back(s + VINDASKOT_SYMBOL_INDEX_GROUP, p->numbers, 4) && s[VINDASKOT_SYMBOL_FLAGS] == p->flags &&
+              s[VINDASKOT_SYMBOL_EXTENDED_FLAGS] == p->extended &&
+              s[VINDASKOT_SYMBOL_HAS_EXTENDED] == ((p->flags & 0x8000) != 0),
+          "a symbol's numbers are read as others");
+    CHECK(ROUND_TRIPS,
+          holds(e, s, VINDASKOT_SYMBOL_NAME, p->name) && holds(e, s, VINDASKOT_SYMBOL_TYPE_NAME, p->type_name) &&
+              holds(e, s, VINDASKOT_SYMBOL_COMMENT, p->comment),
+          "a symbol's strings are read as others");
+    CHECK(ROUND_TRIPS,
+          guid_back(&told, s[VINDASKOT_SYMBOL_HAS_GUID], p->guid) && s[VINDASKOT_SYMBOL_ATTRIBUTE_COUNT] == p->count &&
+              s[VINDASKOT_SYMBOL_REFACTOR_COUNT] == p->links,
+          "a symbol's sections are read as others");
+    back_attributes(e, d, call_symbol_attribute);
+    back_chain(e, d, call_symbol_refactor_info);
+}
+
+static void try_field_back(const struct draft *d)
+{
+    const struct parts *p = &d->parts;
+    static const uint8_t zeros[16];
+    bool flagged = (p->flags & 0x80) != 0;
+    struct bytes guid = {p->guid.len == 16 ? p->guid.at : zeros, flagged ? 16 : 0};
+    struct bytes e = try_entry(p, call_field_write, model_field_write, put_field);
+    if ((p->flags & 0x800) != 0)
+        return;
+    struct told told = call_field_read(e);
+    const uint64_t *s = told.slots;
+    CHECK(ROUND_TRIPS, told.status == VINDASKOT_DONE && s[VINDASKOT_FIELD_LENGTH] == e.len,
+          "a written field is read with status %u", (unsigned)told.status);
+    CHECK(ROUND_TRIPS, numbers_back(s + VINDASKOT_FIELD_VERSION, p->numbers, 6) && s[VINDASKOT_FIELD_FLAGS] == p->flags,
+          "a field's numbers are read as others");
+    CHECK(ROUND_TRIPS,
+          holds(e, s, VINDASKOT_FIELD_NAME, p->name) && holds(e, s, VINDASKOT_FIELD_TYPE_NAME, p->type_name) &&
+              holds(e, s, VINDASKOT_FIELD_COMMENT, p->comment),
+          "a field's strings are read as others");
+    CHECK(ROUND_TRIPS,
+          guid_back(&told, s[VINDASKOT_FIELD_HAS_GUID], guid) && s[VINDASKOT_FIELD_ATTRIBUTE_COUNT] == p->count,
+          "a field's sections are read as others");
+    back_attributes(e, d, call_field_attribute);
+}
+
+static void try_attribute_back(struct bytes name, struct bytes value)
+{
+    static struct buffer wanted;
+    wanted.len = 0;
+    put_attribute(&wanted, name, value);
+    struct bytes n = lay(NAME, name), v = lay(COMMENT, value);
+    SAME(WRITES, call_attribute_write(n, v, lend(wanted.len - 1)), refused(6, wanted.len, wanted.len - 1));
+    struct room out = lend(wanted.len);
+    SAME(WRITES, call_attribute_write(n, v, out), done(wanted.len, 0));
+    CHECK(WRITES, equal((struct bytes){out.at, out.len}, whole(&wanted)), "an attribute of other bytes");
+    CHECK(INPUTS, equal(n, name) && equal(v, value), "an argument of a writer was changed");
+    struct bytes e = lay(UPLOAD, (struct bytes){out.at, out.len});
+    struct told told = call_attribute_read(e);
+    CHECK(ROUND_TRIPS,
+          told.slots[VINDASKOT_ATTRIBUTE_NEXT] == e.len && holds(e, told.slots, VINDASKOT_ATTRIBUTE_NAME, name) &&
+              holds(e, told.slots, VINDASKOT_ATTRIBUTE_VALUE, value),
+          "an attribute is read as another");
+}
+
+static void try_refactor_back(uint32_t count, bool has_next, struct bytes name)
+{
+    static struct buffer wanted;
+    uint32_t packed = (count & COUNT_MASK) | (has_next ? NEXT_BIT : 0);
+    wanted.len = 0;
+    put_refactor(&wanted, packed, name);
+    struct bytes n = lay(NAME, name);
+    SAME(WRITES, call_refactor_write(count, has_next, n, lend(wanted.len - 1)), refused(6, wanted.len, wanted.len - 1));
+    struct room out = lend(wanted.len);
+    SAME(WRITES, call_refactor_write(count, has_next, n, out), done(wanted.len, 0));
+    CHECK(WRITES, equal((struct bytes){out.at, out.len}, whole(&wanted)), "a refactor record of other bytes");
+    CHECK(INPUTS, equal(n, name), "an argument of a writer was changed");
+    struct bytes e = lay(UPLOAD, (struct bytes){out.at, out.len});
+    struct told told = call_refactor_read(e);
+    CHECK(ROUND_TRIPS,
+          told.slots[VINDASKOT_REFACTOR_NEXT] == e.len && holds(e, told.slots, VINDASKOT_REFACTOR_NAME, name) &&
+              told.slots[VINDASKOT_REFACTOR_COUNT] == packed,
+          "a refactor record is read as another");
+}
+
+/* A block with its count in front. The chain behind the count is read again where it was accepted. */
+static void try_block(const struct draft *d, size_t count, bool spoilt)
+{
+    struct bytes block = lay(CHAIN, d->parts.chain);
+    struct told least = model_block_write(count, block, 0);
+    size_t needed = least.status == 6 ? (size_t)least.answer[0] : 8;
+    SAME(WRITES, call_refactor_block_write(count, block, lend(needed - 1)),
+         model_block_write(count, block, needed - 1));
+    struct room out = lend(needed);
+    struct told told = call_refactor_block_write(count, block, out);
+    SAME(WRITES, told, model_block_write(count, block, needed));
+    CHECK(INPUTS, equal(block, d->parts.chain), "an argument of a writer was changed");
+    if (told.status != VINDASKOT_DONE)
+        return;
+    struct bytes wrote = lay(UPLOAD, (struct bytes){out.at, out.len}), chain = part(wrote, 2, out.len - 2);
+    CHECK(WRITES, number_at(wrote, 0, 2) == count && equal(chain, d->parts.chain), "a block of other bytes");
+    if (count > 0)
+        SAME(ROUND_TRIPS, call_chain_read(chain), done(count, chain.len));
+    if (!spoilt)
+        back_chain(chain, d, call_chain_record);
+}
+
+static struct bytes at_most_255(struct bytes b)
+{
+    return part(b, 0, b.len < 256 ? b.len : 255);
+}
+
+static void try_written(struct draft *d, bool field, bool spoilt, uint32_t count)
+{
+    if (!spoilt && field)
+        try_field_back(d);
+    else if (!spoilt)
+        try_symbol_back(d);
+    else if (field)
+        try_entry(&d->parts, call_field_write, model_field_write, put_field);
+    else
+        try_entry(&d->parts, call_symbol_write, model_symbol_write, put_symbol);
+    try_attribute_back(at_most_255(d->parts.name), at_most_255(d->parts.comment));
+    try_refactor_back(count, one_in(2), at_most_255(d->parts.comment));
+    try_block(d, d->parts.links, spoilt);
+}
+
+/* ---- Cases ---- */
+
+static void make_case(size_t kind)
+{
+    input.len = 0;
+    switch (kind) {
+    case 0: make_random(&input); break;
+    case 1: make_symbol(&input); break;
+    case 2: make_field(&input); break;
+    case 3: make_records(&input); break;
+    case 4:
+    case 5: make_upload(&input); break;
+    default: make_text(&input);
+    }
+    if (kind > 0 && !one_in(4))
+        damage(&input, kind == 2 ? 42 : 30);
+}
+
+enum { READ_KINDS = 7, KINDS = 10 };
+
+static void try_case(uint64_t number)
+{
+    size_t kind = number % KINDS, some = below(BUFFER);
+    bool spoilt = kind >= READ_KINDS && one_in(2);
+    uint32_t count = (uint32_t)any();
+    if (kind < READ_KINDS) {
+        make_case(kind);
+    } else {
+        (kind == READ_KINDS ? draft_field : draft_symbol)(&draft);
+        for (size_t left = spoilt ? 1 + below(3) : 0; left > 0; left--)
+            spoil(&draft);
+    }
+    for (side = 0; side < SIDES; side++) {
+        if (kind < READ_KINDS)
+            try_input(whole(&input), some);
+        else
+            try_written(&draft, kind == READ_KINDS, spoilt, count);
+    }
+}
+
+void try_random(uint64_t from, uint64_t cases, uint64_t seed_number)
+{
+    for (uint64_t number = from; number < from + cases; number++) {
+        now_trying = number;
+        seed(seed_number * 0xD1342543DE82EF95u ^ number);
+        try_case(number);
+    }
+}
