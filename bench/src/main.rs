@@ -8,6 +8,10 @@ mod find;
 mod growth;
 mod report;
 mod rig;
+/// The declarations of the Rust crate, which tools/bench puts beside this folder.
+#[allow(dead_code)]
+#[path = "../bindings/rust/src/sys.rs"]
+mod sys;
 mod text;
 mod verify;
 mod walk;

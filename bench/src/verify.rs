@@ -1,8 +1,9 @@
 //! Before anything is timed: every entry that was written is walked back, by both sides, and equals the symbol it came from.
-use crate::c::{self, Told, slot};
+use crate::c::{self, Told};
 use crate::clock::wrong;
 use crate::rig::{Rig, Symbol};
 use crate::symbol_info::AdsSymbolInfoIterator;
+use crate::sys;
 use crate::{AdsSymbolInfo, AdsTypeId};
 use encoding_rs::WINDOWS_1252;
 
@@ -24,18 +25,18 @@ fn part<'a, const N: usize>(bytes: &'a [u8], told: &Told<N>, place: usize) -> &'
     &bytes[told.number(place)..][..told.number(place + 1)]
 }
 
-fn check_numbers(s: &Symbol, told: &Told<20>) {
+fn check_numbers(s: &Symbol, told: &Told<{ sys::SYMBOL_SLOTS }>) {
     let numbers = [
-        (slot::INDEX_GROUP, s.group as usize),
-        (slot::INDEX_OFFSET, s.offset as usize),
-        (slot::SIZE, s.size as usize),
-        (slot::DATA_TYPE_ID, s.type_id as usize),
-        (slot::FLAGS, s.flags as usize),
-        (slot::HAS_GUID, s.guid.len() / 16),
-        (slot::EXTENDED_FLAGS, s.extended as usize),
-        (slot::ATTRIBUTE_COUNT, s.attributes.len()),
-        (slot::REFACTOR_COUNT, s.former.len()),
-        (slot::UNREAD, 0),
+        (sys::SYMBOL_INDEX_GROUP, s.group as usize),
+        (sys::SYMBOL_INDEX_OFFSET, s.offset as usize),
+        (sys::SYMBOL_SIZE, s.size as usize),
+        (sys::SYMBOL_DATA_TYPE_ID, s.type_id as usize),
+        (sys::SYMBOL_FLAGS, s.flags as usize),
+        (sys::SYMBOL_HAS_GUID, s.guid.len() / 16),
+        (sys::SYMBOL_EXTENDED_FLAGS, s.extended as usize),
+        (sys::SYMBOL_ATTRIBUTE_COUNT, s.attributes.len()),
+        (sys::SYMBOL_REFACTOR_COUNT, s.former.len()),
+        (sys::SYMBOL_UNREAD, 0),
     ];
     for (place, wanted) in numbers {
         same(
@@ -47,16 +48,16 @@ fn check_numbers(s: &Symbol, told: &Told<20>) {
     }
 }
 
-fn check_records(s: &Symbol, entry: &[u8], told: &Told<20>) {
-    let mut record = Told::<5>::new();
-    let mut left = &entry[told.number(slot::ATTRIBUTES)..];
+fn check_records(s: &Symbol, entry: &[u8], told: &Told<{ sys::SYMBOL_SLOTS }>) {
+    let mut record = Told::<{ sys::ATTRIBUTE_SLOTS }>::new();
+    let mut left = &entry[told.number(sys::SYMBOL_ATTRIBUTES)..];
     for (name, value) in &s.attributes {
         c::attribute_read(left, &mut record);
         let strings = (part(left, &record, 0), part(left, &record, 2));
         same(&strings, &(&name[..], &value[..]), "attribute", &s.name);
         left = &left[record.number(4)..];
     }
-    let mut left = &entry[told.number(slot::REFACTORS)..];
+    let mut left = &entry[told.number(sys::SYMBOL_REFACTORS)..];
     for (_, name) in &s.former {
         c::refactor_read(left, &mut record);
         same(
@@ -69,22 +70,22 @@ fn check_records(s: &Symbol, entry: &[u8], told: &Told<20>) {
     }
 }
 
-fn check_ours(s: &Symbol, entry: &[u8], told: &Told<20>) {
+fn check_ours(s: &Symbol, entry: &[u8], told: &Told<{ sys::SYMBOL_SLOTS }>) {
     check_numbers(s, told);
     same(
-        &part(entry, told, slot::NAME),
+        &part(entry, told, sys::SYMBOL_NAME),
         &&s.name[..],
         "name",
         &s.name,
     );
     same(
-        &part(entry, told, slot::TYPE_NAME),
+        &part(entry, told, sys::SYMBOL_TYPE_NAME),
         &&s.type_name[..],
         "type name",
         &s.name,
     );
     same(
-        &part(entry, told, slot::COMMENT),
+        &part(entry, told, sys::SYMBOL_COMMENT),
         &&s.comment[..],
         "comment",
         &s.name,
@@ -147,12 +148,12 @@ fn check_theirs(s: &Symbol, r: &AdsSymbolInfo) {
 
 pub fn check(rig: &Rig) {
     let mut theirs = AdsSymbolInfoIterator::new(&rig.upload);
-    let mut told = Told::<20>::new();
+    let mut told = Told::<{ sys::SYMBOL_SLOTS }>::new();
     let mut cursor = 0;
     for (s, start) in rig.symbols.iter().zip(&rig.starts) {
         same(&cursor, start, "start", &s.name);
         let status = c::symbol_step(&rig.upload, &mut cursor, &mut told);
-        same(&status, &c::DONE, "status", &s.name);
+        same(&status, &sys::DONE, "status", &s.name);
         check_ours(s, &rig.upload[*start..cursor], &told);
         match theirs.next() {
             Some(Ok(record)) => check_theirs(s, &record),
@@ -160,7 +161,7 @@ pub fn check(rig: &Rig) {
         }
     }
     let status = c::symbol_step(&rig.upload, &mut cursor, &mut told);
-    if status != c::FINISHED || theirs.next().is_some() {
+    if status != sys::FINISHED || theirs.next().is_some() {
         wrong("the walk does not end after the last symbol");
     }
 }

@@ -1,41 +1,42 @@
 //! The walk, every entry read: numbers and places alone, and with all text as UTF-8.
 use crate::AdsSymbolInfo;
-use crate::c::{self, Told, slot};
+use crate::c::{self, Told};
 use crate::clock::{plain, race, wrong};
 use crate::report::Report;
 use crate::rig::Rig;
 use crate::symbol_info::AdsSymbolInfoIterator;
+use crate::sys;
 use std::hint::black_box;
 
 /// Of each entry: what both sides can tell of it without text. An unread byte, which the Rust does not tell, would show as a
 /// difference, since written entries have none.
 pub fn ours(upload: &[u8]) -> u64 {
-    let mut told = Told::<20>::new();
+    let mut told = Told::<{ sys::SYMBOL_SLOTS }>::new();
     let (mut cursor, mut sum) = (0, 0);
     loop {
         match c::symbol_step(upload, &mut cursor, &mut told) {
-            c::DONE => sum += ours_sum(&told),
-            c::FINISHED => return sum,
+            sys::DONE => sum += ours_sum(&told),
+            sys::FINISHED => return sum,
             status => wrong(&format!("vindaskot_symbol_step refused with {status}")),
         }
     }
 }
 
-fn ours_sum(told: &Told<20>) -> u64 {
-    told.slots[slot::NAME_LEN]
-        + told.slots[slot::TYPE_NAME_LEN]
-        + (told.slots[slot::COMMENT_LEN] != 0) as u64
-        + told.slots[slot::INDEX_GROUP]
-        + told.slots[slot::INDEX_OFFSET]
-        + told.slots[slot::SIZE]
-        + told.slots[slot::DATA_TYPE_ID]
-        + told.slots[slot::FLAGS]
-        + told.slots[slot::HAS_GUID]
+fn ours_sum(told: &Told<{ sys::SYMBOL_SLOTS }>) -> u64 {
+    told.slots[sys::SYMBOL_NAME_LEN]
+        + told.slots[sys::SYMBOL_TYPE_NAME_LEN]
+        + (told.slots[sys::SYMBOL_COMMENT_LEN] != 0) as u64
+        + told.slots[sys::SYMBOL_INDEX_GROUP]
+        + told.slots[sys::SYMBOL_INDEX_OFFSET]
+        + told.slots[sys::SYMBOL_SIZE]
+        + told.slots[sys::SYMBOL_DATA_TYPE_ID]
+        + told.slots[sys::SYMBOL_FLAGS]
+        + told.slots[sys::SYMBOL_HAS_GUID]
         + told.guid[0] as u64
-        + told.slots[slot::ATTRIBUTE_COUNT]
-        + told.slots[slot::EXTENDED_FLAGS]
-        + told.slots[slot::REFACTOR_COUNT]
-        + told.slots[slot::UNREAD]
+        + told.slots[sys::SYMBOL_ATTRIBUTE_COUNT]
+        + told.slots[sys::SYMBOL_EXTENDED_FLAGS]
+        + told.slots[sys::SYMBOL_REFACTOR_COUNT]
+        + told.slots[sys::SYMBOL_UNREAD]
 }
 
 pub fn theirs(upload: &[u8]) -> u64 {
@@ -68,37 +69,37 @@ fn theirs_sum(r: &AdsSymbolInfo) -> u64 {
 /// The same walk, with every string of every entry decoded into a lent buffer, where the Rust has it as a `String`. The sum is
 /// that of the lengths in UTF-8.
 fn ours_text(upload: &[u8], out: &mut [u8]) -> u64 {
-    let mut told = Told::<20>::new();
+    let mut told = Told::<{ sys::SYMBOL_SLOTS }>::new();
     let (mut cursor, mut sum) = (0, 0);
     loop {
         let entry = &upload[cursor..];
         match c::symbol_step(upload, &mut cursor, &mut told) {
-            c::DONE => sum += ours_text_of(entry, &told, out),
-            c::FINISHED => return sum,
+            sys::DONE => sum += ours_text_of(entry, &told, out),
+            sys::FINISHED => return sum,
             status => wrong(&format!("vindaskot_symbol_step refused with {status}")),
         }
     }
 }
 
-fn ours_text_of(entry: &[u8], told: &Told<20>, out: &mut [u8]) -> u64 {
+fn ours_text_of(entry: &[u8], told: &Told<{ sys::SYMBOL_SLOTS }>, out: &mut [u8]) -> u64 {
     let mut sum = 0;
     let mut decode = |bytes: &[u8], place: u64, len: u64| {
         sum += c::decode(&bytes[place as usize..][..len as usize], out);
         black_box(&out);
     };
-    for place in [slot::NAME, slot::TYPE_NAME, slot::COMMENT] {
+    for place in [sys::SYMBOL_NAME, sys::SYMBOL_TYPE_NAME, sys::SYMBOL_COMMENT] {
         decode(entry, told.slots[place], told.slots[place + 1]);
     }
-    let mut record = Told::<5>::new();
-    let mut left = &entry[told.number(slot::ATTRIBUTES)..];
-    for _ in 0..told.slots[slot::ATTRIBUTE_COUNT] {
+    let mut record = Told::<{ sys::ATTRIBUTE_SLOTS }>::new();
+    let mut left = &entry[told.number(sys::SYMBOL_ATTRIBUTES)..];
+    for _ in 0..told.slots[sys::SYMBOL_ATTRIBUTE_COUNT] {
         c::attribute_read(left, &mut record);
         decode(left, record.slots[0], record.slots[1]);
         decode(left, record.slots[2], record.slots[3]);
         left = &left[record.number(4)..];
     }
-    let mut left = &entry[told.number(slot::REFACTORS)..];
-    for _ in 0..told.slots[slot::REFACTOR_COUNT] {
+    let mut left = &entry[told.number(sys::SYMBOL_REFACTORS)..];
+    for _ in 0..told.slots[sys::SYMBOL_REFACTOR_COUNT] {
         c::refactor_read(left, &mut record);
         decode(left, record.slots[2], record.slots[3]);
         left = &left[record.number(4)..];

@@ -1,8 +1,9 @@
 //! Writing entries and records, and reading fields.
-use crate::c::{self, Told, field_slot};
+use crate::c::{self, Told};
 use crate::clock::{plain, race, wrong};
 use crate::report::Report;
 use crate::rig::{Rig, Symbol};
+use crate::sys;
 use crate::verify::text;
 use crate::{AdsAttribute, AdsFieldInfo, AdsRefactorInfo};
 use std::hint::black_box;
@@ -87,23 +88,22 @@ fn field_write_rows(report: &mut Report, fields: &[Field]) {
 }
 
 fn ours_read(fields: &[Field]) -> u64 {
-    use field_slot::*;
     const SUMMED: [usize; 8] = [
-        SIZE,
-        OFFSET,
-        TYPE_ID,
-        FLAGS,
-        NAME_LEN,
-        TYPE_NAME_LEN,
-        HAS_GUID,
-        ATTRIBUTE_COUNT,
+        sys::FIELD_SIZE,
+        sys::FIELD_OFFSET,
+        sys::FIELD_TYPE_ID,
+        sys::FIELD_FLAGS,
+        sys::FIELD_NAME_LEN,
+        sys::FIELD_TYPE_NAME_LEN,
+        sys::FIELD_HAS_GUID,
+        sys::FIELD_ATTRIBUTE_COUNT,
     ];
-    let mut told = Told::<17>::new();
+    let mut told = Told::<{ sys::FIELD_SLOTS }>::new();
     let mut sum = 0;
     for f in fields {
         c::field_read(black_box(&f.bytes), &mut told);
         sum += SUMMED.iter().map(|slot| told.slots[*slot]).sum::<u64>();
-        sum += (told.slots[COMMENT_LEN] != 0) as u64 + told.guid[0] as u64;
+        sum += (told.slots[sys::FIELD_COMMENT_LEN] != 0) as u64 + told.guid[0] as u64;
     }
     sum
 }

@@ -1,7 +1,7 @@
 #!/bin/sh
 # Builds a package over the supplied Rust, which stays unchanged: the oracle, and the benchmark's driver. Prints the program's path.
 #   tools/oracle/over_supplied.sh NAME PACKAGE SUPPLIED      SUPPLIED: the folder that holds packages/tcads-core
-# The package gets the glue beside this file: src/ads and bitflags. The crates come from Debian's packages, fetched once
+# The package gets the glue beside this file, src/ads and bitflags, and a link to bindings. The crates come from Debian's packages, fetched once
 # below target/oracle; what is built goes below target/NAME.
 set -eu
 name=$1
@@ -30,6 +30,7 @@ cp -r "$package/Cargo.toml" "$package/src" "$glue/bitflags" "$build/src/"
 [ ! -f "$package/build.rs" ] || cp "$package/build.rs" "$build/src/"
 [ -d "$build/src/src/ads" ] || cp -r "$glue/src/ads" "$build/src/src/"
 ln -s "$supplied" "$build/src/supplied"
+ln -s "$root/bindings" "$build/src/bindings"
 cd "$build/src"
 CARGO_HOME=$build/home CARGO_TARGET_DIR=$build/target cargo build --release --offline --quiet \
     --config 'source.crates-io.replace-with="debian"' \
