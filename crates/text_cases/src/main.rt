@@ -70,77 +70,34 @@ fn whole(work: &mut [u8]) {
     cases::end(b"whole", h);
 }
 
-fn main() {
+// Each case of these is printed.
+fn shown_cases() {
     let mut buffer = [0u8; 1024];
     let work: &mut [u8] = &mut buffer;
-    group(
-        b"none",
-        Way::Decode,
-        Inputs::Sequences { n: 0 },
-        1,
-        true,
-        work,
-    );
-    group(
-        b"none",
-        Way::Encode,
-        Inputs::Sequences { n: 0 },
-        1,
-        true,
-        work,
-    );
-    group(
-        b"bytes",
-        Way::Decode,
-        Inputs::Sequences { n: 1 },
-        256,
-        true,
-        work,
-    );
+    let none = Inputs::Sequences { n: 0 };
+    let one = Inputs::Sequences { n: 1 };
+    group(b"none", Way::Decode, none, 1, true, work);
+    group(b"none", Way::Encode, none, 1, true, work);
+    group(b"bytes", Way::Decode, one, 256, true, work);
     group(b"edges", Way::Encode, Inputs::Edges, 123, true, work);
     group(b"marks", Way::Decode, Inputs::Marks, 3, true, work);
     group(b"marks", Way::Encode, Inputs::Marks, 3, true, work);
     whole(work);
-    group(
-        b"pairs",
-        Way::Decode,
-        Inputs::Sequences { n: 2 },
-        65536,
-        false,
-        work,
-    );
-    group(
-        b"one",
-        Way::Encode,
-        Inputs::Sequences { n: 1 },
-        256,
-        false,
-        work,
-    );
-    group(
-        b"two",
-        Way::Encode,
-        Inputs::Sequences { n: 2 },
-        65536,
-        false,
-        work,
-    );
-    group(
-        b"three",
-        Way::Encode,
-        Inputs::Near { n: 3 },
-        100000,
-        false,
-        work,
-    );
-    group(
-        b"four",
-        Way::Encode,
-        Inputs::Near { n: 4 },
-        100000,
-        false,
-        work,
-    );
+}
+
+// Of these, which are many, a sum is printed.
+fn summed_cases() {
+    let mut buffer = [0u8; 1024];
+    let work: &mut [u8] = &mut buffer;
+    let one = Inputs::Sequences { n: 1 };
+    let two = Inputs::Sequences { n: 2 };
+    let three = Inputs::Near { n: 3 };
+    let four = Inputs::Near { n: 4 };
+    group(b"pairs", Way::Decode, two, 65536, false, work);
+    group(b"one", Way::Encode, one, 256, false, work);
+    group(b"two", Way::Encode, two, 65536, false, work);
+    group(b"three", Way::Encode, three, 100000, false, work);
+    group(b"four", Way::Encode, four, 100000, false, work);
     group(
         b"points",
         Way::Encode,
@@ -151,4 +108,9 @@ fn main() {
     );
     strings(b"texts", Way::Encode, false, work);
     strings(b"strings", Way::Decode, true, work);
+}
+
+fn main() {
+    shown_cases();
+    summed_cases();
 }
