@@ -1,7 +1,9 @@
 -- Laws of `utf8`, `codePoint` and `decoded`, and of a writer's answers. Assumes nothing.
 use mathlib.Core.Path.{_≡_, refl, sym, ap, _∙_, subst}
+use mathlib.Core.Logic.{⊎-elim}
 use mathlib.Core.List.{List, [], _∷_, _++_, append-assoc, append-nil}
 use Prim.Native.Nat.{ℕ, suc, _+_, _-_, _≤_, _<_}
+use native.Mathlib.Nat.{zero-add}
 use native.Mathlib.Omega.{arith}
 use lib.ListN.{length, take, drop, getD, length-append, take-append-drop}
 use borrow.Author.Tests.{lt-ltb, le-ltb}
@@ -14,7 +16,7 @@ use Rattle.refusal.specs.declared.Refusal.the-variants.{TooLarge, OutputTooSmal
 use Rattle.refusal.specs.declared.Written.{Written}
 use Rattle.refusal.specs.declared.Written.the-variants.{Done, Refused}
 use Rattle.text.specs.Utf8.{utf8}
-use Rattle.text.proofs.Utf8.{utf8-1}
+use Rattle.text.proofs.Utf8.{le-or-lt, utf8-1}
 use Rattle.text.specs.Text.{points, codePoint, decoded, limited}
 
 pub point-low : {b : ℕ} → b < 128 → codePoint b ≡ b
@@ -80,3 +82,12 @@ writes-done {bs} {old} {new} {n} w =
     let e = whole-length w in
     let t = le-ltb (length old) (length bs) (omega arith) in
     record { said = rw (t, e); left = rw t (whole-is w) }
+
+-- ---- what holds of the first 16 and of the last 16 holds of all, up to 32
+pub both-ends : (P : ℕ → Type 0) (from n : ℕ) → from + 16 ≡ n → n ≤ 32 → ((k : ℕ) → k < 16 → P (0 + k)) → ((k : ℕ) → k < 16 → P (from + k)) → (k : ℕ) → k < n → P k
+both-ends P from n e h f g k l = ⊎-elim high (λ m. subst P (zero-add k) (f k m)) (le-or-lt 16 k)
+  where
+    high : 16 ≤ k → P k
+    high m =
+        let q : from + (k - from) ≡ k = omega arith in
+        subst P q (g (k - from) (omega arith))
