@@ -1,7 +1,7 @@
 /* Vindaskot for C: reads, walks, writes, indexes and finds in TwinCAT symbol uploads.
  *
- * Link libvindaskot.a (`rt staticlib vindaskot`, or tools/bindings for all of it). Every function is proved to
- * meet a contract: the status, the answer and every lent buffer afterwards are a function of the inputs
+ * Link libvindaskot.a, which `rt staticlib vindaskot` makes in target/staticlib. Every function is proved to meet a
+ * contract: the status, the answer and every lent buffer afterwards are a function of the inputs
  * (crates/vindaskot/src). None allocates, keeps a pointer or anything else between calls, or prints: any thread may
  * call.
  *
