@@ -3,7 +3,6 @@ use Prim.Native.Nat.{ℕ}
 use mathlib.Core.Bool.{Bool, true}
 use mathlib.Core.List.{List}
 use lib.Dec.{eqb}
-use lib.ListN.{length}
 use Rattle.le.specs.Le.{if_then_else_}
 use Rattle.refusal.specs.declared.Refusal.the-variants.{UnexpectedLength}
 use Rattle.refusal.specs.declared.Checked.{Checked}

@@ -1,15 +1,12 @@
-use mathlib.Core.List.{List}
 use mathlib.Core.Path.{_≡_, refl, sym, ap, _∙_}
 use Prim.Native.Nat.{ℕ, _+_, _*_, _-_, _≤_}
 use native.Mathlib.Omega.{arith}
 use lib.Dec.{eqb}
 use lib.ListN.{getD}
 use borrow.Author.Needs.{needs}
-use borrow.Author.Tests.{eq-eqb}
 use Rattle.le.specs.Le.{if_then_else_}
 use Rattle.text.proofs.Byte.{sumTo, sumIs, sum-step, sum-is, sum-some, table-above}
-use Rattle.text.specs.Text.{points, seek}
-use Rattle.text.specs.declared.Found.the-variants.{Byte, Nothing}
+use Rattle.text.specs.Text.{points}
 use Rattle.text.proofs.find.Statement.{statement}
 use Rattle.text.proofs.find.Tie as tie
 use Rattle.text.proofs.find.Reads as reads
