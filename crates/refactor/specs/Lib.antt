@@ -1,2 +1,3 @@
 pub mod Refactor
 pub mod Writing
+pub mod Told
