@@ -10,7 +10,7 @@ use Rattle.le.specs.Le.{if_then_else_, le4, part}
 use Rattle.refusal.specs.Refusal.{limit}
 use Rattle.entry.specs.declared.Claim.the-variants as claim
 use Rattle.entry.specs.Entry.{directClaim, ownBytes}
-use Rattle.entry.specs.Whole.{Whole}
+use Rattle.entry.proofs.Whole.{Whole}
 
 module _ (header : ℕ) (e : List ℕ) (w : Whole e) (long : header ≤ length e) (small : length e ≤ limit) where
   pub direct-whole : directClaim header e ≡ claim.Entry (length e)

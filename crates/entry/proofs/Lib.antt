@@ -1,4 +1,5 @@
 pub mod Laws
 pub mod Whole
 pub mod Direct
+pub mod Claims
 pub mod Demand3

@@ -1,3 +1,4 @@
 pub mod Entry
 pub mod Walk
-pub mod Whole
+pub mod Tells
+pub mod Demand3

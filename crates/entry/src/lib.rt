@@ -2,7 +2,7 @@
 use refusal::Refusal;
 ghost use mathlib.Core.Path.{_≡_};
 ghost use Rattle.entry.specs.Entry.{claimAt, directClaim, ownBytes};
-ghost use Rattle.entry.specs.Walk.{boundedFrom};
+ghost use Rattle.entry.specs.Walk.{boundedWalk};
 
 // What a walk meets at a place: an entry of so many bytes, or a refusal of its own.
 pub enum Met {
@@ -115,7 +115,7 @@ pub fn own_bytes(bytes: &[u8], header: usize) -> &[u8]
 
 // At most so many steps of a walk. A zero claim would stay where it is, so it stops the walk.
 pub fn bounded_walk(bytes: &[u8], from: usize, allowed: usize) -> Walked
-    ensures { λ r. ⌜ r ≡ boundedFrom (now (bytes .entry)) from 0 allowed ⌝ }
+    ensures { λ r. ⌜ r ≡ boundedWalk (now (bytes .entry)) from allowed ⌝ }
 {
     let mut at = from;
     let mut left = allowed;

@@ -56,7 +56,7 @@ module _ (p : Parts) (f : Fit p) (a : Accepted p) (extra : List ℕ) (fits : len
 
   guid-of : guidAt e (length front) (flagged (p .numbers) typeGuid) ≡ guidTold
   guid-of =
-      let g = guid-part (flagged (p .numbers) typeGuid) (p .numbers .«has_guid») (p .guid) (f .guid-agrees) in
+      let g = guid-part (flagged (p .numbers) typeGuid) (p .numbers .«has_guid») (p .guid) (f .agrees .guid-agrees) in
       let r = guid-read front (p .guid) (maskPart p ++ (attributesPart p ++ extra)) (flagged (p .numbers) typeGuid) (t .guid) in
       ap (λ (l : List ℕ). guidAt l (length front) (flagged (p .numbers) typeGuid)) (header.split p t a extra fits) ∙ rw g r
 
@@ -68,7 +68,7 @@ module _ (p : Parts) (f : Fit p) (a : Accepted p) (extra : List ℕ) (fits : len
   given =
       record {
         flag-mask = refl;
-        flag-methods = f .no-methods;
+        flag-methods = f .agrees .no-methods;
         flag-attributes = refl;
         size-is = ap (λ (l : List ℕ). le4 l 16) (sym split-guid) ∙ header.size p t a extra fits;
         count-fits = λ h. omega (arith, a .count h);

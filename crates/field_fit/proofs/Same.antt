@@ -1,29 +1,33 @@
--- Everything that can be asked of a written entry, grown by any bytes, is what was written.
+-- What the walk tells of a written entry, grown by any bytes, is what was meant.
 use Prim.Native.Nat.{ℕ, _+_, _-_, _<_, _≤_}
 use native.Mathlib.Omega.{arith}
 use mathlib.Core.Path.{_≡_, refl, sym, ap, _∙_}
 use mathlib.Core.Bool.{Bool, true, false}
-use mathlib.Core.List.{List, [], _∷_, _++_, append-assoc}
-use lib.Dec.{ltb}
+use mathlib.Core.List.{List, _++_, append-assoc, map}
+use mathlib.Core.Option.{none, some}
 use lib.ListN.{length, length-append}
 use borrow.Author.Tests.{lt-ltb}
-use Rattle.le.specs.Le.{if_then_else_, bytes2, part}
+use Rattle.le.specs.Le.{if_then_else_, part}
 use Rattle.refusal.specs.Refusal.{limit}
-use Rattle.refusal.specs.Writing.{counted, goodFrom}
-use Rattle.entry.specs.Entry.{ownBytes, byClaim}
-use Rattle.entry.specs.Whole.{Whole}
+use Rattle.refusal.specs.Asked.{Given, asks}
+use Rattle.refusal.proofs.Asked.{asks-same}
+use Rattle.entry.specs.Entry.{ownBytes}
+use Rattle.entry.specs.Tells.{Entry}
+use Rattle.entry.proofs.Whole.{Whole}
 use Rattle.entry.proofs.Direct.{direct-whole, part-all, own-whole}
-use Rattle.attr.specs.Attribute.{attributeNth, nameIn, valueIn}
-use Rattle.attr.specs.Writing.{goodAttribute}
-use Rattle.attr.proofs.Read.{attribute-numbered}
+use Rattle.attr.specs.Attribute.{attributeNth}
+use Rattle.attr.specs.Told.{attributeTold, attributesIn}
+use Rattle.attr.proofs.Asked.{section-asked}
 use Rattle.guid.specs.Guid.{zeros16}
-use Rattle.guid.proofs.Read.{picked}
-use Rattle.field.specs.Field.{typeGuid, copyMask, attributes, infoOf, fieldWith, fieldEntry, fieldRead}
+use Rattle.field.specs.Field.{typeGuid, attributes, infoOf, fieldWith, fieldRead}
 use Rattle.field.specs.Questions.{fieldName, fieldTypeName, fieldComment, fieldAttribute}
+use Rattle.field.specs.declared.AdsFieldInfo.{AdsFieldInfo}
+use Rattle.field_walk.specs.Walk.{entry}
+use Rattle.field_walk.specs.Told.{fieldTold, stepTold}
 use Rattle.wire.specs.Wire.{attributesOf, entryOf}
 use Rattle.wire.proofs.Read.{entry-whole}
 use Rattle.field_writer.specs.Writing.{flagged}
-use Rattle.field_fit.specs.Demand3.{Parts, Typed, Fit, Same}
+use Rattle.field_fit.specs.Demand3.{Parts, Typed, Fit, fieldMeant}
 use Rattle.field_fit.proofs.Accepted.{Accepted}
 use Rattle.field_fit.proofs.Header as header
 use Rattle.field_fit.proofs.Header.{bodyOf, guidPart, maskPart, attributesPart}
@@ -34,12 +38,10 @@ shown : (f : Bool) (count : ℕ) → (f ≡ false → count ≡ 0) → (if f the
 shown true count h = refl
 shown false count h = sym (h refl)
 
--- attributes by their numbers, looked for only where they are flagged
-numbered : (p : List ℕ) (count : ℕ) (block rest : List ℕ) (flagged : Bool) (k : ℕ) → (flagged ≡ true → goodFrom (goodAttribute block) 0 0 count ≡ counted count (length block)) → k < (if flagged then count else 0)
-    → (nameIn (p ++ ((if flagged then bytes2 count ++ block else []) ++ rest)) (attributeNth (p ++ ((if flagged then bytes2 count ++ block else []) ++ rest)) (length p + (if flagged then 2 else 0)) k) ≡ nameIn block (attributeNth block 0 k))
-    × (valueIn (p ++ ((if flagged then bytes2 count ++ block else []) ++ rest)) (attributeNth (p ++ ((if flagged then bytes2 count ++ block else []) ++ rest)) (length p + (if flagged then 2 else 0)) k) ≡ valueIn block (attributeNth block 0 k))
-numbered p count block rest true k good h = attribute-numbered p count block rest true k (good refl) h
-numbered p count block rest false k good h = absurd (omega arith)
+-- a GUID is told where it is flagged
+told-guid : (here has : Bool) (guid zeros : List ℕ) → has ≡ here → (if here then some (if here then guid else zeros) else none) ≡ (if has then some guid else none)
+told-guid true has guid zeros e = simp e
+told-guid false has guid zeros e = simp e
 
 regroup : (f g m r : List ℕ) → f ++ (g ++ (m ++ r)) ≡ (f ++ (g ++ m)) ++ r
 regroup f g m r = simp append-assoc
@@ -81,41 +83,62 @@ module _ (p : Parts) (f : Fit p) (a : Accepted p) (extra : List ℕ) (small : le
   first = length (header.front p t a extra fits ++ guidPart p) + length (maskPart p) + (if flagged (p .numbers) attributes then 2 else 0)
 
   count-is : (if flagged (p .numbers) attributes then p .count else 0) ≡ p .count
-  count-is = shown (flagged (p .numbers) attributes) (p .count) (f .no-count)
+  count-is = shown (flagged (p .numbers) attributes) (p .count) (f .agrees .no-count)
 
   attribute-is : (k : ℕ) → k < p .count → fieldAttribute e k ≡ attributeNth e first k
   unfolding fieldAttribute fieldWith infoOf first
   attribute-is k h = simp (read, own, count-is, lt-ltb k (p .count) h)
 
-  attribute-told : (k : ℕ) → k < p .count
-      → (nameIn e (attributeNth e first k) ≡ nameIn (p .block) (attributeNth (p .block) 0 k))
-      × (valueIn e (attributeNth e first k) ≡ valueIn (p .block) (attributeNth (p .block) 0 k))
+  attributes-told : asks (λ k. attributeTold (ownBytes 42 e) (fieldAttribute e k)) (p .count) ≡ map Given (attributesIn (p .block) 0 (p .count))
   unfolding first attributesOf
-  attribute-told k h =
-      let n = numbered before (p .count) (p .block) extra (flagged (p .numbers) attributes) k (a .good) (rw count-is h) in
+  attributes-told =
       let s : e ≡ before ++ (attributesPart p ++ extra) = header.split p t a extra fits ∙ regroup (header.front p t a extra fits) (guidPart p) (maskPart p) (attributesPart p ++ extra) in
       let l : length before ≡ length (header.front p t a extra fits ++ guidPart p) + length (maskPart p) = lengths (header.front p t a extra fits) (guidPart p) (maskPart p) in
-      (rw (s, ← l) (n .0), rw (s, ← l) (n .1))
+      let n = section-asked before (p .count) (p .block) extra (flagged (p .numbers) attributes) (a .good) count-is in
+      asks-same (λ k. attributeTold (ownBytes 42 e) (fieldAttribute e k)) (λ k. attributeTold e (attributeNth e first k)) (p .count) (λ k h. rw (own, attribute-is k h))
+      ∙ rw (s, ← l) n
 
-  pub same : Same p e
-  unfolding fieldWith infoOf fieldName fieldTypeName fieldComment first
-  same =
-      record {
-        info = infoOf e (flagged (p .numbers) typeGuid) (record { first = first; count = if flagged (p .numbers) attributes then p .count else 0 });
-        read = ap (λ r. r .answer) read;
-        version = header.version p t a extra fits;
-        hash = header.hash p t a extra fits;
-        type-hash = header.type-hash p t a extra fits;
-        size = header.size p t a extra fits;
-        offset = header.offset p t a extra fits;
-        type-id = header.type-id p t a extra fits;
-        flags = ap (λ (n : ℕ). record { 0 = n }) (header.flags p t a extra fits);
-        has-guid = sym (f .guid-agrees);
-        guid = λ h. ap (λ r. r .guid) read ∙ picked (flagged (p .numbers) typeGuid) (p .guid) zeros16 (sym (f .guid-agrees) ∙ h);
-        name = simp (read, header.name-len p t a extra fits) (header.name-is p t a extra fits);
-        type-name = simp (read, header.name-len p t a extra fits, header.type-name-len p t a extra fits) (header.type-name-is p t a extra fits);
-        comment = simp (read, header.name-len p t a extra fits, header.type-name-len p t a extra fits, header.comment-len p t a extra fits) (header.comment-is p t a extra fits);
-        attributes = count-is;
-        attribute-name = λ k h. rw (own, attribute-is k h) (attribute-told k h .0);
-        attribute-value = λ k h. rw (own, attribute-is k h) (attribute-told k h .1);
-      }
+  abbrev info : AdsFieldInfo
+  info = infoOf e (flagged (p .numbers) typeGuid) (record { first = first; count = if flagged (p .numbers) attributes then p .count else 0 })
+
+  name-told : fieldName e ≡ p .name
+  unfolding fieldName fieldWith infoOf
+  name-told = simp (read, header.name-len p t a extra fits) (header.name-is p t a extra fits)
+
+  type-name-told : fieldTypeName e ≡ p .type-name
+  unfolding fieldTypeName fieldWith infoOf
+  type-name-told = simp (read, header.name-len p t a extra fits, header.type-name-len p t a extra fits) (header.type-name-is p t a extra fits)
+
+  comment-told : fieldComment e ≡ p .comment
+  unfolding fieldComment fieldWith infoOf
+  comment-told = simp (read, header.name-len p t a extra fits, header.type-name-len p t a extra fits, header.comment-len p t a extra fits) (header.comment-is p t a extra fits)
+
+  told-is : fieldTold info (guidTold p f a extra fits .bytes) e ≡ fieldMeant p extra
+  unfolding infoOf
+  told-is =
+      let g = told-guid (flagged (p .numbers) typeGuid) (p .numbers .«has_guid») (p .guid) zeros16 (f .agrees .guid-agrees) in
+      simp (
+        header.version p t a extra fits,
+        header.hash p t a extra fits,
+        header.type-hash p t a extra fits,
+        header.size p t a extra fits,
+        header.offset p t a extra fits,
+        header.type-id p t a extra fits,
+        header.flags p t a extra fits,
+        name-told,
+        type-name-told,
+        comment-told,
+        g,
+        count-is,
+        attributes-told,
+      )
+
+  length-told : info .length ≡ length e
+  unfolding infoOf
+  length-told = refl
+
+  pub same : (s : List ℕ) (at : ℕ) → part s at (length e) ≡ e → stepTold s (entry e (at + length e)) ≡ Entry (fieldMeant p extra) (length e) (at + length e)
+  unfolding fieldWith first
+  same s at h =
+      let n : at + length e - length e ≡ at = omega arith in
+      simp (entry-read p f a extra fits) (simp (length-told, n, h, told-is))

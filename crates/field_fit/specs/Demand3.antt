@@ -1,18 +1,19 @@
 -- Demand 3 for fields, stated: fit fields, written one after another, each entry grown by any bytes at its end, come back from the walk.
 use Prim.Native.Nat.{ℕ, _<_}
 use mathlib.Core.Path.{_≡_}
-use mathlib.Core.Bool.{true, false}
-use mathlib.Core.List.{List}
-use lib.ListN.{length}
-use Rattle.refusal.specs.Writing.{Bytes}
-use Rattle.entry.specs.Entry.{ownBytes}
-use Rattle.entry.specs.Whole.{Demand3}
-use Rattle.attr.specs.Attribute.{nameIn, valueIn, attributeNth}
-use Rattle.field.specs.Field.{typeGuid, methodInfos, attributes, fieldRead}
-use Rattle.field.specs.Questions.{fieldName, fieldTypeName, fieldComment, fieldAttribute}
-use Rattle.field.specs.declared.AdsFieldInfo.{AdsFieldInfo}
-use Rattle.field.specs.declared.FieldAnswer.the-variants.{Record}
-use Rattle.field_walk.specs.Walk.{finished, entry, refused}
+use mathlib.Core.Bool.{false}
+use mathlib.Core.List.{List, map}
+use mathlib.Core.Option.{none, some}
+use lib.ListN.{length, take}
+use Rattle.le.specs.Le.{if_then_else_}
+use Rattle.refusal.specs.Asked.{Given}
+use Rattle.refusal.specs.Writing.{Writing, Bytes, Writes}
+use Rattle.refusal.specs.declared.Written.the-variants.{Done}
+use Rattle.entry.specs.Demand3.{Demand3}
+use Rattle.attr.specs.Told.{attributesIn}
+use Rattle.field.specs.Field.{typeGuid, methodInfos, attributes}
+use Rattle.field_walk.specs.Walk.{fieldStep}
+use Rattle.field_walk.specs.Told.{Field, stepTold, cursorOf}
 use Rattle.field_writer.specs.Writing.{flagged, fieldBytes, fieldWriting}
 use Rattle.field_writer.specs.declared.FieldNumbers.{FieldNumbers}
 
@@ -29,6 +30,9 @@ pub record Parts : Type 0 where
 abbrev pub bytesOf : Parts → List ℕ
 bytesOf p = fieldBytes (p .numbers) (p .guid) (p .name) (p .type-name) (p .comment) (p .count) (p .block)
 
+abbrev pub writingOf : Parts → Writing
+writingOf p = fieldWriting (p .numbers) (p .guid) (p .name) (p .type-name) (p .comment) (p .count) (p .block)
+
 -- what the types of the writer's parameters say: each number fits its width, and a GUID has 16 bytes
 pub record Typed (p : Parts) : Type 0 where
   pub version : p .numbers .version < 4294967296
@@ -42,33 +46,43 @@ pub record Typed (p : Parts) : Type 0 where
 
 -- 01, "Fit records": every field that the field writer accepts with the method flag clear, the GUID present exactly if flagged,
 -- and the attribute block empty and its count 0 unless flagged
-pub record Fit (p : Parts) : Type 0 where
-  pub typed : Typed p
-  pub accepted : fieldWriting (p .numbers) (p .guid) (p .name) (p .type-name) (p .comment) (p .count) (p .block) ≡ Bytes (bytesOf p)
+pub record Agrees (p : Parts) : Type 0 where
   pub no-methods : flagged (p .numbers) methodInfos ≡ false
   pub guid-agrees : p .numbers .«has_guid» ≡ flagged (p .numbers) typeGuid
   pub no-block : flagged (p .numbers) attributes ≡ false → length (p .block) ≡ 0
   pub no-count : flagged (p .numbers) attributes ≡ false → p .count ≡ 0
 
--- the bytes of an entry tell the same field: everything that can be asked of them. Only the entry's length may differ
-pub record Same (p : Parts) (e : List ℕ) : Type 0 where
-  pub info : AdsFieldInfo
-  pub read : fieldRead e .answer ≡ Record info
-  pub version : info .version ≡ p .numbers .version
-  pub hash : info .«hash_value» ≡ p .numbers .«hash_value»
-  pub type-hash : info .«type_hash_value» ≡ p .numbers .«type_hash_value»
-  pub size : info .size ≡ p .numbers .size
-  pub offset : info .offset ≡ p .numbers .offset
-  pub type-id : info .«type_id» ≡ p .numbers .«type_id»
-  pub flags : info .flags ≡ p .numbers .flags
-  pub has-guid : info .«has_guid» ≡ p .numbers .«has_guid»
-  pub guid : p .numbers .«has_guid» ≡ true → fieldRead e .guid ≡ p .guid
-  pub name : fieldName e ≡ p .name
-  pub type-name : fieldTypeName e ≡ p .type-name
-  pub comment : fieldComment e ≡ p .comment
-  pub attributes : info .attributes .count ≡ p .count
-  pub attribute-name : (k : ℕ) → k < p .count → nameIn (ownBytes 42 e) (fieldAttribute e k) ≡ nameIn (p .block) (attributeNth (p .block) 0 k)
-  pub attribute-value : (k : ℕ) → k < p .count → valueIn (ownBytes 42 e) (fieldAttribute e k) ≡ valueIn (p .block) (attributeNth (p .block) 0 k)
+pub record Fit (p : Parts) : Type 0 where
+  pub typed : Typed p
+  pub accepted : writingOf p ≡ Bytes (bytesOf p)
+  pub agrees : Agrees p
+
+-- what a field that is written means; the bytes that its entry is grown by are not told
+abbrev pub fieldMeant : Parts → List ℕ → Field
+fieldMeant p extra =
+    record {
+      version = p .numbers .version;
+      hash = p .numbers .«hash_value»;
+      type-hash = p .numbers .«type_hash_value»;
+      size = p .numbers .size;
+      offset = p .numbers .offset;
+      type-id = p .numbers .«type_id»;
+      flags = p .numbers .flags;
+      name = p .name;
+      type-name = p .type-name;
+      comment = p .comment;
+      guid = if p .numbers .«has_guid» then some (p .guid) else none;
+      attributes = map Given (attributesIn (p .block) 0 (p .count));
+    }
 
 abbrev pub Demand3Fields : Type 0
-Demand3Fields = Demand3 Fit bytesOf Same finished entry refused
+Demand3Fields = Demand3 Fit bytesOf fieldMeant fieldStep cursorOf stepTold
+
+-- from the code's answer to demand 3: where `to_vec` answers that it wrote n bytes of a field that agrees with its flags, the field is fit, and these
+-- bytes are those that demand 3 speaks of
+pub record Reached (p : Parts) (n : ℕ) (new : List ℕ) : Type 0 where
+  pub fit : Fit p
+  pub bytes : take n new ≡ bytesOf p
+
+abbrev pub WrittenFieldsFit : Type 0
+WrittenFieldsFit = (p : Parts) (old new : List ℕ) (n : ℕ) → Typed p → Agrees p → Writes (writingOf p) old new (Done n) → Reached p n new

@@ -5,6 +5,7 @@ use Rattle.refusal.specs.declared.Refusal.{Refusal}
 use Rattle.guid.specs.Guid.{zeros16}
 use Rattle.entry.specs.Walk.{stepBy}
 use Rattle.field.specs.Field.{fieldEntry}
+use Rattle.field.specs.declared.AdsFieldInfo.{AdsFieldInfo}
 use Rattle.field.specs.declared.FieldAnswer.{FieldAnswer}
 use Rattle.field.specs.declared.FieldAnswer.the-variants as answer
 use Rattle.field.specs.declared.FieldRead.{FieldRead}
@@ -15,6 +16,12 @@ use Rattle.field_walk.specs.declared.Stepped.{Stepped}
 abbrev pub stepIs : FieldAnswer → Step
 stepIs (answer.Record info) = Record info
 stepIs (answer.Refused why) = Refused why
+
+-- by what a step gives
+abbrev pub byStep : {A : Type 0} → Step → A → (AdsFieldInfo → A) → (Refusal → A) → A
+byStep Finished finished entry stop = finished
+byStep (Record info) finished entry stop = entry info
+byStep (Refused why) finished entry stop = stop why
 
 -- a step, the GUID bytes beside it, and the cursor after it
 abbrev pub stepped : Step → List ℕ → ℕ → Stepped

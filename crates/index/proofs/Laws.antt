@@ -22,8 +22,9 @@ use Rattle.refusal.specs.declared.Refusal.the-variants.{TooShort, EntryLengthMi
 use Rattle.walk.specs.Walk.{symbolStep, stepIs}
 use Rattle.walk.specs.declared.Step.{Step}
 use Rattle.walk.specs.declared.Step.the-variants as step
+use Rattle.entry.specs.Walk.{stands, stepsFrom, steps, any}
 use Rattle.index.specs.Names.{sameName}
-use Rattle.index.specs.Steps.{stands, stepsFrom, steps, byRecord, accepted, names, those, any}
+use Rattle.index.specs.Steps.{byRecord, accepted, names, those}
 use Rattle.index.specs.Index.{starts, indexing, firstOf, find}
 use Rattle.index.specs.Inside.{headIs, lookAt, tallyOf}
 use Rattle.index.specs.declared.FindAnswer.{FindAnswer}

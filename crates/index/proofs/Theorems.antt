@@ -16,14 +16,14 @@ use Rattle.refusal.specs.declared.Refusal.the-variants.{ZeroEntryLength}
 use Rattle.refusal.specs.declared.Written.the-variants.{Done, Refused}
 use Rattle.entry.specs.Entry.{claimed, claimAt}
 use Rattle.entry.specs.declared.Met.the-variants as met
-use Rattle.entry.specs.Walk.{boundedFrom, walked}
+use Rattle.entry.specs.Walk.{stands, stepsFrom, steps, any, boundedFrom, walked}
 use Rattle.entry.specs.declared.WalkEnd.the-variants as walk-end
 use Rattle.symbol.specs.declared.AdsSymbolInfo.{AdsSymbolInfo}
 use Rattle.walk.specs.Walk.{symbolStep}
 use Rattle.walk.specs.declared.Step.{Step}
 use Rattle.walk.specs.declared.Step.the-variants as step
 use Rattle.index.specs.Names.{sameName}
-use Rattle.index.specs.Steps.{stands, stepsFrom, steps, byRecord, accepted, names, those, any}
+use Rattle.index.specs.Steps.{byRecord, accepted, names, those}
 use Rattle.index.specs.Index.{starts, indexing, firstOf, find, findIndexed}
 use Rattle.index.specs.declared.FindAnswer.{FindAnswer}
 use Rattle.index.specs.declared.FindAnswer.the-variants.{Found}

@@ -8,7 +8,8 @@ use Rattle.le.specs.Le.{if_then_else_}
 use Rattle.refusal.specs.Refusal.{limit}
 use Rattle.refusal.specs.Writing.{Writing, Bytes, Refuse}
 use Rattle.refusal.specs.declared.Refusal.the-variants.{TooLarge, ZeroEntryLength, NameNotFound}
-use Rattle.index.specs.Steps.{stands, steps, accepted, names, those, any}
+use Rattle.entry.specs.Walk.{stands, steps, any}
+use Rattle.index.specs.Steps.{accepted, names, those}
 use Rattle.index.specs.declared.FindAnswer.{FindAnswer}
 use Rattle.index.specs.declared.FindAnswer.the-variants.{Found, Refused}
 

@@ -6,7 +6,8 @@ use Rattle.le.specs.Le.{if_then_else_}
 use Rattle.entry.specs.Entry.{claimAt}
 use Rattle.walk.specs.Walk.{symbolStep}
 use Rattle.walk.specs.declared.Step.{Step}
-use Rattle.index.specs.Steps.{stands, steps, byRecord, any}
+use Rattle.entry.specs.Walk.{stands, steps, any}
+use Rattle.index.specs.Steps.{byRecord}
 use Rattle.index.specs.Index.{starts}
 use Rattle.index.specs.declared.Tally.{Tally}
 use Rattle.index.specs.declared.Tally.the-variants.{Accepted, ZeroClaim}

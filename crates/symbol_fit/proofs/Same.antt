@@ -1,33 +1,40 @@
--- Everything that can be asked of a written entry, grown by any bytes, is what was written.
-use Prim.Native.Nat.{ℕ, zero, suc, _+_, _-_, _<_, _≤_}
+-- What the walk tells of a written entry, grown by any bytes, is what was meant.
+use Prim.Native.Nat.{ℕ, _+_, _-_, _<_, _≤_}
 use native.Mathlib.Omega.{arith}
-use native.Mathlib.Nat.{add-zero, zero-add, add-assoc}
+use native.Mathlib.Nat.{add-zero, zero-add}
 use mathlib.Core.Path.{_≡_, refl, sym, ap, _∙_}
-use mathlib.Core.Bool.{Bool, true, false, Bool·beq}
-use mathlib.Core.List.{List, [], _∷_, _++_, append-assoc}
-use lib.Dec.{ltb}
+use mathlib.Core.Bool.{Bool, true, false}
+use mathlib.Core.List.{List, _++_, append-assoc, map}
+use mathlib.Core.Option.{Option, none, some}
 use lib.ListN.{length, length-append}
 use borrow.Author.Tests.{lt-ltb}
-use Rattle.le.specs.Le.{if_then_else_, le2, le4, has, part}
+use Rattle.le.specs.Le.{if_then_else_, part}
 use Rattle.refusal.specs.Refusal.{limit}
-use Rattle.entry.specs.Entry.{ownBytes, byClaim}
-use Rattle.entry.proofs.Direct.{direct-whole, part-all, own-whole}
-use Rattle.attr.specs.Attribute.{attributeNth, nameIn, valueIn}
-use Rattle.attr.proofs.Read.{attribute-numbered}
+use Rattle.refusal.specs.Asked.{Given, asks}
 use Rattle.refusal.specs.Writing.{counted, goodFrom}
+use Rattle.refusal.proofs.Asked.{asks-same}
+use Rattle.entry.specs.Entry.{ownBytes}
+use Rattle.entry.specs.Tells.{Entry}
+use Rattle.entry.proofs.Whole.{Whole}
+use Rattle.entry.proofs.Direct.{direct-whole, part-all, own-whole}
+use Rattle.attr.specs.Attribute.{attributeNth}
+use Rattle.attr.specs.Told.{attributeTold, attributesIn}
+use Rattle.attr.proofs.Asked.{section-asked}
+use Rattle.refactor.specs.Refactor.{refactorNth}
 use Rattle.refactor.specs.Writing.{goodRefactor}
-use Rattle.refactor.specs.Refactor as chain
-use Rattle.refactor.specs.declared.RefactorAnswer.{RefactorAnswer}
-use Rattle.refactor.proofs.Read as chained
+use Rattle.refactor.specs.Told.{renamingTold, renamingsIn}
+use Rattle.refactor.proofs.Asked.{asks-read}
+use Rattle.refactor.proofs.Read.{beq}
 use Rattle.guid.specs.Guid.{zeros16}
-use Rattle.guid.proofs.Read.{picked}
-use Rattle.symbol.specs.Symbol.{typeGuid, attributes, extendedFlags, refactorInfo, infoRecord, infoOf, symbolEntry, symbolRead}
+use Rattle.symbol.specs.Symbol.{typeGuid, attributes, extendedFlags, infoRecord, infoOf, symbolRead}
 use Rattle.symbol.specs.Questions.{symbolName, symbolTypeName, symbolComment, symbolAttribute, symbolRefactor}
-use Rattle.entry.specs.Whole.{Whole}
+use Rattle.symbol.specs.declared.AdsSymbolInfo.{AdsSymbolInfo}
+use Rattle.walk.specs.Walk.{entry}
+use Rattle.walk.specs.Told.{symbolTold, stepTold}
 use Rattle.wire.specs.Wire.{attributesOf, entryOf}
 use Rattle.wire.proofs.Read.{entry-whole}
 use Rattle.symbol_writer.specs.Writing.{Parts, flagged, guidOf, extendedOf}
-use Rattle.symbol_fit.specs.Demand3.{Typed, Same, told}
+use Rattle.symbol_fit.specs.Demand3.{Typed, symbolMeant}
 use Rattle.symbol_fit.proofs.Accepted.{Accepted, count-shown}
 use Rattle.symbol_fit.proofs.Header as header
 use Rattle.symbol_fit.proofs.Header.{bodyOf, guidPart, attributesPart, extendedPart, tailOf}
@@ -35,6 +42,11 @@ use Rattle.symbol_fit.proofs.Entry.{sectionsTold, entry-read}
 
 regroup : (f g a x r : List ℕ) → f ++ (g ++ (a ++ (x ++ r))) ≡ (f ++ (g ++ (a ++ x))) ++ r
 regroup f g a x r = simp append-assoc
+
+-- a GUID is told where it is flagged
+told-guid : (here has : Bool) (guid zeros : List ℕ) → has ≡ here → (if here then some (if here then guid else zeros) else none) ≡ (if has then some guid else none)
+told-guid true has guid zeros e = simp e
+told-guid false has guid zeros e = simp e
 
 module _ (p : Parts) (t : Typed p) (a : Accepted p) (extra : List ℕ) (small : length (bodyOf p ++ extra) + 4 ≤ limit) where
   fits : length (bodyOf p ++ extra) + 4 < 4294967296
@@ -71,60 +83,83 @@ module _ (p : Parts) (t : Typed p) (a : Accepted p) (extra : List ℕ) (small : 
   abbrev front : List ℕ
   front = header.front p t a extra fits
 
-  attribute-told : (k : ℕ) → k < p .attribute-count
-      → (nameIn e (attributeNth e first k) ≡ nameIn (p .attribute-block) (attributeNth (p .attribute-block) 0 k))
-      × (valueIn e (attributeNth e first k) ≡ valueIn (p .attribute-block) (attributeNth (p .attribute-block) 0 k))
+  attributes-told : asks (λ k. attributeTold (ownBytes 30 e) (symbolAttribute e k)) (p .attribute-count) ≡ map Given (attributesIn (p .attribute-block) 0 (p .attribute-count))
   unfolding first attributesOf
-  attribute-told k h =
+  attributes-told =
       let rest : List ℕ = extendedPart p ++ (p .refactor-block ++ extra) in
-      let n = attribute-numbered (front ++ guidPart p) (p .attribute-count) (p .attribute-block) rest (flagged (p .numbers) attributes) k (a .attributes-good) (rw (count-shown p a) h) in
       let s : e ≡ (front ++ guidPart p) ++ (attributesPart p ++ rest) = header.split p t a extra fits ∙ sym (append-assoc front (guidPart p) (attributesPart p ++ rest)) in
       let l : length (front ++ guidPart p) ≡ length front + length (guidPart p) = length-append front (guidPart p) in
-      (rw (s, ← l) (n .0), rw (s, ← l) (n .1))
+      let n = section-asked (front ++ guidPart p) (p .attribute-count) (p .attribute-block) rest (flagged (p .numbers) attributes) (λ _. a .attributes-good) (count-shown p a) in
+      asks-same (λ k. attributeTold (ownBytes 30 e) (symbolAttribute e k)) (λ k. attributeTold e (attributeNth e first k)) (p .attribute-count) (λ k h. rw (own, attribute-is k h))
+      ∙ rw (s, ← l) n
 
   link : ℕ
   link = length front + (length (guidPart p) + (length (attributesPart p) + length (extendedPart p)))
 
-  refactor-is : (k : ℕ) → k < p .refactor-count → symbolRefactor e k ≡ chain.refactorNth e link k
+  refactor-is : (k : ℕ) → k < p .refactor-count → symbolRefactor e k ≡ refactorNth e link k
   unfolding symbolRefactor infoOf infoRecord link guidOf attributesOf extendedOf
   refactor-is k h = simp (read, own, lt-ltb k (p .refactor-count) h)
 
-  refactor-told : (k : ℕ) → k < p .refactor-count
-      → (told (chain.refactorNth e link k) ≡ told (chain.refactorNth (p .refactor-block) 0 k))
-      × (chain.nameIn e (chain.refactorNth e link k) ≡ chain.nameIn (p .refactor-block) (chain.refactorNth (p .refactor-block) 0 k))
+  refactors-told : asks (λ k. renamingTold (ownBytes 30 e) (symbolRefactor e k)) (p .refactor-count) ≡ map Given (renamingsIn (p .refactor-block) 0 (p .refactor-count))
   unfolding link
-  refactor-told k h =
+  refactors-told =
       let before : List ℕ = front ++ (guidPart p ++ (attributesPart p ++ extendedPart p)) in
       let good : goodFrom (goodRefactor (p .refactor-block)) 0 0 (p .refactor-count) ≡ counted (0 + p .refactor-count) (length (p .refactor-block)) = rw zero-add (a .chain-good) in
-      let n = chained.nth-read before (p .refactor-block) extra 0 0 (p .refactor-count) (length (p .refactor-block)) k good h in
-      let m = chained.name-read before (p .refactor-block) extra 0 0 (p .refactor-count) (length (p .refactor-block)) k good h in
       let s : e ≡ before ++ (p .refactor-block ++ extra) = header.split p t a extra fits ∙ regroup front (guidPart p) (attributesPart p) (extendedPart p) (p .refactor-block ++ extra) in
       let l : length before + 0 ≡ length front + (length (guidPart p) + (length (attributesPart p) + length (extendedPart p))) = simp (add-zero, length-append) in
-      let there = rw l at (n .there) in
-      (rw s (simp (there, n .here)), rw (s, ← l) m)
+      asks-same (λ k. renamingTold (ownBytes 30 e) (symbolRefactor e k)) (λ k. renamingTold e (refactorNth e link k)) (p .refactor-count) (λ k h. rw (own, refactor-is k h))
+      ∙ rw (s, ← l) (asks-read before (p .refactor-block) extra 0 0 (p .refactor-count) (length (p .refactor-block)) good)
 
-  pub same : Same p e
-  unfolding infoOf infoRecord symbolName symbolTypeName symbolComment
-  same =
-      record {
-        info = infoRecord e (sectionsTold p t a extra fits);
-        read = ap (λ r. r .answer) read;
-        group = ap (λ (n : ℕ). record { 0 = n }) (header.group p t a extra fits);
-        offset = ap (λ (n : ℕ). record { 0 = n }) (header.offset p t a extra fits);
-        size = header.size p t a extra fits;
-        type-id = header.type-id p t a extra fits;
-        flags = ap (λ (n : ℕ). record { 0 = n }) (header.flags p t a extra fits);
-        has-extended = refl;
-        extended = refl;
-        has-guid = sym (chained.beq _ _ (a .guid-agrees));
-        guid = λ h. ap (λ r. r .guid) read ∙ picked (flagged (p .numbers) typeGuid) (p .guid) zeros16 (sym (chained.beq _ _ (a .guid-agrees)) ∙ h);
-        name = simp (read, header.name-len p t a extra fits) (header.name-is p t a extra fits);
-        type-name = simp (read, header.name-len p t a extra fits, header.type-name-len p t a extra fits) (header.type-name-is p t a extra fits);
-        comment = simp (read, header.name-len p t a extra fits, header.type-name-len p t a extra fits, header.comment-len p t a extra fits) (header.comment-is p t a extra fits);
-        attributes = count-shown p a;
-        attribute-name = λ k h. rw (own, attribute-is k h) (attribute-told k h .0);
-        attribute-value = λ k h. rw (own, attribute-is k h) (attribute-told k h .1);
-        refactors = refl;
-        refactor-told = λ k h. rw (refactor-is k h) (refactor-told k h .0);
-        refactor-name = λ k h. rw (own, refactor-is k h) (refactor-told k h .1);
-      }
+  abbrev info : AdsSymbolInfo
+  info = infoRecord e (sectionsTold p t a extra fits)
+
+  name-told : symbolName e ≡ p .name
+  unfolding symbolName infoOf infoRecord
+  name-told = simp (read, header.name-len p t a extra fits) (header.name-is p t a extra fits)
+
+  type-name-told : symbolTypeName e ≡ p .type-name
+  unfolding symbolTypeName infoOf infoRecord
+  type-name-told = simp (read, header.name-len p t a extra fits, header.type-name-len p t a extra fits) (header.type-name-is p t a extra fits)
+
+  comment-told : symbolComment e ≡ p .comment
+  unfolding symbolComment infoOf infoRecord
+  comment-told = simp (read, header.name-len p t a extra fits, header.type-name-len p t a extra fits, header.comment-len p t a extra fits) (header.comment-is p t a extra fits)
+
+  -- the bytes that were added stay unread
+  unread-told : info .unread ≡ length extra
+  unfolding infoRecord guidOf attributesOf extendedOf
+  unread-told =
+      let sections : ℕ = length (guidPart p) + (length (attributesPart p) + length (extendedPart p)) in
+      let n : length e ≡ length front + (length (guidPart p) + (length (attributesPart p) + (length (extendedPart p) + (length (p .refactor-block) + length extra)))) = ap length (header.split p t a extra fits) ∙ simp length-append in
+      let m : sectionsTold p t a extra fits .next ≡ length front + sections + length (p .refactor-block) = refl in
+      omega (arith, n, m)
+
+  length-told : info .length ≡ length e
+  unfolding infoRecord
+  length-told = refl
+
+  told-is : symbolTold info (sectionsTold p t a extra fits .guid) e ≡ symbolMeant p extra
+  unfolding infoRecord
+  told-is =
+      let g = told-guid (flagged (p .numbers) typeGuid) (p .numbers .«has_guid») (p .guid) zeros16 (beq _ _ (a .guid-agrees)) in
+      simp (
+        header.group p t a extra fits,
+        header.offset p t a extra fits,
+        header.size p t a extra fits,
+        header.type-id p t a extra fits,
+        header.flags p t a extra fits,
+        name-told,
+        type-name-told,
+        comment-told,
+        g,
+        count-shown p a,
+        attributes-told,
+        refactors-told,
+        unread-told,
+      )
+
+  pub same : (s : List ℕ) (at : ℕ) → part s at (length e) ≡ e → stepTold s (entry e (at + length e)) ≡ Entry (symbolMeant p extra) (length e) (at + length e)
+  unfolding infoOf
+  same s at h =
+      let n : at + length e - length e ≡ at = omega arith in
+      simp (entry-read p t a extra fits) (simp (length-told, n, h, told-is))

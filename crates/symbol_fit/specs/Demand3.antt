@@ -1,20 +1,19 @@
 -- Demand 3 for symbols, stated: fit symbols, written one after another, each entry grown by any bytes at its end, come back from the walk.
 use Prim.Native.Nat.{ℕ, _<_}
 use mathlib.Core.Path.{_≡_}
-use mathlib.Core.Bool.{Bool, true, false}
-use mathlib.Core.List.{List}
-use lib.ListN.{length}
-use Rattle.refusal.specs.Writing.{Bytes}
-use Rattle.entry.specs.Entry.{ownBytes}
-use Rattle.entry.specs.Whole.{Demand3}
-use Rattle.attr.specs.Attribute as attr
-use Rattle.refactor.specs.Refactor as chain
-use Rattle.refactor.specs.declared.RefactorAnswer.{RefactorAnswer}
-use Rattle.symbol.specs.Symbol.{symbolRead, extendedFlags}
-use Rattle.symbol.specs.Questions.{symbolName, symbolTypeName, symbolComment, symbolAttribute, symbolRefactor}
-use Rattle.symbol.specs.declared.AdsSymbolInfo.{AdsSymbolInfo}
-use Rattle.symbol.specs.declared.SymbolAnswer.the-variants.{Record}
-use Rattle.walk.specs.Walk.{finished, entry, refused}
+use mathlib.Core.List.{List, map}
+use mathlib.Core.Option.{none, some}
+use lib.ListN.{length, take}
+use Rattle.le.specs.Le.{if_then_else_}
+use Rattle.refusal.specs.Asked.{Given}
+use Rattle.refusal.specs.Writing.{Bytes, Writes}
+use Rattle.refusal.specs.declared.Written.the-variants.{Done}
+use Rattle.entry.specs.Demand3.{Demand3}
+use Rattle.attr.specs.Told.{attributesIn}
+use Rattle.refactor.specs.Told.{renamingsIn}
+use Rattle.symbol.specs.Symbol.{extendedFlags}
+use Rattle.walk.specs.Walk.{symbolStep}
+use Rattle.walk.specs.Told.{Symbol, stepTold, cursorOf}
 use Rattle.symbol_writer.specs.Writing.{Parts, flagged, symbolBytes, symbolWriting}
 
 -- what the types of the writer's parameters say: each number fits its width, and a GUID has 16 bytes
@@ -32,40 +31,32 @@ pub record Fit (p : Parts) : Type 0 where
   pub typed : Typed p
   pub accepted : symbolWriting p ≡ Bytes (symbolBytes p)
 
--- the count of a refactor record, and whether another follows
-pub record Told : Type 0 where
-  pub count : ℕ
-  pub follows : Bool
-
-abbrev pub told : RefactorAnswer → Told
-told t = chain.byRefactor t (λ r. record { count = r .«refactor_count»; follows = r .«next_refactor_info» }) (λ why. record { count = 0; follows = false })
-
--- the bytes of an entry tell the same symbol: everything that can be asked of them. Only the entry's length and its unread count may differ
-pub record Same (p : Parts) (e : List ℕ) : Type 0 where
-  pub info : AdsSymbolInfo
-  pub read : symbolRead e .answer ≡ Record info
-  pub group : info .«index_group» ≡ p .numbers .«index_group»
-  pub offset : info .«index_offset» ≡ p .numbers .«index_offset»
-  pub size : info .size ≡ p .numbers .size
-  pub type-id : info .«data_type_id» ≡ p .numbers .«data_type_id»
-  pub flags : info .flags ≡ p .numbers .flags
-  pub has-extended : info .extended .here ≡ flagged (p .numbers) extendedFlags
-  pub extended : info .extended .flags ≡ p .numbers .«extended_flags»
-  pub has-guid : info .«has_guid» ≡ p .numbers .«has_guid»
-  pub guid : p .numbers .«has_guid» ≡ true → symbolRead e .guid ≡ p .guid
-  pub name : symbolName e ≡ p .name
-  pub type-name : symbolTypeName e ≡ p .type-name
-  pub comment : symbolComment e ≡ p .comment
-  pub attributes : info .attributes .count ≡ p .attribute-count
-  pub attribute-name : (k : ℕ) → k < p .attribute-count
-      → attr.nameIn (ownBytes 30 e) (symbolAttribute e k) ≡ attr.nameIn (p .attribute-block) (attr.attributeNth (p .attribute-block) 0 k)
-  pub attribute-value : (k : ℕ) → k < p .attribute-count
-      → attr.valueIn (ownBytes 30 e) (symbolAttribute e k) ≡ attr.valueIn (p .attribute-block) (attr.attributeNth (p .attribute-block) 0 k)
-  pub refactors : info .«refactor_infos» .count ≡ p .refactor-count
-  pub refactor-told : (k : ℕ) → k < p .refactor-count
-      → told (symbolRefactor e k) ≡ told (chain.refactorNth (p .refactor-block) 0 k)
-  pub refactor-name : (k : ℕ) → k < p .refactor-count
-      → chain.nameIn (ownBytes 30 e) (symbolRefactor e k) ≡ chain.nameIn (p .refactor-block) (chain.refactorNth (p .refactor-block) 0 k)
+-- what a symbol that is written means, and the bytes that its entry is grown by: these stay unread, and nothing else
+abbrev pub symbolMeant : Parts → List ℕ → Symbol
+symbolMeant p extra =
+    record {
+      group = p .numbers .«index_group»;
+      offset = p .numbers .«index_offset»;
+      size = p .numbers .size;
+      type-id = p .numbers .«data_type_id»;
+      flags = p .numbers .flags;
+      name = p .name;
+      type-name = p .type-name;
+      comment = p .comment;
+      guid = if p .numbers .«has_guid» then some (p .guid) else none;
+      attributes = map Given (attributesIn (p .attribute-block) 0 (p .attribute-count));
+      extended = if flagged (p .numbers) extendedFlags then some (p .numbers .«extended_flags») else none;
+      refactors = map Given (renamingsIn (p .refactor-block) 0 (p .refactor-count));
+      unread = length extra;
+    }
 
 abbrev pub Demand3Symbols : Type 0
-Demand3Symbols = Demand3 Fit symbolBytes Same finished entry refused
+Demand3Symbols = Demand3 Fit symbolBytes symbolMeant symbolStep cursorOf stepTold
+
+-- from the code's answer to demand 3: where `to_vec` answers that it wrote n bytes, the symbol is fit, and these bytes are those that demand 3 speaks of
+pub record Reached (p : Parts) (n : ℕ) (new : List ℕ) : Type 0 where
+  pub fit : Fit p
+  pub bytes : take n new ≡ symbolBytes p
+
+abbrev pub WrittenSymbolsFit : Type 0
+WrittenSymbolsFit = (p : Parts) (old new : List ℕ) (n : ℕ) → Typed p → Writes (symbolWriting p) old new (Done n) → Reached p n new

@@ -5,6 +5,7 @@ use Rattle.refusal.specs.declared.Refusal.{Refusal}
 use Rattle.guid.specs.Guid.{zeros16}
 use Rattle.entry.specs.Walk.{stepBy}
 use Rattle.symbol.specs.Symbol.{symbolEntry}
+use Rattle.symbol.specs.declared.AdsSymbolInfo.{AdsSymbolInfo}
 use Rattle.symbol.specs.declared.SymbolAnswer.{SymbolAnswer}
 use Rattle.symbol.specs.declared.SymbolAnswer.the-variants as answer
 use Rattle.symbol.specs.declared.SymbolRead.{SymbolRead}
@@ -15,6 +16,12 @@ use Rattle.walk.specs.declared.Stepped.{Stepped}
 abbrev pub stepIs : SymbolAnswer → Step
 stepIs (answer.Record info) = Record info
 stepIs (answer.Refused why) = Refused why
+
+-- by what a step gives
+abbrev pub byStep : {A : Type 0} → Step → A → (AdsSymbolInfo → A) → (Refusal → A) → A
+byStep Finished finished entry stop = finished
+byStep (Record info) finished entry stop = entry info
+byStep (Refused why) finished entry stop = stop why
 
 -- a step, the GUID bytes beside it, and the cursor after it
 abbrev pub stepped : Step → List ℕ → ℕ → Stepped

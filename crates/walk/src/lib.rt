@@ -6,7 +6,7 @@ use symbol::AdsSymbolInfo;
 use symbol::SymbolAnswer;
 use symbol::SymbolRead;
 ghost use mathlib.Core.Path.{_≡_};
-ghost use Rattle.entry.specs.Walk.{boundedFrom};
+ghost use Rattle.entry.specs.Walk.{boundedWalk};
 ghost use Rattle.walk.specs.Walk.{symbolStep, stepOf};
 
 // The place in the upload where the next step begins.
@@ -57,7 +57,7 @@ impl Cursor {
     }
 
     pub fn walk(self, bytes: &[u8], allowed: usize) -> Walked
-        ensures { λ r. ⌜ r ≡ boundedFrom (now (bytes .entry)) (self .at) 0 allowed ⌝ }
+        ensures { λ r. ⌜ r ≡ boundedWalk (now (bytes .entry)) (self .at) allowed ⌝ }
     {
         entry::bounded_walk(bytes, self.at, allowed)
     }

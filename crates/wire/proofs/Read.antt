@@ -13,11 +13,13 @@ use Rattle.le.proofs.Inside.{part-whole}
 use Rattle.refusal.specs.Refusal.{limit}
 use Rattle.refusal.specs.Writing.{Writing, Bytes, Refuse, counted, goodFrom}
 use Rattle.refusal.specs.declared.Refusal.{Refusal}
+use Rattle.refusal.specs.declared.Refusal.the-variants.{TooLarge}
 use Rattle.refusal.specs.declared.Checked.{Checked}
 use Rattle.refusal.specs.declared.Checked.the-variants.{Passed, Refused}
 use Rattle.refusal.proofs.Laws.{passed, exact}
 use Rattle.attr.specs.Writing.{goodAttribute, attributesChecked}
-use Rattle.entry.specs.Whole.{Whole, grown}
+use Rattle.entry.specs.Demand3.{grown}
+use Rattle.entry.proofs.Whole.{Whole}
 use Rattle.wire.specs.Wire.{stringOf, stringsOf, tooLong, thenCheck, blockChecked, entryOf, entryWriting}
 
 -- an entry, and one that is grown
@@ -65,3 +67,7 @@ block-good count block h = exact count (length block) (goodFrom (goodAttribute b
 pub entry-small : (e bs : List ℕ) → entryWriting e ≡ Bytes bs → length e ≤ limit
 unfolding entryWriting
 entry-small e bs h = ltb-false limit (length e) (passed _ _ _ bs h .0)
+
+pub entry-is : (e bs : List ℕ) → entryWriting e ≡ Bytes bs → bs ≡ e
+unfolding entryWriting
+entry-is e bs h = let w : Bytes e ≡ Bytes bs = passed (ltb limit (length e)) (TooLarge (length e)) (Bytes e) bs h .1 in cc

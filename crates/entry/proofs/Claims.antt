@@ -1,0 +1,61 @@
+-- What is known where a step meets an entry.
+use Prim.Native.Nat.{ℕ, _+_, _-_, _<_, _≤_}
+use native.Mathlib.Omega.{arith}
+use native.Mathlib.Nat.{add-zero}
+use mathlib.Core.Path.{_≡_, refl, sym, ap, _∙_}
+use mathlib.Core.Bool.{Bool, true, false}
+use mathlib.Core.List.{List}
+use lib.Dec.{ltb, leb}
+use lib.ListN.{length, drop, length-drop}
+use lib.Seq.{length-take-le, getD-take, getD-drop}
+use borrow.Author.Tests.{leb-false, ltb-false}
+use Rattle.le.specs.Le.{if_then_else_, le4, part}
+use Rattle.refusal.specs.Refusal.{limit}
+use Rattle.refusal.specs.declared.Refusal.{Refusal}
+use Rattle.entry.specs.declared.Met.the-variants as met
+use Rattle.entry.specs.declared.Claimed.{Claimed}
+use Rattle.entry.specs.Entry.{claimed, claimAt}
+use Rattle.entry.proofs.Whole.{Whole}
+
+module _ (x y z : Refusal) (at n c size : ℕ) where
+  abbrev by : Bool → Bool → Bool → Bool → Claimed
+  by p q r t = if p then claimed met.Finished at else if q then claimed (met.Refused x) n else if r then claimed (met.Refused y) n else if t then claimed (met.Refused z) n else claimed (met.Entry c) (at + c)
+
+  entry-by : (p q r t : Bool) → by p q r t .met ≡ met.Entry size → (p ≡ false) × (q ≡ false) × (r ≡ false) × (t ≡ false) × (c ≡ size) × (by p q r t .next ≡ at + size)
+  entry-by true q r t e = absurd (let u : _≡_ {A = ℕ} 0 1 = cc in omega arith)
+  entry-by false true r t e = absurd (let u : _≡_ {A = ℕ} 0 1 = cc in omega arith)
+  entry-by false false true t e = absurd (let u : _≡_ {A = ℕ} 0 1 = cc in omega arith)
+  entry-by false false false true e = absurd (let u : _≡_ {A = ℕ} 0 1 = cc in omega arith)
+  entry-by false false false false e = let u : c ≡ size = cc in (refl, refl, refl, refl, u, ap (λ (k : ℕ). at + k) u)
+
+-- where a step meets an entry: its claim, which the upload has room for, moves the cursor
+pub record Meets (s : List ℕ) (at size : ℕ) : Type 0 where
+  pub claim : le4 s at ≡ size
+  pub room : at + size ≤ length s
+  pub four : at + 4 ≤ length s
+  pub small : length s ≤ limit
+  pub next : claimAt s at .next ≡ at + size
+
+pub meets : (s : List ℕ) (at size : ℕ) → claimAt s at .met ≡ met.Entry size → Meets s at size
+unfolding claimAt
+meets s at size e =
+    let b = entry-by _ _ _ at (length s) (le4 s at) size (leb (length s) at) (ltb limit (length s)) (ltb (length s - at) 4) (ltb (length s - at) (le4 s at)) e in
+    let before : at < length s = leb-false (length s) at (b .0) in
+    let four : 4 ≤ length s - at = ltb-false (length s - at) 4 (b .2) in
+    let room : le4 s at ≤ length s - at = ltb-false (length s - at) (le4 s at) (b .3) in
+    record { claim = b .4; room = omega (arith, b .4); four = omega arith; small = ltb-false limit (length s) (b .1); next = b .5 }
+
+-- its own bytes are a whole entry, where they hold their claim
+pub own-length : (s : List ℕ) (at size : ℕ) → at + size ≤ length s → length (part s at size) ≡ size
+unfolding part
+own-length s at size h = length-take-le size (drop at s) (simp length-drop (omega arith))
+
+pub own-claim : (s : List ℕ) (at size : ℕ) → 4 ≤ size → le4 (part s at size) 0 ≡ le4 s at
+unfolding part le4
+own-claim s at size h =
+    simp (getD-take size (drop at s) 0 0 (omega arith), getD-take size (drop at s) 1 0 (omega arith), getD-take size (drop at s) 2 0 (omega arith), getD-take size (drop at s) 3 0 (omega arith), getD-drop, add-zero)
+
+pub own-whole : (s : List ℕ) (at size : ℕ) → Meets s at size → 4 ≤ size → Whole (part s at size)
+own-whole s at size m h =
+    let l = own-length s at size (m .room) in
+    record { claims = own-claim s at size h ∙ m .claim ∙ sym l; long = omega arith }

@@ -1,0 +1,21 @@
+-- A step over an upload of symbols, by what it makes of an end, of an entry and of a refusal; so its walk is the one walk.
+use mathlib.Core.Path.{refl}
+use Rattle.entry.proofs.Demand3.{Kind, moves}
+use Rattle.entry.proofs.Laws.{one-walk}
+use Rattle.walk.specs.Walk.{finished, entry, refused, symbolStep}
+use Rattle.walk.specs.Told.{stepTold, cursorOf, OneSymbolWalk}
+
+pub kind : Kind symbolStep cursorOf stepTold finished entry refused
+unfolding symbolStep
+kind =
+    record {
+      is = λ s at. refl;
+      end-cursor = λ n. refl;
+      entry-cursor = λ e n. refl;
+      refused-cursor = λ why n. refl;
+      end-told = λ s n. refl;
+      refused-told = λ s why n. refl;
+    }
+
+pub one-symbol-walk : OneSymbolWalk
+one-symbol-walk = one-walk symbolStep cursorOf (moves kind)
