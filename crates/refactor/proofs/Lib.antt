@@ -1,2 +1,4 @@
 pub mod Laws
 pub mod Read
+pub mod Mask
+pub mod Shown
