@@ -1,9 +1,9 @@
--- The packed count: it keeps within its mask, says whether another follows, and fits four bytes.
-use Prim.Native.Nat.{ℕ, zero, suc, _+_, _*_, _/_, _%_, _^_, _<_, _≤_, min, max}
+-- The packed count: it keeps within its mask and says whether another follows.
+use Prim.Native.Nat.{ℕ, zero, suc, _*_, _/_, _%_, _≤_, min, max}
 use native.Mathlib.Omega.{arith}
-use mathlib.Core.Path.{_≡_, refl, sym, ap, ap₂, _∙_}
+use mathlib.Core.Path.{_≡_, sym, ap, _∙_}
 use mathlib.Core.Bool.{Bool, true, false}
-use lib.Bits.{bitAnd, bitOr, and-step, or-step, and-zero-r, and-shr, or-shr, and-mask, and-high, and-le-r, or-lt, or-add-and}
+use lib.Bits.{bitAnd, bitOr, and-step, or-step, and-zero-r, and-shr, or-shr, and-mask, and-high, or-add-and}
 use lib.Dec.{eqb}
 use borrow.Author.Tests.{eqb-true}
 use Rattle.le.specs.Le.{if_then_else_, has}
@@ -65,11 +65,6 @@ told-follower count false =
     let t : bitAnd (count / follower) 1 ≡ count / follower % 2 = and-mask (count / follower) 1 in
     let u : bitAnd count mask / follower % 2 ≡ count / follower % 2 = omega arith in
     ap (λ (x : ℕ). eqb x 1) u
-
-pub fits-four : (count : ℕ) (hasNext : Bool) → packedOf count hasNext < 4294967296
-unfolding packedOf
-fits-four count true = or-lt 32 (bitAnd count mask) follower (omega (arith, and-le-r count mask)) (omega arith)
-fits-four count false = omega (arith, and-le-r count mask)
 
 -- a count within the mask that says rightly whether another follows is packed as it is
 pub packed-same : (count : ℕ) (hasNext : Bool) → bitAnd count mask ≡ count → has count follower ≡ hasNext → packedOf count hasNext ≡ count

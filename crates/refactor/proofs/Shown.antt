@@ -14,7 +14,7 @@ use Rattle.refactor.specs.declared.RefactorAnswer.the-variants.{Record, 
 use Rattle.refactor.specs.declared.Chain.{Chain}
 use Rattle.refactor.specs.declared.ChainAnswer.{ChainAnswer}
 use Rattle.refactor.specs.declared.ChainAnswer.the-variants as chain
-use Rattle.refactor.specs.Refactor.{refactorAt, byRefactor, chainFrom, chainAt, keptChain, chainSection, refactorNth}
+use Rattle.refactor.specs.Refactor.{refactorAt, chainFrom, chainAt, keptChain, chainSection, refactorNth}
 use Rattle.refactor.specs.Inside.{Inside}
 use Rattle.refactor.proofs.Laws.{chainBy, record-inside}
 use Rattle.refactor.proofs.Read as read
@@ -29,6 +29,7 @@ lies s at r h =
 
 -- of a whole chain from a place on, after so many records
 record Shown (s : List ℕ) (at count : ℕ) (c : Chain) : Type 0 where
+  from : at ≤ c .next
   next : c .next ≤ length s
   each : (k : ℕ) → count + k < c .count → Inside s (refactorNth s at k)
 
@@ -43,11 +44,11 @@ module _ (s : List ℕ) (at count : ℕ) (c : Chain) where
     after : (r : AdsRefactorInfo) → refactorAt s at ≡ Record r → (more : Bool) → (if more then on (r .next) else chain.Whole (record { count = count + 1; next = r .next })) ≡ chain.Whole c → Shown s at count c
     after r e true h =
         let t = rest (r .next) h in
-        record { next = t .next; each = each-after r e (t .each) }
+        record { from = omega (arith, record-inside s at r e .0, t .from); next = t .next; each = each-after r e (t .each) }
     after r e false h =
         let n : r .next ≡ c .next = cc in
         let m : count + 1 ≡ c .count = cc in
-        record { next = omega (arith, record-inside s at r e .1); each = each-after r e (λ k j. absurd (omega arith)) }
+        record { from = omega (arith, record-inside s at r e .0); next = omega (arith, record-inside s at r e .1); each = each-after r e (λ k j. absurd (omega arith)) }
 
     turn : (t : RefactorAnswer) → refactorAt s at ≡ t → chainBy s at count t on ≡ chain.Whole c → Shown s at count c
     turn (Record r) e h = after r e (r .«next_refactor_info») h
@@ -61,20 +62,20 @@ chain-shown s at count (suc left) c h = turn s at count c (λ n. chainFrom s n (
 module _ (s : List ℕ) (at : ℕ) (h : at ≤ length s) where
   kept : (t : ChainAnswer) → chainFrom s at 0 (length s - at) ≡ t → Shown s at 0 (keptChain t at)
   kept (chain.Whole c) e = chain-shown s at 0 (length s - at) c e
-  kept (chain.Refused why) e = record { next = h; each = λ k j. absurd (omega arith) }
+  kept (chain.Refused why) e = record { from = omega arith; next = h; each = λ k j. absurd (omega arith) }
 
   there : (here : Bool) → Shown s at 0 (if here then keptChain (chainFrom s at 0 (length s - at)) at else record { count = 0; next = at })
   there true = kept (chainFrom s at 0 (length s - at)) refl
-  there false = record { next = h; each = λ k j. absurd (omega arith) }
+  there false = record { from = omega arith; next = h; each = λ k j. absurd (omega arith) }
 
   section : (flagged : Bool) → Shown s at 0 (chainSection s at flagged)
   unfolding chainSection chainAt
   section true = there (ltb at (length s))
-  section false = record { next = h; each = λ k j. absurd (omega arith) }
+  section false = record { from = omega arith; next = h; each = λ k j. absurd (omega arith) }
 
   -- every record of a chain that begins inside lies inside, and the chain ends inside
   pub chain-inside : (flagged : Bool) (k : ℕ) → k < chainSection s at flagged .count → Inside s (refactorNth s at k)
   chain-inside flagged k j = section flagged .each k (rw zero-add j)
 
-  pub chain-end : (flagged : Bool) → chainSection s at flagged .next ≤ length s
-  chain-end flagged = section flagged .next
+  pub chain-end : (flagged : Bool) → (at ≤ chainSection s at flagged .next) × (chainSection s at flagged .next ≤ length s)
+  chain-end flagged = let c = section flagged in (c .from, c .next)
