@@ -7,15 +7,16 @@ use mathlib.Core.Bool.{Bool, true, false}
 use mathlib.Core.List.{List, [], _∷_, _++_, append-assoc}
 use lib.ListN.{length, getD, drop, length-append}
 use lib.Seq.{take-append-seam, getD-at}
-use borrow.Author.Tests.{le-ltb, ltb-false}
+use borrow.Author.Tests.{le-ltb, lt-ltb, ltb-false}
 use Rattle.le.specs.Le.{if_then_else_, part, zeroAt}
 use Rattle.le.proofs.Inside.{getD-inside, part-whole}
 use Rattle.refusal.specs.Refusal.{limit}
+use Rattle.refusal.specs.declared.Refusal.the-variants.{TooShort}
 use Rattle.refusal.specs.Asked.{Given}
 use Rattle.refusal.specs.Writing.{Next}
 use Rattle.refusal.proofs.Laws.{passed}
 use Rattle.attr.specs.declared.AdsAttribute.{AdsAttribute}
-use Rattle.attr.specs.declared.AttributeAnswer.the-variants.{Record}
+use Rattle.attr.specs.declared.AttributeAnswer.the-variants.{Record, Refused}
 use Rattle.attr.specs.Attribute.{attributeAt, attributeRead}
 use Rattle.attr.specs.Writing.{attributeBytes, attributeWriting, endsZero, goodAttribute, attributesChecked}
 use Rattle.attr.specs.Told.{Attribute, attributeOf, attributesIn, attributesBlock}
@@ -106,15 +107,24 @@ bytesOf a = attributeBytes (a .name) (a .value)
 good : (p q : List ℕ) (left : ℕ) (a : Attribute) → Any left a → goodAttribute (p ++ (bytesOf a ++ q)) (length p) left ≡ Next (length p + length (bytesOf a))
 good p q left a f = good-by (p ++ (bytesOf a ++ q)) (length p) left (reads (a .name) (a .value) p q) ∙ simp (ends (a .name) (a .value) p q) (ap Next (moves (a .name) (a .value) p q))
 
-told : (p q : List ℕ) (left : ℕ) (a : Attribute) → Any left a → attributesIn (p ++ (bytesOf a ++ q)) (length p) (suc left) ≡ a ∷ attributesIn (p ++ (bytesOf a ++ q)) (length p + length (bytesOf a)) left
+told : (p q : List ℕ) (left follow : ℕ) (a : Attribute) → Any follow a → attributesIn (p ++ (bytesOf a ++ q)) (length p) (suc left) ≡ a ∷ attributesIn (p ++ (bytesOf a ++ q)) (length p + length (bytesOf a)) left
 unfolding attributesIn
-told p q left a f =
+told p q left follow a f =
     simp (reads (a .name) (a .value) p q)
     (ap₂ (λ (x : Attribute) (k : ℕ). x ∷ attributesIn (p ++ (bytesOf a ++ q)) k left) (tells (a .name) (a .value) p q) (moves (a .name) (a .value) p q))
 
 ended : (s : List ℕ) (at : ℕ) → attributesIn s at zero ≡ []
 unfolding attributesIn
 ended s at = refl
+
+none-left : (s : List ℕ) (at : ℕ) → length s ≤ at → attributeAt s at ≡ Refused (TooShort 4 (length s - at))
+unfolding attributeAt
+none-left s at h = simp (lt-ltb (length s - at) 4 (omega arith))
+
+past : (s : List ℕ) (at left : ℕ) → length s ≤ at → attributesIn s at left ≡ []
+unfolding attributesIn
+past s at zero h = refl
+past s at (suc left) h = simp (none-left s at h)
 
 both : (a b : Bool) → (if a then b else false) ≡ true → (a ≡ true) × (b ≡ true)
 both true b h = (refl, h)
@@ -188,11 +198,11 @@ pub attribute-blocks : AttributeBlocks
 unfolding attributesChecked
 attribute-blocks xs f = record {
   passes = rw (same-block xs) (blocks.block-good bytesOf goodAttribute attributesIn Any good xs (any xs));
-  tells = rw (same-block xs) (blocks.block-told bytesOf goodAttribute attributesIn Any ended told xs (any xs));
+  tells = rw (same-block xs) (rw add-zero at (blocks.block-told bytesOf goodAttribute attributesIn Any past told xs 0 (any xs)));
 }
 
 pub attributes-fixed : AttributesFixed
-attributes-fixed xs ys f g l b = sym (attribute-blocks xs f .tells) ∙ ap₂ (λ (x : List ℕ) (n : ℕ). attributesIn x 0 n) b l ∙ attribute-blocks ys g .tells
+attributes-fixed xs ys f g e = blocks.block-fixed bytesOf goodAttribute attributesIn Any past told xs ys (any xs) (any ys) (sym (same-block xs) ∙ e ∙ same-block ys)
 
 pub attribute-blocks-made : AttributeBlocksMade
 unfolding attributesChecked

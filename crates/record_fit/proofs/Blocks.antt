@@ -1,7 +1,7 @@
 -- Blocks over a kind of record: records one after another are a good block and are told, and a good block is the bytes of the records that it tells.
 use Prim.Native.Nat.{ℕ, zero, suc, _+_, _<_, _≤_}
 use native.Mathlib.Omega.{arith}
-use native.Mathlib.Nat.{add-zero, zero-add}
+use native.Mathlib.Nat.{add-zero, zero-add, suc-add, add-comm}
 use native.Mathlib.Numerals.{add-one}
 use mathlib.Core.Path.{_≡_, refl, sym, ap, ap₂, _∙_}
 use mathlib.Core.Bool.{Bool, true, false}
@@ -76,18 +76,24 @@ module _ {A : Type 0} (bytes : A → List ℕ) (goodAt : List ℕ → ℕ → �
         let g : goodFrom (goodAt (blockOf bytes xs)) 0 0 (length xs) ≡ counted (length xs) (length (blockOf bytes xs)) = simp zero-add at (good-from [] xs 0 f) in
         rw g (passes (length xs) (length (blockOf bytes xs)))
 
+  -- records that are told wherever they stand, where nothing is told past the end
+  module _ (past : (s : List ℕ) (at left : ℕ) → length s ≤ at → told s at left ≡ [])
+      (tells : (p q : List ℕ) (left follow : ℕ) (a : A) → Fits follow a → told (p ++ (bytes a ++ q)) (length p) (suc left) ≡ a ∷ told (p ++ (bytes a ++ q)) (length p + length (bytes a)) left) where
+    told-from : (p : List ℕ) (xs : List A) (left : ℕ) → Fit Fits xs → told (p ++ blockOf bytes xs) (length p) (length xs + left) ≡ xs
+    told-from p [] left none = past (p ++ []) (length p) (0 + left) (omega (arith, length-append p []))
+    told-from p (a ∷ xs) left (more f fs) =
+        let ih = simp (append-assoc, length-append) at (told-from (p ++ bytes a) xs left fs) in
+        rw suc-add (tells p (blockOf bytes xs) (length xs + left) (length xs) a f ∙ ap (λ (l : List A). a ∷ l) ih)
+
+    -- so many, or more, are asked for
+    pub block-told : (xs : List A) (left : ℕ) → Fit Fits xs → told (blockOf bytes xs) 0 (length xs + left) ≡ xs
+    block-told xs left f = told-from [] xs left f
+
+    pub block-fixed : (xs ys : List A) → Fit Fits xs → Fit Fits ys → blockOf bytes xs ≡ blockOf bytes ys → xs ≡ ys
+    block-fixed xs ys f g e =
+        sym (block-told xs (length ys) f) ∙ ap₂ (λ (b : List ℕ) (n : ℕ). told b 0 n) e (add-comm (length xs) (length ys)) ∙ block-told ys (length xs) g
+
   module _ (ended : (s : List ℕ) (at : ℕ) → told s at zero ≡ []) where
-    -- records that are told wherever they stand
-    module _ (tells : (p q : List ℕ) (left : ℕ) (a : A) → Fits left a → told (p ++ (bytes a ++ q)) (length p) (suc left) ≡ a ∷ told (p ++ (bytes a ++ q)) (length p + length (bytes a)) left) where
-      told-from : (p : List ℕ) (xs : List A) → Fit Fits xs → told (p ++ blockOf bytes xs) (length p) (length xs) ≡ xs
-      told-from p [] none = ended (p ++ []) (length p)
-      told-from p (a ∷ xs) (more f fs) =
-          let ih = simp (append-assoc, length-append) at (told-from (p ++ bytes a) xs fs) in
-          tells p (blockOf bytes xs) (length xs) a f ∙ ap (λ (l : List A). a ∷ l) ih
-
-      pub block-told : (xs : List A) → Fit Fits xs → told (blockOf bytes xs) 0 (length xs) ≡ xs
-      block-told xs f = told-from [] xs f
-
     module _ (s : List ℕ) (found : (at left n : ℕ) → goodAt s at left ≡ Next n → Found s at left n) where
       only-from : (at g left m : ℕ) → goodFrom (goodAt s) at g left ≡ counted (g + left) m → Told s at left m
       unfolding goodFrom

@@ -25,11 +25,11 @@ use Rattle.refactor.specs.declared.RefactorAnswer.the-variants.{Record}
 use Rattle.refactor.specs.Refactor.{mask, follower, refactorOf, refactorAt, refactorRead}
 use Rattle.refactor.specs.Writing.{packedOf, refactorBytes, refactorWriting, goodRecord, goodRefactor, refactorsChecked}
 use Rattle.refactor.specs.Told.{Renaming, renamingOf, renamingsIn, Former, chainBlock}
-use Rattle.refactor.proofs.Laws.{length-refactor, good-by, writes}
+use Rattle.refactor.proofs.Laws.{length-refactor, none-left, good-by, writes}
 use Rattle.refactor.proofs.Read.{shift, inside, refactor-inside, name-inside, good-record}
 use Rattle.refactor.proofs.Mask.{within-mask, told-follower, packed-same}
 use Rattle.record_fit.specs.Kind.{Each, none, more}
-use Rattle.record_fit.specs.Refactors.{Fits, written, chainWritten, lastCount, formers, Byte, RefactorsReadBack, RefactorBlocks, RefactorBlocksMade}
+use Rattle.record_fit.specs.Refactors.{Fits, written, chainWritten, lastCount, formers, Byte, RefactorsReadBack, RefactorBlocks, RefactorsFixed, RefactorBlocksMade}
 use Rattle.record_fit.proofs.Blocks as blocks
 use Rattle.record_fit.proofs.Blocks.{kept, Fit, blockOf, length-part, drop-part, drop-byte, drop-zero}
 
@@ -125,9 +125,9 @@ good p q left r f =
     let b : Bool·beq (has (r .count) follower) (ltb 0 left) ≡ true = rw (f .sound .bit ∙ f .rightly) (beq-same (ltb 0 left)) in
     good-by-follower (r .count) (r .name) (f .sound .within) (f .sound .short) p q left ∙ simp b
 
-told : (p q : List ℕ) (left : ℕ) (r : Renaming) → Anywhere left r → renamingsIn (p ++ (bytesOf r ++ q)) (length p) (suc left) ≡ r ∷ renamingsIn (p ++ (bytesOf r ++ q)) (length p + length (bytesOf r)) left
+told : (p q : List ℕ) (left follow : ℕ) (r : Renaming) → Anywhere follow r → renamingsIn (p ++ (bytesOf r ++ q)) (length p) (suc left) ≡ r ∷ renamingsIn (p ++ (bytesOf r ++ q)) (length p + length (bytesOf r)) left
 unfolding renamingsIn
-told p q left r f =
+told p q left follow r f =
     let t = tells (r .count) (r .name) (f .within) (f .short) p q ∙ ap (λ (b : Bool). record { count = r .count; follows = b; name = r .name }) (f .bit) in
     simp (reads (r .count) (r .name) (f .within) (f .short) p q)
     (ap₂ (λ (x : Renaming) (k : ℕ). x ∷ renamingsIn (p ++ (bytesOf r ++ q)) k left) t (moves (r .count) (r .name) (f .within) (f .short) p q))
@@ -135,6 +135,11 @@ told p q left r f =
 ended : (s : List ℕ) (at : ℕ) → renamingsIn s at zero ≡ []
 unfolding renamingsIn
 ended s at = refl
+
+past : (s : List ℕ) (at left : ℕ) → length s ≤ at → renamingsIn s at left ≡ []
+unfolding renamingsIn
+past s at zero h = refl
+past s at (suc left) h = simp (none-left s at (omega arith))
 
 -- every byte of a list of bytes is one, and 0 past its end too
 byte : (s : List ℕ) → Each Byte s → (k : ℕ) → getD s k 0 < 256
@@ -303,8 +308,12 @@ checked-by fs h false e = rw (chain-bytes fs, ← chain-length fs) (blocks.block
 pub refactor-blocks : RefactorBlocks
 refactor-blocks fs h = record {
   passes = checked-by fs h (has (lastCount fs) follower) refl;
-  tells = rw (chain-bytes fs, ← chain-length fs) (blocks.block-told bytesOf goodRefactor renamingsIn Anywhere ended told (chainWritten fs) (chain-sound fs h));
+  tells = rw (chain-bytes fs, ← chain-length fs) (rw add-zero at (blocks.block-told bytesOf goodRefactor renamingsIn Anywhere past told (chainWritten fs) 0 (chain-sound fs h)));
 }
+
+pub refactors-fixed : RefactorsFixed
+refactors-fixed fs gs h k e =
+    blocks.block-fixed bytesOf goodRefactor renamingsIn Anywhere past told (chainWritten fs) (chainWritten gs) (chain-sound fs h) (chain-sound gs k) (sym (chain-bytes fs) ∙ e ∙ chain-bytes gs)
 
 -- the records of a good block are packed as they are
 chain-of : (rs : List Renaming) → Fit Placed rs → chainBlock (formers rs) ≡ blockOf bytesOf rs

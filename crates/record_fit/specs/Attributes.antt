@@ -31,9 +31,9 @@ pub record Block (xs : List Attribute) : Type 0 where
 abbrev pub AttributeBlocks : Type 0
 AttributeBlocks = (xs : List Attribute) → Each Fits xs → Block xs
 
--- so a count and a block are those of one list of attributes
+-- so a block is that of one list of attributes
 abbrev pub AttributesFixed : Type 0
-AttributesFixed = (xs ys : List Attribute) → Each Fits xs → Each Fits ys → length xs ≡ length ys → attributesBlock xs ≡ attributesBlock ys → xs ≡ ys
+AttributesFixed = (xs ys : List Attribute) → Each Fits xs → Each Fits ys → attributesBlock xs ≡ attributesBlock ys → xs ≡ ys
 
 -- a block that passes is the block of the attributes that it tells
 abbrev pub AttributeBlocksMade : Type 0

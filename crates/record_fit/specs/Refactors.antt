@@ -52,6 +52,10 @@ pub record Block (fs : List Former) : Type 0 where
 abbrev pub RefactorBlocks : Type 0
 RefactorBlocks = (fs : List Former) → Each Fits fs → Block fs
 
+-- so a block is that of one list of records, as they are written
+abbrev pub RefactorsFixed : Type 0
+RefactorsFixed = (fs gs : List Former) → Each Fits fs → Each Fits gs → chainBlock fs ≡ chainBlock gs → chainWritten fs ≡ chainWritten gs
+
 -- what the records that a block tells are written from
 abbrev pub formers : List Renaming → List Former
 formers = map (λ r. record { count = r .count; name = r .name })
