@@ -1,3 +1,4 @@
 pub mod Laws
 pub mod Read
 pub mod Asked
+pub mod Shown

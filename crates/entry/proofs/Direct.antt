@@ -1,15 +1,17 @@
--- A direct parse of just a whole entry.
+-- A direct parse of just a whole entry; and of any bytes, by the entry's own.
 use Prim.Native.Nat.{ℕ, _≤_}
 use native.Mathlib.Omega.{arith}
-use mathlib.Core.Path.{_≡_, _∙_}
-use mathlib.Core.List.{List}
+use mathlib.Core.Path.{_≡_}
+use mathlib.Core.List.{List, []}
 use lib.ListN.{length}
 use lib.Seq.{take-length}
 use borrow.Author.Tests.{le-ltb}
-use Rattle.le.specs.Le.{if_then_else_, le4, part}
+use Rattle.le.specs.Le.{part}
 use Rattle.refusal.specs.Refusal.{limit}
+use Rattle.refusal.specs.declared.Refusal.{Refusal}
+use Rattle.entry.specs.declared.Claim.{Claim}
 use Rattle.entry.specs.declared.Claim.the-variants as claim
-use Rattle.entry.specs.Entry.{directClaim, ownBytes}
+use Rattle.entry.specs.Entry.{directClaim, byClaim, ownBytes}
 use Rattle.entry.proofs.Whole.{Whole}
 
 module _ (header : ℕ) (e : List ℕ) (w : Whole e) (long : header ≤ length e) (small : length e ≤ limit) where
@@ -30,3 +32,13 @@ module _ (header : ℕ) (e : List ℕ) (w : Whole e) (long : header ≤ length e
   pub own-whole : ownBytes header e ≡ e
   unfolding ownBytes
   own-whole = simp (direct-whole, part-all)
+
+-- what is accepted by a direct parse is what the entry's own bytes give, for an answer that no refusal is
+module _ {A : Type 0} (entry : List ℕ → A) (refused : Refusal → A) (Accepted : A → Type 0) (never : (why : Refusal) → Accepted (refused why) → ⊥) where
+  by-claim : (s : List ℕ) (c : Claim) → Accepted (byClaim c (λ size. entry (part s 0 size)) refused) → Accepted (entry (byClaim c (λ size. part s 0 size) (λ why. [])))
+  by-claim s (claim.Entry size) h = h
+  by-claim s (claim.Refused why) h = absurd (never why h)
+
+  pub own-accepted : (header : ℕ) (s : List ℕ) → Accepted (byClaim (directClaim header s) (λ size. entry (part s 0 size)) refused) → Accepted (entry (ownBytes header s))
+  unfolding ownBytes
+  own-accepted header s h = by-claim s (directClaim header s) h

@@ -1,2 +1,3 @@
 pub mod Field
 pub mod Questions
+pub mod Inside

@@ -39,7 +39,7 @@ record-inside s at r h =
     (omega arith, omega arith)
 
 -- nothing left: refused as no bytes are
-none-left : (s : List ℕ) (at : ℕ) → length s - at ≤ 0 → refactorAt s at ≡ Refused (TooShort 7 0)
+pub none-left : (s : List ℕ) (at : ℕ) → length s - at ≤ 0 → refactorAt s at ≡ Refused (TooShort 7 0)
 unfolding refactorAt
 none-left s at h = let e : length s - at ≡ 0 = omega arith in simp e
 

@@ -1,3 +1,5 @@
 pub mod Laws
 pub mod Read
 pub mod Asked
+pub mod Mask
+pub mod Shown

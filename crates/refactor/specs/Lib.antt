@@ -1,3 +1,4 @@
 pub mod Refactor
 pub mod Writing
 pub mod Told
+pub mod Inside

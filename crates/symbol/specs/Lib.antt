@@ -1,2 +1,3 @@
 pub mod Symbol
 pub mod Questions
+pub mod Inside

@@ -1,0 +1,95 @@
+-- Every attribute that is shown lies inside the bytes, and so does the place that is reached.
+use Prim.Native.Nat.{ℕ, zero, suc, _+_, _-_, _<_, _≤_}
+use native.Mathlib.Omega.{arith}
+use native.Mathlib.Nat.{zero-add}
+use mathlib.Core.Path.{_≡_, refl, ap}
+use mathlib.Core.Bool.{Bool, true, false}
+use mathlib.Core.List.{List}
+use lib.Dec.{leb}
+use lib.ListN.{length, getD}
+use borrow.Author.Tests.{leb-true}
+use Rattle.le.specs.Le.{if_then_else_, le2}
+use Rattle.attr.specs.declared.AdsAttribute.{AdsAttribute}
+use Rattle.attr.specs.declared.AttributeAnswer.{AttributeAnswer}
+use Rattle.attr.specs.declared.AttributeAnswer.the-variants.{Record, Refused}
+use Rattle.attr.specs.declared.Attributes.{Attributes}
+use Rattle.attr.specs.declared.Ending.the-variants.{Fine, Stopped}
+use Rattle.attr.specs.declared.Listed.{Listed}
+use Rattle.attr.specs.Attribute.{attributeAt, byAttribute, listed, attributesFrom, attributesAt, attributeNth}
+use Rattle.attr.specs.Inside.{Inside}
+use Rattle.attr.proofs.Read as read
+
+lies : (s : List ℕ) (at : ℕ) (a : AdsAttribute) → attributeAt s at ≡ Record a → Inside s (attributeAt s at)
+lies s at a h =
+    let i = read.inside s at a h in
+    let n : a .name ≡ at + 2 = ap (λ x. x .name) (i .is) in
+    let nl : a .«name_len» ≡ getD s at 0 = ap (λ x. x .«name_len») (i .is) in
+    let v : a .value ≡ at + getD s at 0 + 3 = ap (λ x. x .value) (i .is) in
+    let vl : a .«value_len» ≡ getD s (at + 1) 0 = ap (λ x. x .«value_len») (i .is) in
+    let m : a .next ≡ at + (getD s at 0 + getD s (at + 1) 0 + 4) = ap (λ x. x .next) (i .is) in
+    record { info = a; is = h; name = omega arith; value = omega arith; whole = omega (arith, i .fits) }
+
+-- of a list that is read from a place on, after so many shown
+record Shown (s : List ℕ) (at shown : ℕ) (l : Listed) : Type 0 where
+  next : l .next ≤ length s
+  each : (k : ℕ) → shown + k < l .shown → Inside s (attributeNth s at k)
+
+module _ (s : List ℕ) (at shown left : ℕ) (a : AdsAttribute) (e : attributeAt s at ≡ Record a) where
+  -- the first is the record at the place, the others are those after it
+  each-after : (m : ℕ) → ((k : ℕ) → shown + 1 + k < m → Inside s (attributeNth s (a .next) k)) → (k : ℕ) → shown + k < m → Inside s (attributeNth s at k)
+  unfolding attributeNth
+  each-after m rest zero h = lies s at a e
+  each-after m rest (suc k) h = simp e (rest k (omega arith))
+
+  after : (a .next ≤ length s → Shown s (a .next) (shown + 1) (attributesFrom s (a .next) (shown + 1) left))
+      → (ends : Bool) → Shown s at shown (if ends then listed (shown + 1) (a .next) Fine else attributesFrom s (a .next) (shown + 1) left)
+  after rest true =
+      let i = read.inside s at a e in
+      let m : a .next ≡ at + (getD s at 0 + getD s (at + 1) 0 + 4) = ap (λ x. x .next) (i .is) in
+      record { next = omega (arith, i .fits); each = each-after (shown + 1) (λ k h. absurd (omega arith)) }
+  after rest false =
+      let i = read.inside s at a e in
+      let m : a .next ≡ at + (getD s at 0 + getD s (at + 1) 0 + 4) = ap (λ x. x .next) (i .is) in
+      let r = rest (omega (arith, i .fits)) in
+      record { next = r .next; each = each-after (attributesFrom s (a .next) (shown + 1) left .shown) (r .each) }
+
+turn : (s : List ℕ) (at shown left : ℕ) → at ≤ length s → ((n : ℕ) → n ≤ length s → Shown s n (shown + 1) (attributesFrom s n (shown + 1) left))
+    → (t : AttributeAnswer) → attributeAt s at ≡ t
+    → Shown s at shown (byAttribute t
+    (λ a. if leb (length s) (a .next) then listed (shown + 1) (a .next) Fine else attributesFrom s (a .next) (shown + 1) left)
+    (λ why. listed shown at (Stopped why)))
+turn s at shown left h rest (Record a) e = after s at shown left a e (rest (a .next)) (leb (length s) (a .next))
+turn s at shown left h rest (Refused why) e = record { next = h; each = λ k j. absurd (omega arith) }
+
+list-shown : (s : List ℕ) (at shown left : ℕ) → at ≤ length s → Shown s at shown (attributesFrom s at shown left)
+unfolding attributesFrom
+list-shown s at shown zero h = record { next = h; each = λ k j. absurd (omega arith) }
+list-shown s at shown (suc left) h = turn s at shown left h (λ n j. list-shown s n (shown + 1) left j) (attributeAt s at) refl
+
+module _ (s : List ℕ) (at : ℕ) where
+  abbrev counted : Bool → Attributes
+  counted here = if here then record { first = at + 2; list = attributesFrom s (at + 2) 0 (le2 s at) } else record { first = at; list = listed 0 at Fine }
+
+  counted-each : (here : Bool) → leb 2 (length s - at) ≡ here → (k : ℕ) → k < counted here .list .shown → Inside s (attributeNth s (counted here .first) k)
+  counted-each true e k h =
+      let l : 2 ≤ length s - at = leb-true _ _ e in
+      list-shown s (at + 2) 0 (le2 s at) (omega arith) .each k (rw zero-add h)
+  counted-each false e k h = absurd (omega arith)
+
+  counted-end : (here : Bool) → leb 2 (length s - at) ≡ here → at ≤ length s → (counted here .first ≤ length s) × (counted here .list .next ≤ length s)
+  counted-end true e h =
+      let l : 2 ≤ length s - at = leb-true _ _ e in
+      (omega arith, list-shown s (at + 2) 0 (le2 s at) (omega arith) .next)
+  counted-end false e h = (h, h)
+
+  -- every attribute of a section lies inside, wherever the section begins
+  pub attributes-inside : (flagged : Bool) (k : ℕ) → k < attributesAt s at flagged .list .shown → Inside s (attributeNth s (attributesAt s at flagged .first) k)
+  unfolding attributesAt
+  attributes-inside true k h = counted-each (leb 2 (length s - at)) refl k h
+  attributes-inside false k h = absurd (omega arith)
+
+  -- a section that begins inside ends inside
+  pub attributes-end : (flagged : Bool) → at ≤ length s → (attributesAt s at flagged .first ≤ length s) × (attributesAt s at flagged .list .next ≤ length s)
+  unfolding attributesAt
+  attributes-end true h = counted-end (leb 2 (length s - at)) refl h
+  attributes-end false h = (h, h)

@@ -1,0 +1,4 @@
+pub mod Blocks
+pub mod Attributes
+pub mod Refactors
+pub mod Chain

@@ -1,0 +1,81 @@
+-- Every record of a chain that is shown lies inside the bytes, and so does the place that is reached.
+use Prim.Native.Nat.{ℕ, zero, suc, _+_, _-_, _<_, _≤_}
+use native.Mathlib.Omega.{arith}
+use native.Mathlib.Nat.{zero-add}
+use mathlib.Core.Path.{_≡_, refl, ap}
+use mathlib.Core.Bool.{Bool, true, false}
+use mathlib.Core.List.{List}
+use lib.Dec.{ltb}
+use lib.ListN.{length}
+use Rattle.le.specs.Le.{if_then_else_, le2}
+use Rattle.refactor.specs.declared.AdsRefactorInfo.{AdsRefactorInfo}
+use Rattle.refactor.specs.declared.RefactorAnswer.{RefactorAnswer}
+use Rattle.refactor.specs.declared.RefactorAnswer.the-variants.{Record, Refused}
+use Rattle.refactor.specs.declared.Chain.{Chain}
+use Rattle.refactor.specs.declared.ChainAnswer.{ChainAnswer}
+use Rattle.refactor.specs.declared.ChainAnswer.the-variants as chain
+use Rattle.refactor.specs.Refactor.{refactorAt, chainFrom, chainAt, keptChain, chainSection, refactorNth}
+use Rattle.refactor.specs.Inside.{Inside}
+use Rattle.refactor.proofs.Laws.{chainBy, record-inside}
+use Rattle.refactor.proofs.Read as read
+
+lies : (s : List ℕ) (at : ℕ) (r : AdsRefactorInfo) → refactorAt s at ≡ Record r → Inside s (refactorAt s at)
+lies s at r h =
+    let i = read.inside s at r h in
+    let n : r .name ≡ at + 6 = ap (λ x. x .name) (i .is) in
+    let nl : r .«name_len» ≡ le2 s (at + 4) = ap (λ x. x .«name_len») (i .is) in
+    let m : r .next ≡ at + (le2 s (at + 4) + 7) = ap (λ x. x .next) (i .is) in
+    record { info = r; is = h; name = omega arith; whole = omega (arith, i .fits) }
+
+-- of a whole chain from a place on, after so many records
+record Shown (s : List ℕ) (at count : ℕ) (c : Chain) : Type 0 where
+  from : at ≤ c .next
+  next : c .next ≤ length s
+  each : (k : ℕ) → count + k < c .count → Inside s (refactorNth s at k)
+
+module _ (s : List ℕ) (at count : ℕ) (c : Chain) where
+  -- the first is the record at the place, the others are those after it
+  each-after : (r : AdsRefactorInfo) → refactorAt s at ≡ Record r → ((k : ℕ) → count + 1 + k < c .count → Inside s (refactorNth s (r .next) k)) → (k : ℕ) → count + k < c .count → Inside s (refactorNth s at k)
+  unfolding refactorNth
+  each-after r e rest zero h = lies s at r e
+  each-after r e rest (suc k) h = simp e (rest k (omega arith))
+
+  module _ (on : ℕ → ChainAnswer) (rest : (n : ℕ) → on n ≡ chain.Whole c → Shown s n (count + 1) c) where
+    after : (r : AdsRefactorInfo) → refactorAt s at ≡ Record r → (more : Bool) → (if more then on (r .next) else chain.Whole (record { count = count + 1; next = r .next })) ≡ chain.Whole c → Shown s at count c
+    after r e true h =
+        let t = rest (r .next) h in
+        record { from = omega (arith, record-inside s at r e .0, t .from); next = t .next; each = each-after r e (t .each) }
+    after r e false h =
+        let n : r .next ≡ c .next = cc in
+        let m : count + 1 ≡ c .count = cc in
+        record { from = omega (arith, record-inside s at r e .0); next = omega (arith, record-inside s at r e .1); each = each-after r e (λ k j. absurd (omega arith)) }
+
+    turn : (t : RefactorAnswer) → refactorAt s at ≡ t → chainBy s at count t on ≡ chain.Whole c → Shown s at count c
+    turn (Record r) e h = after r e (r .«next_refactor_info») h
+    turn (Refused why) e h = absurd (let z : _≡_ {A = ℕ} 0 1 = cc in omega arith)
+
+chain-shown : (s : List ℕ) (at count left : ℕ) (c : Chain) → chainFrom s at count left ≡ chain.Whole c → Shown s at count c
+unfolding chainFrom
+chain-shown s at count zero c h = absurd (let z : _≡_ {A = ℕ} 0 1 = cc in omega arith)
+chain-shown s at count (suc left) c h = turn s at count c (λ n. chainFrom s n (count + 1) left) (λ n e. chain-shown s n (count + 1) left c e) (refactorAt s at) refl h
+
+module _ (s : List ℕ) (at : ℕ) (h : at ≤ length s) where
+  kept : (t : ChainAnswer) → chainFrom s at 0 (length s - at) ≡ t → Shown s at 0 (keptChain t at)
+  kept (chain.Whole c) e = chain-shown s at 0 (length s - at) c e
+  kept (chain.Refused why) e = record { from = omega arith; next = h; each = λ k j. absurd (omega arith) }
+
+  there : (here : Bool) → Shown s at 0 (if here then keptChain (chainFrom s at 0 (length s - at)) at else record { count = 0; next = at })
+  there true = kept (chainFrom s at 0 (length s - at)) refl
+  there false = record { from = omega arith; next = h; each = λ k j. absurd (omega arith) }
+
+  section : (flagged : Bool) → Shown s at 0 (chainSection s at flagged)
+  unfolding chainSection chainAt
+  section true = there (ltb at (length s))
+  section false = record { from = omega arith; next = h; each = λ k j. absurd (omega arith) }
+
+  -- every record of a chain that begins inside lies inside, and the chain ends inside
+  pub chain-inside : (flagged : Bool) (k : ℕ) → k < chainSection s at flagged .count → Inside s (refactorNth s at k)
+  chain-inside flagged k j = section flagged .each k (rw zero-add j)
+
+  pub chain-end : (flagged : Bool) → (at ≤ chainSection s at flagged .next) × (chainSection s at flagged .next ≤ length s)
+  chain-end flagged = let c = section flagged in (c .from, c .next)

@@ -1,0 +1,108 @@
+-- Every place that an accepted symbol tells lies inside its entry, and what it shows comes back by number: proved.
+use Prim.Native.Nat.{ℕ, _+_, _-_, _≤_}
+use native.Mathlib.Omega.{arith}
+use mathlib.Core.Path.{_≡_, refl, subst}
+use mathlib.Core.Bool.{Bool, true, false}
+use mathlib.Core.List.{List}
+use lib.Dec.{leb, ltb}
+use lib.ListN.{length}
+use borrow.Author.Tests.{leb-true, ltb-false, lt-ltb, le-ltb}
+use Rattle.le.specs.Le.{if_then_else_, le2, le4, has, part}
+use Rattle.refusal.specs.declared.Refusal.{Refusal}
+use Rattle.entry.specs.Entry.{ownBytes}
+use Rattle.entry.proofs.Direct.{own-accepted}
+use Rattle.guid.specs.Guid.{guidAt, absent}
+use Rattle.attr.specs.Attribute.{attributesAt}
+use Rattle.attr.proofs.Shown.{attributes-inside, attributes-end}
+use Rattle.refactor.proofs.Shown.{chain-inside, chain-end}
+use Rattle.symbol.specs.declared.AdsSymbolInfo.{AdsSymbolInfo}
+use Rattle.symbol.specs.declared.ExtendedFlags.{ExtendedFlags}
+use Rattle.symbol.specs.declared.SymbolAnswer.the-variants.{Record}
+use Rattle.symbol.specs.Symbol.{typeGuid, attributes, extendedFlags, refactorInfo, extendedAt, sectionsOf, stringsEnd, infoRecord, infoOf, refused, symbolEntry, symbolRead}
+use Rattle.symbol.specs.Questions.{symbolAttribute, symbolRefactor}
+use Rattle.symbol.specs.Inside.{Inside, SymbolsInside, SymbolsShown}
+
+-- a section that begins inside ends inside
+guid-end : (e : List ℕ) (at : ℕ) (flagged : Bool) → at ≤ length e → guidAt e at flagged .next ≤ length e
+unfolding guidAt
+guid-end e at true h = there (leb 16 (length e - at)) refl
+  where
+    there : (b : Bool) → leb 16 (length e - at) ≡ b → (if b then record { here = true; bytes = part e at 16; next = at + 16 } else absent at) .next ≤ length e
+    there true t = let l : 16 ≤ length e - at = leb-true _ _ t in omega arith
+    there false t = h
+guid-end e at false h = h
+
+abbrev flagsBy : List ℕ → ℕ → Bool → ExtendedFlags
+flagsBy e at here = if here then record { here = true; flags = record { 0 = le4 e at }; next = at + 4 } else record { here = false; flags = record { 0 = 0 }; next = at }
+
+extended-end : (e : List ℕ) (at : ℕ) (flagged : Bool) → at ≤ length e → extendedAt e at flagged .next ≤ length e
+unfolding extendedAt
+extended-end e at true h = there (leb 4 (length e - at)) refl
+  where
+    there : (b : Bool) → leb 4 (length e - at) ≡ b → flagsBy e at b .next ≤ length e
+    there true t = let l : 4 ≤ length e - at = leb-true _ _ t in omega arith
+    there false t = h
+extended-end e at false h = h
+
+-- the record of an entry that has room for its header and strings
+module _ (e : List ℕ) (room : stringsEnd e ≤ length e) where
+  abbrev flags : ℕ
+  flags = le2 e 20
+
+  abbrev g : ℕ
+  g = guidAt e (stringsEnd e) (has flags typeGuid) .next
+
+  g-end : g ≤ length e
+  g-end = guid-end e (stringsEnd e) (has flags typeGuid) room
+
+  abbrev x : ExtendedFlags
+  x = extendedAt e (attributesAt e g (has flags attributes) .list .next) (has flags extendedFlags)
+
+  x-end : x .next ≤ length e
+  x-end = extended-end e (attributesAt e g (has flags attributes) .list .next) (has flags extendedFlags) (attributes-end e g (has flags attributes) g-end .1)
+
+  inside : Inside e (infoRecord e (sectionsOf e (stringsEnd e) flags))
+  unfolding infoRecord sectionsOf
+  inside = record {
+    long = refl;
+    strings = room;
+    first-attribute = attributes-end e g (has flags attributes) g-end .0;
+    attributes = attributes-inside e g (has flags attributes);
+    extended = x-end;
+    first-refactor = x-end;
+    refactors = chain-inside e (x .next) x-end (has (x .flags .0) refactorInfo);
+    unread = omega (arith, chain-end e (x .next) x-end (has (x .flags .0) refactorInfo));
+  }
+
+never : (info : AdsSymbolInfo) (why : Refusal) → refused why .answer ≡ Record info → ⊥
+never info why h = let z : _≡_ {A = ℕ} 0 1 = cc in omega arith
+
+-- what is accepted passed each test
+accepted : (e : List ℕ) (info : AdsSymbolInfo) (a b : Bool) → ltb (length e) 30 ≡ a → ltb (length e) (stringsEnd e) ≡ b
+    → symbolEntry e .answer ≡ Record info → (stringsEnd e ≤ length e) × (infoRecord e (sectionsOf e (stringsEnd e) (le2 e 20)) ≡ info)
+unfolding symbolEntry infoOf
+accepted e info true b p q h = absurd (never info _ (simp p at h))
+accepted e info false true p q h = absurd (never info _ (simp (p, q) at h))
+accepted e info false false p q h = (ltb-false _ _ q, cc (simp (p, q) at h))
+
+pub symbols-inside : SymbolsInside
+symbols-inside e info h =
+    let a = accepted e info (ltb (length e) 30) (ltb (length e) (stringsEnd e)) refl refl h in
+    subst (Inside e) (a .1) (inside e (a .0))
+
+-- a direct parse reads the entry's own bytes
+own-entry : (s : List ℕ) (info : AdsSymbolInfo) → symbolRead s .answer ≡ Record info → symbolEntry (ownBytes 30 s) .answer ≡ Record info
+unfolding symbolRead
+own-entry s info h = own-accepted symbolEntry refused (λ r. r .answer ≡ Record info) (never info) 30 s h
+
+pub symbols-shown : SymbolsShown
+unfolding symbolAttribute symbolRefactor
+symbols-shown s info h =
+    let i = symbols-inside (ownBytes 30 s) info (own-entry s info h) in
+    record {
+      inside = i;
+      attributes = λ k j. simp (h, lt-ltb k (info .attributes .count) j) (i .attributes k j);
+      no-attribute = λ k j. simp (h, le-ltb k (info .attributes .count) j);
+      refactors = λ k j. simp (h, lt-ltb k (info .«refactor_infos» .count) j) (i .refactors k j);
+      no-refactor = λ k j. simp (h, le-ltb k (info .«refactor_infos» .count) j);
+    }
