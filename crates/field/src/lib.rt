@@ -64,7 +64,7 @@ impl AdsFieldInfo {
         ensures { λ r. ⌜ now r ≡ fieldName (now (bytes .entry)) ⌝ }
     {
         match answer_to(bytes) {
-            FieldAnswer::Record(r) => le::part_of(bytes, 42, wide(r.name_len)),
+            FieldAnswer::Record(r) => le::part_of(bytes, 42, le::wide(r.name_len)),
             FieldAnswer::Refused(_) => &bytes[..0],
         }
     }
@@ -74,7 +74,7 @@ impl AdsFieldInfo {
     {
         match answer_to(bytes) {
             FieldAnswer::Record(r) => {
-                le::part_of(bytes, 43 + wide(r.name_len), wide(r.type_name_len))
+                le::part_of(bytes, 43 + le::wide(r.name_len), le::wide(r.type_name_len))
             }
             FieldAnswer::Refused(_) => &bytes[..0],
         }
@@ -85,8 +85,8 @@ impl AdsFieldInfo {
     {
         match answer_to(bytes) {
             FieldAnswer::Record(r) => {
-                let at = 44 + wide(r.name_len) + wide(r.type_name_len);
-                le::part_of(bytes, at, wide(r.comment_len))
+                let at = 44 + le::wide(r.name_len) + le::wide(r.type_name_len);
+                le::part_of(bytes, at, le::wide(r.comment_len))
             }
             FieldAnswer::Refused(_) => &bytes[..0],
         }
@@ -137,12 +137,6 @@ fn answer_to(bytes: &[u8]) -> FieldAnswer
     answer
 }
 
-fn wide(x: u16) -> usize
-    ensures { λ r. ⌜ r ≡ x ⌝ }
-{
-    x as usize
-}
-
 fn refused(why: Refusal) -> FieldRead
     ensures { λ r. ⌜ r ≡ refused why ⌝ }
 {
@@ -156,9 +150,9 @@ fn strings_end(e: &[u8]) -> usize
     requires { ⌜ 42 ≤ length (now e) ⌝ }
     ensures { λ r. ⌜ r ≡ stringsEnd (now (e .entry)) ⌝ }
 {
-    let name_len = wide(le::u16_at(e, 32));
-    let type_name_len = wide(le::u16_at(e, 34));
-    let comment_len = wide(le::u16_at(e, 36));
+    let name_len = le::wide(le::u16_at(e, 32));
+    let type_name_len = le::wide(le::u16_at(e, 34));
+    let comment_len = le::wide(le::u16_at(e, 36));
     45 + name_len + type_name_len + comment_len
 }
 
@@ -182,8 +176,8 @@ fn items_end(e: &[u8], at: usize) -> usize
     requires { ⌜ (42 ≤ length (now e)) × (at ≤ length (now e)) ⌝ }
     ensures { λ r. ⌜ r ≡ itemsEnd (now (e .entry)) at ⌝ }
 {
-    let arrays = wide(le::u16_at(e, 38));
-    let items = wide(le::u16_at(e, 40));
+    let arrays = le::wide(le::u16_at(e, 38));
+    let items = le::wide(le::u16_at(e, 40));
     skip_from(e, at + 8 * arrays, items)
 }
 
@@ -204,7 +198,7 @@ fn methods_end(e: &[u8], at: usize, flagged: bool) -> usize
 {
     if flagged {
         if 2 <= le::room(e.len(), at) {
-            let count = wide(le::u16_at(e, at));
+            let count = le::wide(le::u16_at(e, at));
             return skip_from(e, at + 2, count);
         }
     }

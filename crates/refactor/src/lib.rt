@@ -150,12 +150,6 @@ impl AdsRefactorInfo {
     }
 }
 
-fn wide(x: u16) -> usize
-    ensures { λ r. ⌜ r ≡ x ⌝ }
-{
-    x as usize
-}
-
 fn packed(count: u32, has_next: bool) -> u32
     ensures { λ r. ⌜ r ≡ packedOf count «has_next» ⌝ }
 {
@@ -178,7 +172,7 @@ pub fn refactor_at(s: &[u8], at: usize) -> RefactorAnswer
         });
     }
     let name_len = le::u16_at(s, at + 4);
-    let whole = wide(name_len) + 7;
+    let whole = le::wide(name_len) + 7;
     if there < whole {
         return RefactorAnswer::Refused(Refusal::TooShort {
             needed: whole,
@@ -199,7 +193,7 @@ pub fn name_in(s: &[u8], answer: RefactorAnswer) -> &[u8]
     ensures { λ r. ⌜ now r ≡ nameIn (now (s .entry)) answer ⌝ }
 {
     match answer {
-        RefactorAnswer::Record(r) => le::part_of(s, r.name, wide(r.name_len)),
+        RefactorAnswer::Record(r) => le::part_of(s, r.name, le::wide(r.name_len)),
         RefactorAnswer::Refused(_) => &s[..0],
     }
 }
@@ -273,7 +267,7 @@ fn is_good(s: &[u8], packed: u32, r: AdsRefactorInfo, follows: bool) -> bool
 {
     if packed == r.refactor_count {
         if r.next_refactor_info == follows {
-            return le::zero_at(s, r.name, wide(r.name_len));
+            return le::zero_at(s, r.name, le::wide(r.name_len));
         }
     }
     false

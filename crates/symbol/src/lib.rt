@@ -87,7 +87,7 @@ impl AdsSymbolInfo {
         ensures { λ r. ⌜ now r ≡ symbolName (now (bytes .entry)) ⌝ }
     {
         match answer_to(bytes) {
-            SymbolAnswer::Record(r) => le::part_of(bytes, 30, wide(r.name_len)),
+            SymbolAnswer::Record(r) => le::part_of(bytes, 30, le::wide(r.name_len)),
             SymbolAnswer::Refused(_) => &bytes[..0],
         }
     }
@@ -97,7 +97,7 @@ impl AdsSymbolInfo {
     {
         match answer_to(bytes) {
             SymbolAnswer::Record(r) => {
-                le::part_of(bytes, 31 + wide(r.name_len), wide(r.type_name_len))
+                le::part_of(bytes, 31 + le::wide(r.name_len), le::wide(r.type_name_len))
             }
             SymbolAnswer::Refused(_) => &bytes[..0],
         }
@@ -108,8 +108,8 @@ impl AdsSymbolInfo {
     {
         match answer_to(bytes) {
             SymbolAnswer::Record(r) => {
-                let at = 32 + wide(r.name_len) + wide(r.type_name_len);
-                le::part_of(bytes, at, wide(r.comment_len))
+                let at = 32 + le::wide(r.name_len) + le::wide(r.type_name_len);
+                le::part_of(bytes, at, le::wide(r.comment_len))
             }
             SymbolAnswer::Refused(_) => &bytes[..0],
         }
@@ -185,12 +185,6 @@ fn answer_to(bytes: &[u8]) -> SymbolAnswer
     let read = AdsSymbolInfo::try_from_slice(bytes);
     let answer = read.answer;
     answer
-}
-
-fn wide(x: u16) -> usize
-    ensures { λ r. ⌜ r ≡ x ⌝ }
-{
-    x as usize
 }
 
 fn extended_at(e: &[u8], at: usize, flagged: bool) -> ExtendedFlags
@@ -285,7 +279,7 @@ pub fn read_entry(e: &[u8]) -> SymbolRead
     let n = le::u16_at(e, 24);
     let t = le::u16_at(e, 26);
     let k = le::u16_at(e, 28);
-    let needed = 33 + wide(n) + wide(t) + wide(k);
+    let needed = 33 + le::wide(n) + le::wide(t) + le::wide(k);
     if length < needed {
         return SymbolRead {
             answer: SymbolAnswer::Refused(Refusal::EntryLengthMismatch {
