@@ -47,7 +47,7 @@ fn both(x: bool, y: bool) -> bool
 
 // Whether a name is the one that is asked for. Names of other lengths differ, whatever their bytes.
 // It looks at all bytes, so that the compiler takes many at once: names of a rig are short and begin alike.
-pub fn same_name(a: &[u8], b: &[u8]) -> bool
+pub(crate) fn same_name(a: &[u8], b: &[u8]) -> bool
     ensures { λ r. ⌜ r ≡ sameName (now (a .entry)) (now (b .entry)) ⌝ }
 {
     if a.len() != b.len() {
