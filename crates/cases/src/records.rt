@@ -3,7 +3,6 @@ use crate::say::hex;
 use crate::say::number;
 use crate::say::refused;
 use crate::say::word;
-use attr::AdsAttribute;
 use attr::AttributeAnswer;
 use flags::symbol_flags::AdsSymbol2Flags;
 use flags::symbol_flags::AdsSymbolFlags;
@@ -127,12 +126,12 @@ pub(crate) fn flags(out: &mut [u8], at: usize, d: &[u8]) -> usize {
 }
 
 pub(crate) fn attribute(out: &mut [u8], at: usize, d: &[u8]) -> usize {
-    match AdsAttribute::try_from_slice(d) {
+    match attributes::try_from_slice(d) {
         AttributeAnswer::Record(a) => {
             let p = word(out, at, b"ok");
-            let q = number(out, p, a.wire_size());
-            let r = hex(out, q, AdsAttribute::name(d));
-            hex(out, r, AdsAttribute::value(d))
+            let q = number(out, p, attributes::wire_size(a));
+            let r = hex(out, q, attributes::name(d));
+            hex(out, r, attributes::value(d))
         }
         AttributeAnswer::Refused(why) => refused(out, at, why),
     }

@@ -1,7 +1,6 @@
 // What the writers write into a spare buffer.
 use crate::line::argument;
 use crate::say::written;
-use attr::AdsAttribute;
 use field_writer::FieldNumbers;
 use flags::type_flags::AdsTypeFlags;
 use refactor::AdsRefactorInfo;
@@ -14,7 +13,7 @@ pub(crate) fn attribute(
     d: &[u8],
     spare: &mut [u8],
 ) -> usize {
-    let answer = AdsAttribute::to_vec(argument(line, d, 0), argument(line, d, 1), spare);
+    let answer = attributes::to_vec(argument(line, d, 0), argument(line, d, 1), spare);
     written(out, at, answer, spare)
 }
 

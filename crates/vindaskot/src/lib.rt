@@ -1,5 +1,4 @@
 // The interface for the studio's own software, which is not Rattle: numbers and byte slices, and a status.
-use attr::AdsAttribute;
 use field::AdsFieldInfo;
 use field_writer::FieldNumbers;
 use flags::index_group::IndexGroup;
@@ -174,7 +173,7 @@ pub extern "C" fn vindaskot_attribute_read(
     ensures { λ r. ⌜ Tells (attributeTold (attributeRead (now (bytes .entry)))) r (now (answer .exit)) ⌝ }
     ensures { λ _. ⌜ now (slots .exit) ≡ attributeSlotsAfter (attributeRead (now (bytes .entry))) (now (slots .entry)) ⌝ }
 {
-    told::attribute(AdsAttribute::try_from_slice(bytes), slots, answer)
+    told::attribute(attributes::try_from_slice(bytes), slots, answer)
 }
 
 #[no_mangle]
@@ -239,7 +238,7 @@ pub extern "C" fn vindaskot_attribute_write(
 ) -> u32
     ensures { λ r. ⌜ WritesTold (attributeWriting (now (name .entry)) (now (value .entry))) (now (out .entry)) (now (out .exit)) r (now (answer .exit)) ⌝ }
 {
-    told::written(AdsAttribute::to_vec(name, value, out), answer)
+    told::written(attributes::to_vec(name, value, out), answer)
 }
 
 #[no_mangle]
