@@ -6,7 +6,6 @@ use flags::index_offset::IndexOffset;
 use flags::symbol_flags::AdsSymbol2Flags;
 use flags::symbol_flags::AdsSymbolFlags;
 use flags::type_flags::AdsTypeFlags;
-use refactor::AdsRefactorInfo;
 use refusal::Checked;
 use refusal::Refusal;
 use symbol::AdsSymbolInfo;
@@ -185,14 +184,14 @@ pub extern "C" fn vindaskot_refactor_read(
     ensures { λ r. ⌜ Tells (refactorTold (refactorRead (now (bytes .entry)))) r (now (answer .exit)) ⌝ }
     ensures { λ _. ⌜ now (slots .exit) ≡ refactorSlotsAfter (refactorRead (now (bytes .entry))) (now (slots .entry)) ⌝ }
 {
-    told::refactor(AdsRefactorInfo::try_from_slice(bytes), slots, answer)
+    told::refactor(refactor_info::try_from_slice(bytes), slots, answer)
 }
 
 #[no_mangle]
 pub extern "C" fn vindaskot_chain_read(bytes: &[u8], answer: &mut [u64; 2]) -> u32
     ensures { λ r. ⌜ Tells (chainTold (chainRead (now (bytes .entry)))) r (now (answer .exit)) ⌝ }
 {
-    told::chain(AdsRefactorInfo::parse_chain(bytes), answer)
+    told::chain(refactor_info::parse_chain(bytes), answer)
 }
 
 #[no_mangle]
@@ -205,7 +204,7 @@ pub extern "C" fn vindaskot_chain_record(
     ensures { λ r. ⌜ Tells (refactorTold (chainNth (now (bytes .entry)) number)) r (now (answer .exit)) ⌝ }
     ensures { λ _. ⌜ now (slots .exit) ≡ refactorSlotsAfter (chainNth (now (bytes .entry)) number) (now (slots .entry)) ⌝ }
 {
-    told::refactor(AdsRefactorInfo::chain_record(bytes, number), slots, answer)
+    told::refactor(refactor_info::chain_record(bytes, number), slots, answer)
 }
 
 #[no_mangle]
@@ -252,7 +251,7 @@ pub extern "C" fn vindaskot_refactor_write(
     ensures { λ r. ⌜ WritesTold (refactorWriting count «has_next» (now (name .entry))) (now (out .entry)) (now (out .exit)) r (now (answer .exit)) ⌝ }
 {
     told::written(
-        AdsRefactorInfo::to_vec_with_next(count, has_next, name, out),
+        refactor_info::to_vec_with_next(count, has_next, name, out),
         answer,
     )
 }
@@ -266,7 +265,7 @@ pub extern "C" fn vindaskot_refactor_block_write(
 ) -> u32
     ensures { λ r. ⌜ WritesTold (blockWriting count (now (block .entry))) (now (out .entry)) (now (out .exit)) r (now (answer .exit)) ⌝ }
 {
-    told::written(AdsRefactorInfo::entries_to_vec(count, block, out), answer)
+    told::written(refactor_info::entries_to_vec(count, block, out), answer)
 }
 
 fn check_guid(present: usize) -> Checked

@@ -1,17 +1,17 @@
 use mathlib.Core.Path.{_∙_, sym}
 use borrow.Author.Tests.{lt-ltb, le-ltb}
 use Rattle.refactor.proofs.Laws.{block-writes, length-block}
 use Rattle.refactor.specs.Writing.{blockWriting}
 use Rattle.le.proofs.Laws.{after}
 use Rattle.refusal.proofs.Laws.{refuses, too-small, done}
 use borrow.Author.Needs.{needs}
-use Rattle.refactor.proofs.AdsRefactorInfo.entries_to_vec.Statement.{statement}
-use Rattle.refactor.proofs.AdsRefactorInfo.entries_to_vec.Tie as tie
-use Rattle.refactor.proofs.AdsRefactorInfo.entries_to_vec.Reads as reads
-use Rattle.refactor.proofs.AdsRefactorInfo.entries_to_vec.Lts as lts
+use Rattle.refactor_info.proofs.entries_to_vec.Statement.{statement}
+use Rattle.refactor_info.proofs.entries_to_vec.Tie as tie
+use Rattle.refactor_info.proofs.entries_to_vec.Reads as reads
+use Rattle.refactor_info.proofs.entries_to_vec.Lts as lts
 use Rattle.le.proofs.put_bytes.Reads as put-bytes-reads
 use Rattle.le.proofs.put_u16.Reads as put-u16-reads
 use Rattle.refactor.proofs.check_refactors.Reads as check-refactors-reads
 
 returns : tie.Need-returns
 unfolding blockWriting
