@@ -8,7 +8,6 @@ use flags::symbol_flags::AdsSymbolFlags;
 use flags::type_flags::AdsTypeFlags;
 use refusal::Checked;
 use refusal::Refusal;
-use symbol::AdsSymbolInfo;
 use symbol_writer::SymbolNumbers;
 ghost use mathlib.Core.Path.{_≡_};
 ghost use lib.ListN.{length};
@@ -52,7 +51,7 @@ pub extern "C" fn vindaskot_symbol_read(
     ensures { λ _. ⌜ now (slots .exit) ≡ symbolSlotsAfter (symbols.stepIs (symbolRead (now (bytes .entry)) .answer)) (now (slots .entry)) ⌝ }
     ensures { λ _. ⌜ now (guid .exit) ≡ symbolGuidAfter (symbols.stepIs (symbolRead (now (bytes .entry)) .answer)) (symbolRead (now (bytes .entry)) .guid) (now (guid .entry)) ⌝ }
 {
-    told::symbol_read(AdsSymbolInfo::try_from_slice(bytes), slots, guid, answer)
+    told::symbol_read(symbol_info::try_from_slice(bytes), slots, guid, answer)
 }
 
 #[no_mangle]
@@ -82,7 +81,7 @@ pub extern "C" fn vindaskot_symbol_attribute(
     ensures { λ r. ⌜ Tells (attributeTold (symbolAttribute (now (bytes .entry)) number)) r (now (answer .exit)) ⌝ }
     ensures { λ _. ⌜ now (slots .exit) ≡ attributeSlotsAfter (symbolAttribute (now (bytes .entry)) number) (now (slots .entry)) ⌝ }
 {
-    told::attribute(AdsSymbolInfo::attribute(bytes, number), slots, answer)
+    told::attribute(symbol_info::attribute(bytes, number), slots, answer)
 }
 
 #[no_mangle]
@@ -95,7 +94,7 @@ pub extern "C" fn vindaskot_symbol_refactor_info(
     ensures { λ r. ⌜ Tells (refactorTold (symbolRefactor (now (bytes .entry)) number)) r (now (answer .exit)) ⌝ }
     ensures { λ _. ⌜ now (slots .exit) ≡ refactorSlotsAfter (symbolRefactor (now (bytes .entry)) number) (now (slots .entry)) ⌝ }
 {
-    told::refactor(AdsSymbolInfo::refactor_info(bytes, number), slots, answer)
+    told::refactor(symbol_info::refactor_info(bytes, number), slots, answer)
 }
 
 #[no_mangle]

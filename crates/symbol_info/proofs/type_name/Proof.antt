@@ -1,12 +1,12 @@
-use Rattle.symbol.specs.Questions.{symbolComment}
+use Rattle.symbol.specs.Questions.{symbolTypeName}
 use borrow.Author.Tests.{lt-ltb, le-ltb, le-leb, lt-leb, eq-eqb, ne-eqb}
 use borrow.Author.Needs.{needs}
-use Rattle.symbol.proofs.AdsSymbolInfo.comment.Statement.{statement}
-use Rattle.symbol.proofs.AdsSymbolInfo.comment.Tie as tie
-use Rattle.symbol.proofs.AdsSymbolInfo.comment.Reads as reads
-use Rattle.symbol.proofs.AdsSymbolInfo.comment.Lts as lts
+use Rattle.symbol_info.proofs.type_name.Statement.{statement}
+use Rattle.symbol_info.proofs.type_name.Tie as tie
+use Rattle.symbol_info.proofs.type_name.Reads as reads
+use Rattle.symbol_info.proofs.type_name.Lts as lts
 use Rattle.le.proofs.part_of.Reads as part-of-reads
-use Rattle.symbol.proofs.answer_to.Reads as answer-to-reads
+use Rattle.symbol_info.proofs.answer_to.Reads as answer-to-reads
 use Rattle.le.proofs.wide.Reads as wide-reads
 
 answer-to-requires : tie.Need-answer-to-requires
@@ -18,17 +18,11 @@ enum-known-r c = search needs
 wide-requires : tie.Need-wide-requires
 wide-requires c κs = search needs
 
-add-at : tie.Need-add-at
-add-at c = search needs
+add-part-of : tie.Need-add-part-of
+add-part-of c = search needs
 
 wide-requires-2 : tie.Need-wide-requires-2
 wide-requires-2 c κs = search needs
-
-add-at-2 : tie.Need-add-at-2
-add-at-2 c = search needs
-
-wide-requires-3 : tie.Need-wide-requires-3
-wide-requires-3 c κs = search needs
 
 part-of-requires : tie.Need-part-of-requires
 part-of-requires c κs = search needs
@@ -40,24 +34,22 @@ slice-aggregate-result : tie.Need-slice-aggregate-result
 slice-aggregate-result c = search needs
 
 returns : tie.Need-returns
-unfolding symbolComment
-returns c = simp (← c .part-of .ensures, ← c .before .wide3 .ensures, ← c .before .before .wide2 .ensures, ← c .before .before .before .wide .ensures, c .before .before .before .before .before .r .given .1, ← c .before .before .before .before .before .before .before .answer-to .ensures)
+unfolding symbolTypeName
+returns c = simp (← c .part-of .ensures, ← c .before .wide2 .ensures, ← c .before .before .wide .ensures, c .before .before .before .before .r .given .1, ← c .before .before .before .before .before .before .answer-to .ensures)
 
 returns-2 : tie.Need-returns-2
-unfolding symbolComment
+unfolding symbolTypeName
 returns-2 c = simp (c .before .enum-told .given .1, ← c .before .before .before .answer-to .ensures)
 
-pub comment-spec : {M : Type 1} → statement M
-comment-spec =
+pub type-name-spec : {M : Type 1} → statement M
+type-name-spec =
     tie.close
     (tie.spec
     answer-to-requires
     enum-known-r
     wide-requires
-    add-at
+    add-part-of
     wide-requires-2
-    add-at-2
-    wide-requires-3
     part-of-requires
     enum-told
     slice-aggregate-result
