@@ -1,5 +1,4 @@
 // The interface for the studio's own software, which is not Rattle: numbers and byte slices, and a status.
-use field::AdsFieldInfo;
 use field_writer::FieldNumbers;
 use flags::index_group::IndexGroup;
 use flags::index_offset::IndexOffset;
@@ -108,7 +107,7 @@ pub extern "C" fn vindaskot_field_read(
     ensures { λ _. ⌜ now (slots .exit) ≡ fieldSlotsAfter (fields.stepIs (fieldRead (now (bytes .entry)) .answer)) (now (slots .entry)) ⌝ }
     ensures { λ _. ⌜ now (guid .exit) ≡ fieldGuidAfter (fields.stepIs (fieldRead (now (bytes .entry)) .answer)) (fieldRead (now (bytes .entry)) .guid) (now (guid .entry)) ⌝ }
 {
-    told::field_read(AdsFieldInfo::try_from_slice(bytes), slots, guid, answer)
+    told::field_read(field_info::try_from_slice(bytes), slots, guid, answer)
 }
 
 #[no_mangle]
@@ -138,7 +137,7 @@ pub extern "C" fn vindaskot_field_attribute(
     ensures { λ r. ⌜ Tells (attributeTold (fieldAttribute (now (bytes .entry)) number)) r (now (answer .exit)) ⌝ }
     ensures { λ _. ⌜ now (slots .exit) ≡ attributeSlotsAfter (fieldAttribute (now (bytes .entry)) number) (now (slots .entry)) ⌝ }
 {
-    told::attribute(AdsFieldInfo::attribute(bytes, number), slots, answer)
+    told::attribute(field_info::attribute(bytes, number), slots, answer)
 }
 
 #[no_mangle]

@@ -1,7 +1,7 @@
 use Rattle.field.specs.Questions.{fieldName}
 use borrow.Author.Needs.{needs}
-use Rattle.field.proofs.AdsFieldInfo.name.Statement.{statement}
-use Rattle.field.proofs.AdsFieldInfo.name.Tie as tie
+use Rattle.field_info.proofs.name.Statement.{statement}
+use Rattle.field_info.proofs.name.Tie as tie
 
 answer-to-requires : tie.Need-answer-to-requires
 answer-to-requires c κs = search needs

@@ -1,6 +1,6 @@
 use borrow.Author.Needs.{needs}
-use Rattle.field.proofs.answer_to.Statement.{statement}
-use Rattle.field.proofs.answer_to.Tie as tie
+use Rattle.field_info.proofs.answer_to.Statement.{statement}
+use Rattle.field_info.proofs.answer_to.Tie as tie
 
 try-from-slice-requires : tie.Need-try-from-slice-requires
 try-from-slice-requires c κs = search needs

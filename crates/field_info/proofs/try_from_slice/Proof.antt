@@ -1,7 +1,7 @@
 use Rattle.field.specs.Field.{fieldRead}
 use borrow.Author.Needs.{needs}
-use Rattle.field.proofs.AdsFieldInfo.try_from_slice.Statement.{statement}
-use Rattle.field.proofs.AdsFieldInfo.try_from_slice.Tie as tie
+use Rattle.field_info.proofs.try_from_slice.Statement.{statement}
+use Rattle.field_info.proofs.try_from_slice.Tie as tie
 
 direct-claim-requires : tie.Need-direct-claim-requires
 direct-claim-requires c κs = search needs

@@ -1,6 +1,6 @@
 use borrow.Author.Needs.{needs}
-use Rattle.field.proofs.AdsFieldInfo.attribute_name.Statement.{statement}
-use Rattle.field.proofs.AdsFieldInfo.attribute_name.Tie as tie
+use Rattle.field_info.proofs.attribute_name.Statement.{statement}
+use Rattle.field_info.proofs.attribute_name.Tie as tie
 
 own-bytes-requires : tie.Need-own-bytes-requires
 own-bytes-requires c κs = search needs

@@ -1,8 +1,8 @@
 use Rattle.field.specs.Questions.{fieldAttribute}
 use borrow.Author.Tests.{lt-ltb, le-ltb}
 use borrow.Author.Needs.{needs}
-use Rattle.field.proofs.AdsFieldInfo.attribute.Statement.{statement}
-use Rattle.field.proofs.AdsFieldInfo.attribute.Tie as tie
+use Rattle.field_info.proofs.attribute.Statement.{statement}
+use Rattle.field_info.proofs.attribute.Tie as tie
 
 answer-to-requires : tie.Need-answer-to-requires
 answer-to-requires c κs = search needs

@@ -1,6 +1,6 @@
 use borrow.Author.Needs.{needs}
-use Rattle.field.proofs.AdsFieldInfo.attribute_value.Statement.{statement}
-use Rattle.field.proofs.AdsFieldInfo.attribute_value.Tie as tie
+use Rattle.field_info.proofs.attribute_value.Statement.{statement}
+use Rattle.field_info.proofs.attribute_value.Tie as tie
 
 own-bytes-requires : tie.Need-own-bytes-requires
 own-bytes-requires c κs = search needs
