@@ -1,16 +1,11 @@
-use mathlib.Core.Path.{refl}
 use borrow.Author.Tests.{lt-ltb, le-ltb}
 use Rattle.attr.proofs.Laws.{length-attribute, writes}
 use Rattle.attr.specs.Writing.{attributeWriting, attributeBytes}
-use Rattle.le.proofs.Laws.{after, same-bytes}
+use Rattle.le.proofs.Laws.{after}
 use Rattle.refusal.proofs.Laws.{refuses, too-small, done}
 use borrow.Author.Needs.{needs}
 use Rattle.attributes.proofs.to_vec.Statement.{statement}
 use Rattle.attributes.proofs.to_vec.Tie as tie
-use Rattle.attributes.proofs.to_vec.Reads as reads
-use Rattle.attributes.proofs.to_vec.Lts as lts
-use Rattle.le.proofs.put_bytes.Reads as put-bytes-reads
-use Rattle.le.proofs.put_u8.Reads as put-u8-reads
 
 returns : tie.Need-returns
 unfolding attributeWriting

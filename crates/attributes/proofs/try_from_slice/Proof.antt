@@ -1,11 +1,8 @@
 use Rattle.attr.specs.Attribute.{attributeRead}
-use borrow.Author.Tests.{lt-ltb, le-ltb, le-leb, lt-leb, eq-eqb, ne-eqb}
+use borrow.Author.Tests.{lt-ltb, le-ltb}
 use borrow.Author.Needs.{needs}
 use Rattle.attributes.proofs.try_from_slice.Statement.{statement}
 use Rattle.attributes.proofs.try_from_slice.Tie as tie
-use Rattle.attributes.proofs.try_from_slice.Reads as reads
-use Rattle.attributes.proofs.try_from_slice.Lts as lts
-use Rattle.attr.proofs.attribute_at.Reads as attribute-at-reads
 
 returns : tie.Need-returns
 unfolding attributeRead

@@ -1,11 +1,6 @@
-use borrow.Author.Tests.{lt-ltb, le-ltb, le-leb, lt-leb, eq-eqb, ne-eqb}
 use borrow.Author.Needs.{needs}
 use Rattle.refactor_info.proofs.chain_name.Statement.{statement}
 use Rattle.refactor_info.proofs.chain_name.Tie as tie
-use Rattle.refactor_info.proofs.chain_name.Reads as reads
-use Rattle.refactor_info.proofs.chain_name.Lts as lts
-use Rattle.refactor_info.proofs.chain_record.Reads as chain-record-reads
-use Rattle.refactor.proofs.name_in.Reads as name-in-reads
 
 chain-record-requires : tie.Need-chain-record-requires
 chain-record-requires c κs = search needs

@@ -1,12 +1,8 @@
 use Rattle.refactor.specs.Refactor.{chainNth}
-use borrow.Author.Tests.{lt-ltb, le-ltb, le-leb, lt-leb, eq-eqb, ne-eqb}
+use borrow.Author.Tests.{lt-ltb, le-ltb}
 use borrow.Author.Needs.{needs}
 use Rattle.refactor_info.proofs.chain_record.Statement.{statement}
 use Rattle.refactor_info.proofs.chain_record.Tie as tie
-use Rattle.refactor_info.proofs.chain_record.Reads as reads
-use Rattle.refactor_info.proofs.chain_record.Lts as lts
-use Rattle.refactor_info.proofs.parse_chain.Reads as parse-chain-reads
-use Rattle.refactor.proofs.refactor_nth.Reads as refactor-nth-reads
 
 parse-chain-requires : tie.Need-parse-chain-requires
 parse-chain-requires c κs = search needs

@@ -7,11 +7,6 @@ use Rattle.refusal.proofs.Laws.{refuses, too-small, done}
 use borrow.Author.Needs.{needs}
 use Rattle.refactor_info.proofs.entries_to_vec.Statement.{statement}
 use Rattle.refactor_info.proofs.entries_to_vec.Tie as tie
-use Rattle.refactor_info.proofs.entries_to_vec.Reads as reads
-use Rattle.refactor_info.proofs.entries_to_vec.Lts as lts
-use Rattle.le.proofs.put_bytes.Reads as put-bytes-reads
-use Rattle.le.proofs.put_u16.Reads as put-u16-reads
-use Rattle.refactor.proofs.check_refactors.Reads as check-refactors-reads
 
 returns : tie.Need-returns
 unfolding blockWriting

@@ -1,8 +1,6 @@
 use Rattle.refactor.specs.Writing.{packedOf}
 use Rattle.refactor_info.proofs.packed.Statement.{statement}
 use Rattle.refactor_info.proofs.packed.Tie as tie
-use Rattle.refactor_info.proofs.packed.Reads as reads
-use Rattle.refactor_info.proofs.packed.Lts as lts
 
 returns : tie.Need-returns
 unfolding packedOf

@@ -1,11 +1,8 @@
 use Rattle.refactor.specs.Refactor.{chainRead}
-use borrow.Author.Tests.{lt-ltb, le-ltb, le-leb, lt-leb, eq-eqb, ne-eqb}
+use borrow.Author.Tests.{lt-ltb, le-ltb}
 use borrow.Author.Needs.{needs}
 use Rattle.refactor_info.proofs.parse_chain.Statement.{statement}
 use Rattle.refactor_info.proofs.parse_chain.Tie as tie
-use Rattle.refactor_info.proofs.parse_chain.Reads as reads
-use Rattle.refactor_info.proofs.parse_chain.Lts as lts
-use Rattle.refactor.proofs.chain_from.Reads as chain-from-reads
 
 returns : tie.Need-returns
 unfolding chainRead

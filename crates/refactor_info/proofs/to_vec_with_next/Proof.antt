@@ -6,13 +6,6 @@ use Rattle.refusal.proofs.Laws.{refuses, too-small, done}
 use borrow.Author.Needs.{needs}
 use Rattle.refactor_info.proofs.to_vec_with_next.Statement.{statement}
 use Rattle.refactor_info.proofs.to_vec_with_next.Tie as tie
-use Rattle.refactor_info.proofs.to_vec_with_next.Reads as reads
-use Rattle.refactor_info.proofs.to_vec_with_next.Lts as lts
-use Rattle.le.proofs.put_bytes.Reads as put-bytes-reads
-use Rattle.le.proofs.put_u16.Reads as put-u16-reads
-use Rattle.le.proofs.put_u32.Reads as put-u32-reads
-use Rattle.le.proofs.put_u8.Reads as put-u8-reads
-use Rattle.refactor_info.proofs.packed.Reads as packed-reads
 
 returns : tie.Need-returns
 unfolding refactorWriting

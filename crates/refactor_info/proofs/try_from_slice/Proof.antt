@@ -1,11 +1,8 @@
 use Rattle.refactor.specs.Refactor.{refactorRead}
-use borrow.Author.Tests.{lt-ltb, le-ltb, le-leb, lt-leb, eq-eqb, ne-eqb}
+use borrow.Author.Tests.{lt-ltb, le-ltb}
 use borrow.Author.Needs.{needs}
 use Rattle.refactor_info.proofs.try_from_slice.Statement.{statement}
 use Rattle.refactor_info.proofs.try_from_slice.Tie as tie
-use Rattle.refactor_info.proofs.try_from_slice.Reads as reads
-use Rattle.refactor_info.proofs.try_from_slice.Lts as lts
-use Rattle.refactor.proofs.refactor_at.Reads as refactor-at-reads
 
 returns : tie.Need-returns
 unfolding refactorRead

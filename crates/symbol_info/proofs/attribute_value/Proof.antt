@@ -1,12 +1,6 @@
-use borrow.Author.Tests.{lt-ltb, le-ltb, le-leb, lt-leb, eq-eqb, ne-eqb}
 use borrow.Author.Needs.{needs}
 use Rattle.symbol_info.proofs.attribute_value.Statement.{statement}
 use Rattle.symbol_info.proofs.attribute_value.Tie as tie
-use Rattle.symbol_info.proofs.attribute_value.Reads as reads
-use Rattle.symbol_info.proofs.attribute_value.Lts as lts
-use Rattle.attr.proofs.value_in.Reads as value-in-reads
-use Rattle.entry.proofs.own_bytes.Reads as own-bytes-reads
-use Rattle.symbol_info.proofs.attribute.Reads as attribute-reads
 
 own-bytes-requires : tie.Need-own-bytes-requires
 own-bytes-requires c κs = search needs

@@ -1,13 +1,7 @@
 use Rattle.symbol.specs.Questions.{symbolComment}
-use borrow.Author.Tests.{lt-ltb, le-ltb, le-leb, lt-leb, eq-eqb, ne-eqb}
 use borrow.Author.Needs.{needs}
 use Rattle.symbol_info.proofs.comment.Statement.{statement}
 use Rattle.symbol_info.proofs.comment.Tie as tie
-use Rattle.symbol_info.proofs.comment.Reads as reads
-use Rattle.symbol_info.proofs.comment.Lts as lts
-use Rattle.le.proofs.part_of.Reads as part-of-reads
-use Rattle.symbol_info.proofs.answer_to.Reads as answer-to-reads
-use Rattle.le.proofs.wide.Reads as wide-reads
 
 answer-to-requires : tie.Need-answer-to-requires
 answer-to-requires c κs = search needs

@@ -1,13 +1,7 @@
 use Rattle.symbol.specs.Symbol.{symbolRead}
-use borrow.Author.Tests.{lt-ltb, le-ltb, le-leb, lt-leb, eq-eqb, ne-eqb}
 use borrow.Author.Needs.{needs}
 use Rattle.symbol_info.proofs.try_from_slice.Statement.{statement}
 use Rattle.symbol_info.proofs.try_from_slice.Tie as tie
-use Rattle.symbol_info.proofs.try_from_slice.Reads as reads
-use Rattle.symbol_info.proofs.try_from_slice.Lts as lts
-use Rattle.entry.proofs.direct_claim.Reads as direct-claim-reads
-use Rattle.le.proofs.part_of.Reads as part-of-reads
-use Rattle.symbol.proofs.read_entry.Reads as read-entry-reads
 
 direct-claim-requires : tie.Need-direct-claim-requires
 direct-claim-requires c κs = search needs
