@@ -1,13 +1,12 @@
-// Attribute records, read and written. The Rust's attributes.rs.
+// Attribute records inside an entry or a block: at a place, listed, by number, checked. Crate attributes offers a record that stands alone.
 use refusal::Checked;
 use refusal::Counted;
 use refusal::Refusal;
-use refusal::Written;
 ghost use mathlib.Core.Path.{_≡_};
 ghost use Prim.Native.Nat.{_+_};
-ghost use Rattle.attr.specs.Attribute.{attributeAt, attributeRead, nameIn, valueIn, attributesFrom, attributesAt, attributeNth};
-ghost use Rattle.attr.specs.Writing.{attributeWriting, attributesChecked, endsZero, goodAttribute};
-ghost use Rattle.refusal.specs.Writing.{Writes, goodFrom};
+ghost use Rattle.attr.specs.Attribute.{attributeAt, nameIn, valueIn, attributesFrom, attributesAt, attributeNth};
+ghost use Rattle.attr.specs.Writing.{attributesChecked, endsZero, goodAttribute};
+ghost use Rattle.refusal.specs.Writing.{goodFrom};
 
 // A record of a slice: its two strings by place and length, and the place after it.
 pub struct AdsAttribute {
@@ -43,65 +42,6 @@ pub struct Attributes {
 
 impl AdsAttribute {
     pub const MIN_LENGTH: usize = 4;
-
-    pub fn try_from_slice(bytes: &[u8]) -> AttributeAnswer
-        ensures { λ r. ⌜ r ≡ attributeRead (now (bytes .entry)) ⌝ }
-    {
-        let length = bytes.len();
-        if refusal::LIMIT < length {
-            return AttributeAnswer::Refused(Refusal::TooLarge { length });
-        }
-        attribute_at(bytes, 0)
-    }
-
-    pub fn name(bytes: &[u8]) -> &[u8]
-        ensures { λ r. ⌜ now r ≡ nameIn (now (bytes .entry)) (attributeRead (now (bytes .entry))) ⌝ }
-    {
-        name_in(bytes, AdsAttribute::try_from_slice(bytes))
-    }
-
-    pub fn value(bytes: &[u8]) -> &[u8]
-        ensures { λ r. ⌜ now r ≡ valueIn (now (bytes .entry)) (attributeRead (now (bytes .entry))) ⌝ }
-    {
-        value_in(bytes, AdsAttribute::try_from_slice(bytes))
-    }
-
-    pub fn wire_size(self) -> usize
-        ensures { λ r. ⌜ r ≡ self .«name_len» + self .«value_len» + 4 ⌝ }
-    {
-        (self.name_len as usize) + (self.value_len as usize) + 4
-    }
-
-    pub fn to_vec(name: &[u8], value: &[u8], out: &mut [u8]) -> Written
-        ensures { λ r. ⌜ Writes (attributeWriting (now (name .entry)) (now (value .entry))) (now (out .entry)) (now (out .exit)) r ⌝ }
-    {
-        if 255 < name.len() {
-            return Written::Refused(Refusal::TooLong {
-                most: 255,
-                actual: name.len(),
-            });
-        }
-        if 255 < value.len() {
-            return Written::Refused(Refusal::TooLong {
-                most: 255,
-                actual: value.len(),
-            });
-        }
-        let needed = name.len() + value.len() + 4;
-        if out.len() < needed {
-            return Written::Refused(Refusal::OutputTooSmall {
-                needed,
-                lent: out.len(),
-            });
-        }
-        let a = le::put_u8(out, 0, name.len() as u8);
-        let b = le::put_u8(out, a, value.len() as u8);
-        let c = le::put_bytes(out, b, name);
-        let d = le::put_u8(out, c, 0);
-        let e = le::put_bytes(out, d, value);
-        let f = le::put_u8(out, e, 0);
-        Written::Done(f)
-    }
 }
 
 // The record at a place of an entry's or a block's own bytes.

@@ -3,7 +3,6 @@ use crate::say::hex;
 use crate::say::number;
 use crate::say::refused;
 use crate::say::word;
-use attr::AdsAttribute;
 use attr::AttributeAnswer;
 use flags::symbol_flags::AdsSymbol2Flags;
 use flags::symbol_flags::AdsSymbolFlags;
@@ -127,12 +126,12 @@ pub(crate) fn flags(out: &mut [u8], at: usize, d: &[u8]) -> usize {
 }
 
 pub(crate) fn attribute(out: &mut [u8], at: usize, d: &[u8]) -> usize {
-    match AdsAttribute::try_from_slice(d) {
+    match attributes::try_from_slice(d) {
         AttributeAnswer::Record(a) => {
             let p = word(out, at, b"ok");
-            let q = number(out, p, a.wire_size());
-            let r = hex(out, q, AdsAttribute::name(d));
-            hex(out, r, AdsAttribute::value(d))
+            let q = number(out, p, attributes::wire_size(a));
+            let r = hex(out, q, attributes::name(d));
+            hex(out, r, attributes::value(d))
         }
         AttributeAnswer::Refused(why) => refused(out, at, why),
     }
@@ -146,30 +145,30 @@ pub(crate) fn refactor_of(out: &mut [u8], at: usize, r: AdsRefactorInfo, name: &
 }
 
 pub(crate) fn refactor(out: &mut [u8], at: usize, d: &[u8]) -> usize {
-    match AdsRefactorInfo::try_from_slice(d) {
+    match refactor_info::try_from_slice(d) {
         RefactorAnswer::Record(r) => {
             let p = word(out, at, b"ok");
             let q = number(out, p, r.next);
-            refactor_of(out, q, r, AdsRefactorInfo::name(d))
+            refactor_of(out, q, r, refactor_info::name(d))
         }
         RefactorAnswer::Refused(why) => refused(out, at, why),
     }
 }
 
 pub(crate) fn wire_size(out: &mut [u8], at: usize, d: &[u8]) -> usize {
-    match AdsRefactorInfo::try_from_slice(d) {
+    match refactor_info::try_from_slice(d) {
         RefactorAnswer::Record(r) => {
             let p = word(out, at, b"ok");
-            let q = number(out, p, r.wire_size());
-            refactor_of(out, q, r, AdsRefactorInfo::name(d))
+            let q = number(out, p, refactor_info::wire_size(r));
+            refactor_of(out, q, r, refactor_info::name(d))
         }
         RefactorAnswer::Refused(why) => refused(out, at, why),
     }
 }
 
 fn chain_record(out: &mut [u8], at: usize, d: &[u8], i: usize) -> usize {
-    match AdsRefactorInfo::chain_record(d, i) {
-        RefactorAnswer::Record(r) => refactor_of(out, at, r, AdsRefactorInfo::chain_name(d, i)),
+    match refactor_info::chain_record(d, i) {
+        RefactorAnswer::Record(r) => refactor_of(out, at, r, refactor_info::chain_name(d, i)),
         RefactorAnswer::Refused(why) => refused(out, at, why),
     }
 }
@@ -192,7 +191,7 @@ fn chain_records(out: &mut [u8], from: usize, d: &[u8], count: usize) -> usize {
 }
 
 pub(crate) fn chain(out: &mut [u8], at: usize, d: &[u8]) -> usize {
-    match AdsRefactorInfo::parse_chain(d) {
+    match refactor_info::parse_chain(d) {
         ChainAnswer::Whole(chain) => {
             let p = word(out, at, b"ok");
             let q = number(out, p, chain.next);

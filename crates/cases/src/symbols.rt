@@ -30,15 +30,15 @@ fn kind(out: &mut [u8], at: usize, info: AdsSymbolInfo) -> usize {
 }
 
 fn strings(out: &mut [u8], at: usize, e: &[u8]) -> usize {
-    let p = hex(out, at, AdsSymbolInfo::name(e));
-    let q = hex(out, p, AdsSymbolInfo::type_name(e));
-    hex(out, q, AdsSymbolInfo::comment(e))
+    let p = hex(out, at, symbol_info::name(e));
+    let q = hex(out, p, symbol_info::type_name(e));
+    hex(out, q, symbol_info::comment(e))
 }
 
 fn attribute_if(out: &mut [u8], at: usize, e: &[u8], i: usize, count: usize) -> usize {
     if is_listed(i, count) {
-        let p = hex(out, at, AdsSymbolInfo::attribute_name(e, i));
-        return hex(out, p, AdsSymbolInfo::attribute_value(e, i));
+        let p = hex(out, at, symbol_info::attribute_name(e, i));
+        return hex(out, p, symbol_info::attribute_value(e, i));
     }
     at
 }
@@ -54,8 +54,8 @@ fn attributes(out: &mut [u8], from: usize, e: &[u8], count: usize) -> usize {
 }
 
 fn refactor_at(out: &mut [u8], at: usize, e: &[u8], i: usize) -> usize {
-    match AdsSymbolInfo::refactor_info(e, i) {
-        RefactorAnswer::Record(r) => refactor_of(out, at, r, AdsSymbolInfo::refactor_name(e, i)),
+    match symbol_info::refactor_info(e, i) {
+        RefactorAnswer::Record(r) => refactor_of(out, at, r, symbol_info::refactor_name(e, i)),
         RefactorAnswer::Refused(why) => refused(out, at, why),
     }
 }
@@ -109,7 +109,7 @@ fn record(out: &mut [u8], at: usize, e: &[u8], info: AdsSymbolInfo, guid: [u8; 1
 }
 
 pub(crate) fn direct(out: &mut [u8], at: usize, d: &[u8]) -> usize {
-    let read = AdsSymbolInfo::try_from_slice(d);
+    let read = symbol_info::try_from_slice(d);
     let answer = read.answer;
     let guid = read.guid;
     match answer {

@@ -1,10 +1,8 @@
 // What the writers write into a spare buffer.
 use crate::line::argument;
 use crate::say::written;
-use attr::AdsAttribute;
 use field_writer::FieldNumbers;
 use flags::type_flags::AdsTypeFlags;
-use refactor::AdsRefactorInfo;
 use refusal::Written;
 
 pub(crate) fn attribute(
@@ -14,7 +12,7 @@ pub(crate) fn attribute(
     d: &[u8],
     spare: &mut [u8],
 ) -> usize {
-    let answer = AdsAttribute::to_vec(argument(line, d, 0), argument(line, d, 1), spare);
+    let answer = attributes::to_vec(argument(line, d, 0), argument(line, d, 1), spare);
     written(out, at, answer, spare)
 }
 
@@ -27,13 +25,13 @@ pub(crate) fn refactor(
 ) -> usize {
     let count = le::first_u32(argument(line, d, 0));
     let has_next = le::first_u32(argument(line, d, 1)) == 1;
-    let answer = AdsRefactorInfo::to_vec_with_next(count, has_next, argument(line, d, 2), spare);
+    let answer = refactor_info::to_vec_with_next(count, has_next, argument(line, d, 2), spare);
     written(out, at, answer, spare)
 }
 
 pub(crate) fn block(out: &mut [u8], at: usize, line: &[u8], d: &[u8], spare: &mut [u8]) -> usize {
     let count = le::first_u32(argument(line, d, 0)) as usize;
-    let answer = AdsRefactorInfo::entries_to_vec(count, argument(line, d, 1), spare);
+    let answer = refactor_info::entries_to_vec(count, argument(line, d, 1), spare);
     written(out, at, answer, spare)
 }
 

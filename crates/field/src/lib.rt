@@ -1,18 +1,13 @@
-// Field entries, read. The Rust's field_info.rs; its to_vec is the crate field_writer.
-use attr::AttributeAnswer;
+// A field entry's own bytes, read. Crate field_info offers the direct parse and what can be asked of an entry.
 use attr::Attributes;
 use attr::Ending;
-use entry::Claim;
 use flags::type_flags::AdsTypeFlags;
 use guid::Guid;
 use refusal::Refusal;
 ghost use mathlib.Core.Path.{_≡_};
 ghost use Prim.Native.Nat.{_≤_};
 ghost use lib.ListN.{length};
-ghost use Rattle.field.specs.Field.{stringsEnd, skipFrom, itemsEnd, maskEnd, methodsEnd, attributesAfter, infoOf, refused, fieldWith, fieldEntry, fieldRead};
-ghost use Rattle.field.specs.Questions.{fieldName, fieldTypeName, fieldComment, fieldAttribute};
-ghost use Rattle.attr.specs.Attribute.{nameIn, valueIn};
-ghost use Rattle.entry.specs.Entry.{ownBytes};
+ghost use Rattle.field.specs.Field.{stringsEnd, skipFrom, itemsEnd, maskEnd, methodsEnd, attributesAfter, infoOf, refused, fieldWith, fieldEntry};
 
 // Records of an entry that are asked for by number: the place of the first, and how many are shown.
 pub struct Shown {
@@ -50,100 +45,9 @@ pub struct FieldRead {
 
 impl AdsFieldInfo {
     pub const MIN_LENGTH: usize = 42;
-
-    pub fn try_from_slice(bytes: &[u8]) -> FieldRead
-        ensures { λ r. ⌜ r ≡ fieldRead (now (bytes .entry)) ⌝ }
-    {
-        match entry::direct_claim(bytes, 42) {
-            Claim::Entry(size) => read_entry(le::part_of(bytes, 0, size)),
-            Claim::Refused(why) => refused(why),
-        }
-    }
-
-    pub fn name(bytes: &[u8]) -> &[u8]
-        ensures { λ r. ⌜ now r ≡ fieldName (now (bytes .entry)) ⌝ }
-    {
-        match answer_to(bytes) {
-            FieldAnswer::Record(r) => le::part_of(bytes, 42, wide(r.name_len)),
-            FieldAnswer::Refused(_) => &bytes[..0],
-        }
-    }
-
-    pub fn type_name(bytes: &[u8]) -> &[u8]
-        ensures { λ r. ⌜ now r ≡ fieldTypeName (now (bytes .entry)) ⌝ }
-    {
-        match answer_to(bytes) {
-            FieldAnswer::Record(r) => {
-                le::part_of(bytes, 43 + wide(r.name_len), wide(r.type_name_len))
-            }
-            FieldAnswer::Refused(_) => &bytes[..0],
-        }
-    }
-
-    pub fn comment(bytes: &[u8]) -> &[u8]
-        ensures { λ r. ⌜ now r ≡ fieldComment (now (bytes .entry)) ⌝ }
-    {
-        match answer_to(bytes) {
-            FieldAnswer::Record(r) => {
-                let at = 44 + wide(r.name_len) + wide(r.type_name_len);
-                le::part_of(bytes, at, wide(r.comment_len))
-            }
-            FieldAnswer::Refused(_) => &bytes[..0],
-        }
-    }
-
-    pub fn attribute(bytes: &[u8], number: usize) -> AttributeAnswer
-        ensures { λ r. ⌜ r ≡ fieldAttribute (now (bytes .entry)) number ⌝ }
-    {
-        match answer_to(bytes) {
-            FieldAnswer::Record(r) => {
-                let shown = r.attributes;
-                if number < shown.count {
-                    return attr::attribute_nth(entry::own_bytes(bytes, 42), shown.first, number);
-                }
-                AttributeAnswer::Refused(Refusal::NoSuchNumber {
-                    count: shown.count,
-                    asked: number,
-                })
-            }
-            FieldAnswer::Refused(why) => AttributeAnswer::Refused(why),
-        }
-    }
-
-    pub fn attribute_name(bytes: &[u8], number: usize) -> &[u8]
-        ensures { λ r. ⌜ now r ≡ nameIn (ownBytes 42 (now (bytes .entry))) (fieldAttribute (now (bytes .entry)) number) ⌝ }
-    {
-        attr::name_in(
-            entry::own_bytes(bytes, 42),
-            AdsFieldInfo::attribute(bytes, number),
-        )
-    }
-
-    pub fn attribute_value(bytes: &[u8], number: usize) -> &[u8]
-        ensures { λ r. ⌜ now r ≡ valueIn (ownBytes 42 (now (bytes .entry))) (fieldAttribute (now (bytes .entry)) number) ⌝ }
-    {
-        attr::value_in(
-            entry::own_bytes(bytes, 42),
-            AdsFieldInfo::attribute(bytes, number),
-        )
-    }
 }
 
-fn answer_to(bytes: &[u8]) -> FieldAnswer
-    ensures { λ r. ⌜ r ≡ fieldRead (now (bytes .entry)) .answer ⌝ }
-{
-    let read = AdsFieldInfo::try_from_slice(bytes);
-    let answer = read.answer;
-    answer
-}
-
-fn wide(x: u16) -> usize
-    ensures { λ r. ⌜ r ≡ x ⌝ }
-{
-    x as usize
-}
-
-fn refused(why: Refusal) -> FieldRead
+pub fn refused(why: Refusal) -> FieldRead
     ensures { λ r. ⌜ r ≡ refused why ⌝ }
 {
     FieldRead {
@@ -156,9 +60,9 @@ fn strings_end(e: &[u8]) -> usize
     requires { ⌜ 42 ≤ length (now e) ⌝ }
     ensures { λ r. ⌜ r ≡ stringsEnd (now (e .entry)) ⌝ }
 {
-    let name_len = wide(le::u16_at(e, 32));
-    let type_name_len = wide(le::u16_at(e, 34));
-    let comment_len = wide(le::u16_at(e, 36));
+    let name_len = le::wide(le::u16_at(e, 32));
+    let type_name_len = le::wide(le::u16_at(e, 34));
+    let comment_len = le::wide(le::u16_at(e, 36));
     45 + name_len + type_name_len + comment_len
 }
 
@@ -182,8 +86,8 @@ fn items_end(e: &[u8], at: usize) -> usize
     requires { ⌜ (42 ≤ length (now e)) × (at ≤ length (now e)) ⌝ }
     ensures { λ r. ⌜ r ≡ itemsEnd (now (e .entry)) at ⌝ }
 {
-    let arrays = wide(le::u16_at(e, 38));
-    let items = wide(le::u16_at(e, 40));
+    let arrays = le::wide(le::u16_at(e, 38));
+    let items = le::wide(le::u16_at(e, 40));
     skip_from(e, at + 8 * arrays, items)
 }
 
@@ -204,7 +108,7 @@ fn methods_end(e: &[u8], at: usize, flagged: bool) -> usize
 {
     if flagged {
         if 2 <= le::room(e.len(), at) {
-            let count = wide(le::u16_at(e, at));
+            let count = le::wide(le::u16_at(e, at));
             return skip_from(e, at + 2, count);
         }
     }

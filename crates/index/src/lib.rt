@@ -47,7 +47,7 @@ fn both(x: bool, y: bool) -> bool
 
 // Whether a name is the one that is asked for. Names of other lengths differ, whatever their bytes.
 // It looks at all bytes, so that the compiler takes many at once: names of a rig are short and begin alike.
-pub fn same_name(a: &[u8], b: &[u8]) -> bool
+pub(crate) fn same_name(a: &[u8], b: &[u8]) -> bool
     ensures { λ r. ⌜ r ≡ sameName (now (a .entry)) (now (b .entry)) ⌝ }
 {
     if a.len() != b.len() {
@@ -62,12 +62,6 @@ pub fn same_name(a: &[u8], b: &[u8]) -> bool
     same
 }
 
-fn wide(x: u16) -> usize
-    ensures { λ r. ⌜ r ≡ x ⌝ }
-{
-    x as usize
-}
-
 fn head_of(e: &[u8]) -> Head
     ensures { λ r. ⌜ r ≡ headIs (stepIs (symbolEntry (now (e .entry)) .answer)) ⌝ }
 {
@@ -75,9 +69,9 @@ fn head_of(e: &[u8]) -> Head
     if length < 30 {
         return Head::Other;
     }
-    let name_len = wide(le::u16_at(e, 24));
-    let type_name_len = wide(le::u16_at(e, 26));
-    let comment_len = wide(le::u16_at(e, 28));
+    let name_len = le::wide(le::u16_at(e, 24));
+    let type_name_len = le::wide(le::u16_at(e, 26));
+    let comment_len = le::wide(le::u16_at(e, 28));
     if length < 33 + name_len + type_name_len + comment_len {
         return Head::Other;
     }

@@ -32,6 +32,12 @@ pub fn u32_at(s: &[u8], at: usize) -> u32
     join4(s[at], s[at + 1], s[at + 2], s[at + 3])
 }
 
+pub fn wide(x: u16) -> usize
+    ensures { λ r. ⌜ r ≡ x ⌝ }
+{
+    x as usize
+}
+
 fn byte_or_0(s: &[u8], i: usize) -> u8
     ensures { λ r. ⌜ r ≡ getD (now (s .entry)) i 0 ⌝ }
 {

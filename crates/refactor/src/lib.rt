@@ -1,13 +1,12 @@
-// Refactor records and their chains, read and written. The Rust's refactor_info.rs.
+// Refactor records inside an entry or a block: at a place, in a chain, by number, checked. Crate refactor_info offers records and chains that stand alone.
 use refusal::Checked;
 use refusal::Counted;
 use refusal::Refusal;
-use refusal::Written;
 ghost use mathlib.Core.Path.{_≡_};
 ghost use Prim.Native.Nat.{_+_};
-ghost use Rattle.refactor.specs.Refactor.{refactorAt, refactorRead, nameIn, chainAt, chainRead, chainSection, keptChain, refactorNth, chainNth};
-ghost use Rattle.refactor.specs.Writing.{packedOf, refactorWriting, goodRecord, goodRefactor, refactorsChecked, blockWriting};
-ghost use Rattle.refusal.specs.Writing.{Writes, goodFrom};
+ghost use Rattle.refactor.specs.Refactor.{refactorAt, nameIn, chainAt, chainSection, keptChain, refactorNth};
+ghost use Rattle.refactor.specs.Writing.{goodRecord, goodRefactor, refactorsChecked};
+ghost use Rattle.refusal.specs.Writing.{goodFrom};
 
 // A record of a slice: its name by place and length, and the place after it.
 pub struct AdsRefactorInfo {
@@ -40,130 +39,6 @@ impl AdsRefactorInfo {
     pub const REFACTOR_COUNT_MASK: u32 = 0x01111111;
 
     pub const NEXT_REFACTOR_INFO_MASK: u32 = 0x01000000;
-
-    pub fn try_from_slice(bytes: &[u8]) -> RefactorAnswer
-        ensures { λ r. ⌜ r ≡ refactorRead (now (bytes .entry)) ⌝ }
-    {
-        let length = bytes.len();
-        if refusal::LIMIT < length {
-            return RefactorAnswer::Refused(Refusal::TooLarge { length });
-        }
-        refactor_at(bytes, 0)
-    }
-
-    pub fn name(bytes: &[u8]) -> &[u8]
-        ensures { λ r. ⌜ now r ≡ nameIn (now (bytes .entry)) (refactorRead (now (bytes .entry))) ⌝ }
-    {
-        name_in(bytes, AdsRefactorInfo::try_from_slice(bytes))
-    }
-
-    pub fn wire_size(self) -> usize
-        ensures { λ r. ⌜ r ≡ self .«name_len» + 7 ⌝ }
-    {
-        (self.name_len as usize) + 7
-    }
-
-    pub fn to_vec_with_next(count: u32, has_next: bool, name: &[u8], out: &mut [u8]) -> Written
-        ensures { λ r. ⌜ Writes (refactorWriting count «has_next» (now (name .entry))) (now (out .entry)) (now (out .exit)) r ⌝ }
-    {
-        if 65535 < name.len() {
-            return Written::Refused(Refusal::TooLong {
-                most: 65535,
-                actual: name.len(),
-            });
-        }
-        let needed = name.len() + 7;
-        if out.len() < needed {
-            return Written::Refused(Refusal::OutputTooSmall {
-                needed,
-                lent: out.len(),
-            });
-        }
-        let a = le::put_u32(out, 0, packed(count, has_next));
-        let b = le::put_u16(out, a, name.len() as u16);
-        let c = le::put_bytes(out, b, name);
-        let d = le::put_u8(out, c, 0);
-        Written::Done(d)
-    }
-
-    // The block with its 2-byte count in front, which no reader of chains looks at.
-    pub fn entries_to_vec(count: usize, block: &[u8], out: &mut [u8]) -> Written
-        ensures { λ r. ⌜ Writes (blockWriting count (now (block .entry))) (now (out .entry)) (now (out .exit)) r ⌝ }
-    {
-        if 65535 < count {
-            return Written::Refused(Refusal::TooLong {
-                most: 65535,
-                actual: count,
-            });
-        }
-        if let Checked::Refused(why) = check_refactors(count, block) {
-            return Written::Refused(why);
-        }
-        let needed = block.len() + 2;
-        if refusal::LIMIT < needed {
-            return Written::Refused(Refusal::TooLarge { length: needed });
-        }
-        if out.len() < needed {
-            return Written::Refused(Refusal::OutputTooSmall {
-                needed,
-                lent: out.len(),
-            });
-        }
-        let a = le::put_u16(out, 0, count as u16);
-        let b = le::put_bytes(out, a, block);
-        Written::Done(b)
-    }
-
-    pub fn parse_chain(bytes: &[u8]) -> ChainAnswer
-        ensures { λ r. ⌜ r ≡ chainRead (now (bytes .entry)) ⌝ }
-    {
-        let length = bytes.len();
-        if refusal::LIMIT < length {
-            return ChainAnswer::Refused(Refusal::TooLarge { length });
-        }
-        chain_from(bytes, 0)
-    }
-
-    // The record of a chain with a number, counted from 0.
-    pub fn chain_record(bytes: &[u8], number: usize) -> RefactorAnswer
-        ensures { λ r. ⌜ r ≡ chainNth (now (bytes .entry)) number ⌝ }
-    {
-        match AdsRefactorInfo::parse_chain(bytes) {
-            ChainAnswer::Whole(chain) => {
-                let count = chain.count;
-                if number < count {
-                    return refactor_nth(bytes, 0, number);
-                }
-                RefactorAnswer::Refused(Refusal::NoSuchNumber {
-                    count,
-                    asked: number,
-                })
-            }
-            ChainAnswer::Refused(why) => RefactorAnswer::Refused(why),
-        }
-    }
-
-    pub fn chain_name(bytes: &[u8], number: usize) -> &[u8]
-        ensures { λ r. ⌜ now r ≡ nameIn (now (bytes .entry)) (chainNth (now (bytes .entry)) number) ⌝ }
-    {
-        name_in(bytes, AdsRefactorInfo::chain_record(bytes, number))
-    }
-}
-
-fn wide(x: u16) -> usize
-    ensures { λ r. ⌜ r ≡ x ⌝ }
-{
-    x as usize
-}
-
-fn packed(count: u32, has_next: bool) -> u32
-    ensures { λ r. ⌜ r ≡ packedOf count «has_next» ⌝ }
-{
-    let masked = count & AdsRefactorInfo::REFACTOR_COUNT_MASK;
-    if has_next {
-        return masked | AdsRefactorInfo::NEXT_REFACTOR_INFO_MASK;
-    }
-    masked
 }
 
 // The record at a place of an entry's or a block's own bytes.
@@ -178,7 +53,7 @@ pub fn refactor_at(s: &[u8], at: usize) -> RefactorAnswer
         });
     }
     let name_len = le::u16_at(s, at + 4);
-    let whole = wide(name_len) + 7;
+    let whole = le::wide(name_len) + 7;
     if there < whole {
         return RefactorAnswer::Refused(Refusal::TooShort {
             needed: whole,
@@ -199,7 +74,7 @@ pub fn name_in(s: &[u8], answer: RefactorAnswer) -> &[u8]
     ensures { λ r. ⌜ now r ≡ nameIn (now (s .entry)) answer ⌝ }
 {
     match answer {
-        RefactorAnswer::Record(r) => le::part_of(s, r.name, wide(r.name_len)),
+        RefactorAnswer::Record(r) => le::part_of(s, r.name, le::wide(r.name_len)),
         RefactorAnswer::Refused(_) => &s[..0],
     }
 }
@@ -273,7 +148,7 @@ fn is_good(s: &[u8], packed: u32, r: AdsRefactorInfo, follows: bool) -> bool
 {
     if packed == r.refactor_count {
         if r.next_refactor_info == follows {
-            return le::zero_at(s, r.name, wide(r.name_len));
+            return le::zero_at(s, r.name, le::wide(r.name_len));
         }
     }
     false

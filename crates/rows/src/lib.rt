@@ -57,9 +57,9 @@ fn put_names(out: &mut [u8], at: usize, e: &[u8]) -> usize
     requires { ⌜ at + (length (now e) * 4 + 4) ≤ length (now out) ⌝ }
     ensures { λ r. ⌜ Put (length (now (e .entry)) * 4 + 4) (now (out .entry)) at (names (now (e .entry))) (now (out .exit)) r ⌝ }
 {
-    let p = digits::put_hex(out, at, AdsSymbolInfo::name(e));
+    let p = digits::put_hex(out, at, symbol_info::name(e));
     let q = le::put_u8(out, p, b' ');
-    let t = digits::put_hex(out, q, AdsSymbolInfo::type_name(e));
+    let t = digits::put_hex(out, q, symbol_info::type_name(e));
     le::put_u8(out, t, b'\n')
 }
 

@@ -1,21 +1,14 @@
-// Symbol entries, read. The Rust's symbol_info.rs.
-use attr::AttributeAnswer;
-use entry::Claim;
+// A symbol entry's own bytes, read. Crate symbol_info offers the direct parse and what can be asked of an entry.
 use flags::index_group::IndexGroup;
 use flags::index_offset::IndexOffset;
 use flags::symbol_flags::AdsSymbol2Flags;
 use flags::symbol_flags::AdsSymbolFlags;
-use refactor::RefactorAnswer;
 use refusal::Refusal;
 ghost use mathlib.Core.Path.{_≡_};
-ghost use Prim.Native.Nat.{_+_, _≤_};
+ghost use Prim.Native.Nat.{_≤_};
 ghost use lib.ListN.{length};
 ghost use Rattle.le.specs.Le.{le2};
-ghost use Rattle.symbol.specs.Symbol.{extendedAt, sectionsOf, infoOf, symbolEntry, symbolRead};
-ghost use Rattle.symbol.specs.Questions.{symbolName, symbolTypeName, symbolComment, symbolAttribute, symbolRefactor};
-ghost use Rattle.attr.specs.Attribute.{nameIn, valueIn};
-ghost use Rattle.refactor.specs.Refactor as refactors;
-ghost use Rattle.entry.specs.Entry.{ownBytes};
+ghost use Rattle.symbol.specs.Symbol.{extendedAt, sectionsOf, infoOf, symbolEntry};
 
 // Records of an entry that are asked for by number: the place of the first, and how many are shown.
 pub struct Shown {
@@ -70,127 +63,6 @@ pub struct SymbolRead {
 
 impl AdsSymbolInfo {
     pub const MIN_LENGTH: usize = 30;
-
-    pub fn try_from_slice(bytes: &[u8]) -> SymbolRead
-        ensures { λ r. ⌜ r ≡ symbolRead (now (bytes .entry)) ⌝ }
-    {
-        match entry::direct_claim(bytes, 30) {
-            Claim::Entry(size) => read_entry(le::part_of(bytes, 0, size)),
-            Claim::Refused(why) => SymbolRead {
-                answer: SymbolAnswer::Refused(why),
-                guid: [0u8; 16],
-            },
-        }
-    }
-
-    pub fn name(bytes: &[u8]) -> &[u8]
-        ensures { λ r. ⌜ now r ≡ symbolName (now (bytes .entry)) ⌝ }
-    {
-        match answer_to(bytes) {
-            SymbolAnswer::Record(r) => le::part_of(bytes, 30, wide(r.name_len)),
-            SymbolAnswer::Refused(_) => &bytes[..0],
-        }
-    }
-
-    pub fn type_name(bytes: &[u8]) -> &[u8]
-        ensures { λ r. ⌜ now r ≡ symbolTypeName (now (bytes .entry)) ⌝ }
-    {
-        match answer_to(bytes) {
-            SymbolAnswer::Record(r) => {
-                le::part_of(bytes, 31 + wide(r.name_len), wide(r.type_name_len))
-            }
-            SymbolAnswer::Refused(_) => &bytes[..0],
-        }
-    }
-
-    pub fn comment(bytes: &[u8]) -> &[u8]
-        ensures { λ r. ⌜ now r ≡ symbolComment (now (bytes .entry)) ⌝ }
-    {
-        match answer_to(bytes) {
-            SymbolAnswer::Record(r) => {
-                let at = 32 + wide(r.name_len) + wide(r.type_name_len);
-                le::part_of(bytes, at, wide(r.comment_len))
-            }
-            SymbolAnswer::Refused(_) => &bytes[..0],
-        }
-    }
-
-    pub fn attribute(bytes: &[u8], number: usize) -> AttributeAnswer
-        ensures { λ r. ⌜ r ≡ symbolAttribute (now (bytes .entry)) number ⌝ }
-    {
-        match answer_to(bytes) {
-            SymbolAnswer::Record(r) => {
-                let shown = r.attributes;
-                if number < shown.count {
-                    return attr::attribute_nth(entry::own_bytes(bytes, 30), shown.first, number);
-                }
-                AttributeAnswer::Refused(Refusal::NoSuchNumber {
-                    count: shown.count,
-                    asked: number,
-                })
-            }
-            SymbolAnswer::Refused(why) => AttributeAnswer::Refused(why),
-        }
-    }
-
-    pub fn attribute_name(bytes: &[u8], number: usize) -> &[u8]
-        ensures { λ r. ⌜ now r ≡ nameIn (ownBytes 30 (now (bytes .entry))) (symbolAttribute (now (bytes .entry)) number) ⌝ }
-    {
-        attr::name_in(
-            entry::own_bytes(bytes, 30),
-            AdsSymbolInfo::attribute(bytes, number),
-        )
-    }
-
-    pub fn attribute_value(bytes: &[u8], number: usize) -> &[u8]
-        ensures { λ r. ⌜ now r ≡ valueIn (ownBytes 30 (now (bytes .entry))) (symbolAttribute (now (bytes .entry)) number) ⌝ }
-    {
-        attr::value_in(
-            entry::own_bytes(bytes, 30),
-            AdsSymbolInfo::attribute(bytes, number),
-        )
-    }
-
-    pub fn refactor_info(bytes: &[u8], number: usize) -> RefactorAnswer
-        ensures { λ r. ⌜ r ≡ symbolRefactor (now (bytes .entry)) number ⌝ }
-    {
-        match answer_to(bytes) {
-            SymbolAnswer::Record(r) => {
-                let shown = r.refactor_infos;
-                if number < shown.count {
-                    return refactor::refactor_nth(entry::own_bytes(bytes, 30), shown.first, number);
-                }
-                RefactorAnswer::Refused(Refusal::NoSuchNumber {
-                    count: shown.count,
-                    asked: number,
-                })
-            }
-            SymbolAnswer::Refused(why) => RefactorAnswer::Refused(why),
-        }
-    }
-
-    pub fn refactor_name(bytes: &[u8], number: usize) -> &[u8]
-        ensures { λ r. ⌜ now r ≡ refactors.nameIn (ownBytes 30 (now (bytes .entry))) (symbolRefactor (now (bytes .entry)) number) ⌝ }
-    {
-        refactor::name_in(
-            entry::own_bytes(bytes, 30),
-            AdsSymbolInfo::refactor_info(bytes, number),
-        )
-    }
-}
-
-fn answer_to(bytes: &[u8]) -> SymbolAnswer
-    ensures { λ r. ⌜ r ≡ symbolRead (now (bytes .entry)) .answer ⌝ }
-{
-    let read = AdsSymbolInfo::try_from_slice(bytes);
-    let answer = read.answer;
-    answer
-}
-
-fn wide(x: u16) -> usize
-    ensures { λ r. ⌜ r ≡ x ⌝ }
-{
-    x as usize
 }
 
 fn extended_at(e: &[u8], at: usize, flagged: bool) -> ExtendedFlags
@@ -285,7 +157,7 @@ pub fn read_entry(e: &[u8]) -> SymbolRead
     let n = le::u16_at(e, 24);
     let t = le::u16_at(e, 26);
     let k = le::u16_at(e, 28);
-    let needed = 33 + wide(n) + wide(t) + wide(k);
+    let needed = 33 + le::wide(n) + le::wide(t) + le::wide(k);
     if length < needed {
         return SymbolRead {
             answer: SymbolAnswer::Refused(Refusal::EntryLengthMismatch {

@@ -1,16 +1,12 @@
 // The interface for the studio's own software, which is not Rattle: numbers and byte slices, and a status.
-use attr::AdsAttribute;
-use field::AdsFieldInfo;
 use field_writer::FieldNumbers;
 use flags::index_group::IndexGroup;
 use flags::index_offset::IndexOffset;
 use flags::symbol_flags::AdsSymbol2Flags;
 use flags::symbol_flags::AdsSymbolFlags;
 use flags::type_flags::AdsTypeFlags;
-use refactor::AdsRefactorInfo;
 use refusal::Checked;
 use refusal::Refusal;
-use symbol::AdsSymbolInfo;
 use symbol_writer::SymbolNumbers;
 ghost use mathlib.Core.Path.{_≡_};
 ghost use lib.ListN.{length};
@@ -54,7 +50,7 @@ pub extern "C" fn vindaskot_symbol_read(
     ensures { λ _. ⌜ now (slots .exit) ≡ symbolSlotsAfter (symbols.stepIs (symbolRead (now (bytes .entry)) .answer)) (now (slots .entry)) ⌝ }
     ensures { λ _. ⌜ now (guid .exit) ≡ symbolGuidAfter (symbols.stepIs (symbolRead (now (bytes .entry)) .answer)) (symbolRead (now (bytes .entry)) .guid) (now (guid .entry)) ⌝ }
 {
-    told::symbol_read(AdsSymbolInfo::try_from_slice(bytes), slots, guid, answer)
+    told::symbol_read(symbol_info::try_from_slice(bytes), slots, guid, answer)
 }
 
 #[no_mangle]
@@ -84,7 +80,7 @@ pub extern "C" fn vindaskot_symbol_attribute(
     ensures { λ r. ⌜ Tells (attributeTold (symbolAttribute (now (bytes .entry)) number)) r (now (answer .exit)) ⌝ }
     ensures { λ _. ⌜ now (slots .exit) ≡ attributeSlotsAfter (symbolAttribute (now (bytes .entry)) number) (now (slots .entry)) ⌝ }
 {
-    told::attribute(AdsSymbolInfo::attribute(bytes, number), slots, answer)
+    told::attribute(symbol_info::attribute(bytes, number), slots, answer)
 }
 
 #[no_mangle]
@@ -97,7 +93,7 @@ pub extern "C" fn vindaskot_symbol_refactor_info(
     ensures { λ r. ⌜ Tells (refactorTold (symbolRefactor (now (bytes .entry)) number)) r (now (answer .exit)) ⌝ }
     ensures { λ _. ⌜ now (slots .exit) ≡ refactorSlotsAfter (symbolRefactor (now (bytes .entry)) number) (now (slots .entry)) ⌝ }
 {
-    told::refactor(AdsSymbolInfo::refactor_info(bytes, number), slots, answer)
+    told::refactor(symbol_info::refactor_info(bytes, number), slots, answer)
 }
 
 #[no_mangle]
@@ -111,7 +107,7 @@ pub extern "C" fn vindaskot_field_read(
     ensures { λ _. ⌜ now (slots .exit) ≡ fieldSlotsAfter (fields.stepIs (fieldRead (now (bytes .entry)) .answer)) (now (slots .entry)) ⌝ }
     ensures { λ _. ⌜ now (guid .exit) ≡ fieldGuidAfter (fields.stepIs (fieldRead (now (bytes .entry)) .answer)) (fieldRead (now (bytes .entry)) .guid) (now (guid .entry)) ⌝ }
 {
-    told::field_read(AdsFieldInfo::try_from_slice(bytes), slots, guid, answer)
+    told::field_read(field_info::try_from_slice(bytes), slots, guid, answer)
 }
 
 #[no_mangle]
@@ -141,7 +137,7 @@ pub extern "C" fn vindaskot_field_attribute(
     ensures { λ r. ⌜ Tells (attributeTold (fieldAttribute (now (bytes .entry)) number)) r (now (answer .exit)) ⌝ }
     ensures { λ _. ⌜ now (slots .exit) ≡ attributeSlotsAfter (fieldAttribute (now (bytes .entry)) number) (now (slots .entry)) ⌝ }
 {
-    told::attribute(AdsFieldInfo::attribute(bytes, number), slots, answer)
+    told::attribute(field_info::attribute(bytes, number), slots, answer)
 }
 
 #[no_mangle]
@@ -174,7 +170,7 @@ pub extern "C" fn vindaskot_attribute_read(
     ensures { λ r. ⌜ Tells (attributeTold (attributeRead (now (bytes .entry)))) r (now (answer .exit)) ⌝ }
     ensures { λ _. ⌜ now (slots .exit) ≡ attributeSlotsAfter (attributeRead (now (bytes .entry))) (now (slots .entry)) ⌝ }
 {
-    told::attribute(AdsAttribute::try_from_slice(bytes), slots, answer)
+    told::attribute(attributes::try_from_slice(bytes), slots, answer)
 }
 
 #[no_mangle]
@@ -186,14 +182,14 @@ pub extern "C" fn vindaskot_refactor_read(
     ensures { λ r. ⌜ Tells (refactorTold (refactorRead (now (bytes .entry)))) r (now (answer .exit)) ⌝ }
     ensures { λ _. ⌜ now (slots .exit) ≡ refactorSlotsAfter (refactorRead (now (bytes .entry))) (now (slots .entry)) ⌝ }
 {
-    told::refactor(AdsRefactorInfo::try_from_slice(bytes), slots, answer)
+    told::refactor(refactor_info::try_from_slice(bytes), slots, answer)
 }
 
 #[no_mangle]
 pub extern "C" fn vindaskot_chain_read(bytes: &[u8], answer: &mut [u64; 2]) -> u32
     ensures { λ r. ⌜ Tells (chainTold (chainRead (now (bytes .entry)))) r (now (answer .exit)) ⌝ }
 {
-    told::chain(AdsRefactorInfo::parse_chain(bytes), answer)
+    told::chain(refactor_info::parse_chain(bytes), answer)
 }
 
 #[no_mangle]
@@ -206,7 +202,7 @@ pub extern "C" fn vindaskot_chain_record(
     ensures { λ r. ⌜ Tells (refactorTold (chainNth (now (bytes .entry)) number)) r (now (answer .exit)) ⌝ }
     ensures { λ _. ⌜ now (slots .exit) ≡ refactorSlotsAfter (chainNth (now (bytes .entry)) number) (now (slots .entry)) ⌝ }
 {
-    told::refactor(AdsRefactorInfo::chain_record(bytes, number), slots, answer)
+    told::refactor(refactor_info::chain_record(bytes, number), slots, answer)
 }
 
 #[no_mangle]
@@ -239,7 +235,7 @@ pub extern "C" fn vindaskot_attribute_write(
 ) -> u32
     ensures { λ r. ⌜ WritesTold (attributeWriting (now (name .entry)) (now (value .entry))) (now (out .entry)) (now (out .exit)) r (now (answer .exit)) ⌝ }
 {
-    told::written(AdsAttribute::to_vec(name, value, out), answer)
+    told::written(attributes::to_vec(name, value, out), answer)
 }
 
 #[no_mangle]
@@ -253,7 +249,7 @@ pub extern "C" fn vindaskot_refactor_write(
     ensures { λ r. ⌜ WritesTold (refactorWriting count «has_next» (now (name .entry))) (now (out .entry)) (now (out .exit)) r (now (answer .exit)) ⌝ }
 {
     told::written(
-        AdsRefactorInfo::to_vec_with_next(count, has_next, name, out),
+        refactor_info::to_vec_with_next(count, has_next, name, out),
         answer,
     )
 }
@@ -267,7 +263,7 @@ pub extern "C" fn vindaskot_refactor_block_write(
 ) -> u32
     ensures { λ r. ⌜ WritesTold (blockWriting count (now (block .entry))) (now (out .entry)) (now (out .exit)) r (now (answer .exit)) ⌝ }
 {
-    told::written(AdsRefactorInfo::entries_to_vec(count, block, out), answer)
+    told::written(refactor_info::entries_to_vec(count, block, out), answer)
 }
 
 fn check_guid(present: usize) -> Checked

@@ -5,7 +5,7 @@ use Rattle.refactor.proofs.name_in.Tie as tie
 use Rattle.refactor.proofs.name_in.Reads as reads
 use Rattle.refactor.proofs.name_in.Lts as lts
 use Rattle.le.proofs.part_of.Reads as part-of-reads
-use Rattle.refactor.proofs.wide.Reads as wide-reads
+use Rattle.le.proofs.wide.Reads as wide-reads
 
 enum-known-answer : tie.Need-enum-known-answer
 enum-known-answer c = search needs

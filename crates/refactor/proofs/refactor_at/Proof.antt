@@ -8,7 +8,7 @@ use Rattle.refactor.proofs.refactor_at.Lts as lts
 use Rattle.le.proofs.room.Reads as room-reads
 use Rattle.le.proofs.u16_at.Reads as u16-at-reads
 use Rattle.le.proofs.u32_at.Reads as u32-at-reads
-use Rattle.refactor.proofs.wide.Reads as wide-reads
+use Rattle.le.proofs.wide.Reads as wide-reads
 
 room-requires : tie.Need-room-requires
 room-requires c κs = search needs

@@ -8,7 +8,7 @@ use Rattle.symbol.proofs.read_entry.Lts as lts
 use Rattle.le.proofs.u16_at.Reads as u16-at-reads
 use Rattle.symbol.proofs.info_of.Reads as info-of-reads
 use Rattle.symbol.proofs.sections_of.Reads as sections-of-reads
-use Rattle.symbol.proofs.wide.Reads as wide-reads
+use Rattle.le.proofs.wide.Reads as wide-reads
 
 returns : tie.Need-returns
 unfolding symbolEntry

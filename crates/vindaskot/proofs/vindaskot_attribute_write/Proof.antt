@@ -4,7 +4,7 @@ use Rattle.vindaskot.proofs.vindaskot_attribute_write.Statement.{statem
 use Rattle.vindaskot.proofs.vindaskot_attribute_write.Tie as tie
 use Rattle.vindaskot.proofs.vindaskot_attribute_write.Reads as reads
 use Rattle.vindaskot.proofs.vindaskot_attribute_write.Lts as lts
-use Rattle.attr.proofs.AdsAttribute.to_vec.Reads as to-vec-reads
+use Rattle.attributes.proofs.to_vec.Reads as to-vec-reads
 use Rattle.told.proofs.written.Reads as written-reads
 
 to-vec-requires : tie.Need-to-vec-requires

@@ -3,7 +3,7 @@ use Rattle.vindaskot.proofs.vindaskot_chain_record.Statement.{statement
 use Rattle.vindaskot.proofs.vindaskot_chain_record.Tie as tie
 use Rattle.vindaskot.proofs.vindaskot_chain_record.Reads as reads
 use Rattle.vindaskot.proofs.vindaskot_chain_record.Lts as lts
-use Rattle.refactor.proofs.AdsRefactorInfo.chain_record.Reads as chain-record-reads
+use Rattle.refactor_info.proofs.chain_record.Reads as chain-record-reads
 use Rattle.told.proofs.refactor.Reads as refactor-reads
 
 chain-record-requires : tie.Need-chain-record-requires

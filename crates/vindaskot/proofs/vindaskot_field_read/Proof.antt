@@ -3,7 +3,7 @@ use Rattle.vindaskot.proofs.vindaskot_field_read.Statement.{statement}
 use Rattle.vindaskot.proofs.vindaskot_field_read.Tie as tie
 use Rattle.vindaskot.proofs.vindaskot_field_read.Reads as reads
 use Rattle.vindaskot.proofs.vindaskot_field_read.Lts as lts
-use Rattle.field.proofs.AdsFieldInfo.try_from_slice.Reads as try-from-slice-reads
+use Rattle.field_info.proofs.try_from_slice.Reads as try-from-slice-reads
 use Rattle.told.proofs.field_read.Reads as field-read-reads
 
 try-from-slice-requires : tie.Need-try-from-slice-requires

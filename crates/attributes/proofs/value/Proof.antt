@@ -1,0 +1,15 @@
+use borrow.Author.Needs.{needs}
+use Rattle.attributes.proofs.value.Statement.{statement}
+use Rattle.attributes.proofs.value.Tie as tie
+
+try-from-slice-requires : tie.Need-try-from-slice-requires
+try-from-slice-requires c κs = search needs
+
+value-in-requires : tie.Need-value-in-requires
+value-in-requires c κs = search needs
+
+returns : tie.Need-returns
+returns c = simp (← c .value-in .ensures, ← c .before .try-from-slice .ensures)
+
+pub value-spec : {M : Type 1} → statement M
+value-spec = tie.close (tie.spec try-from-slice-requires value-in-requires returns)

@@ -1,0 +1,90 @@
+// Field entries, parsed directly from bytes of any kind. The Rust's field_info.rs; crate field has what stands below, and the record, and field_writer is its to_vec.
+use attr::AttributeAnswer;
+use entry::Claim;
+use field::FieldAnswer;
+use field::FieldRead;
+use refusal::Refusal;
+ghost use mathlib.Core.Path.{_≡_};
+ghost use Rattle.field.specs.Field.{fieldRead};
+ghost use Rattle.field.specs.Questions.{fieldName, fieldTypeName, fieldComment, fieldAttribute};
+ghost use Rattle.attr.specs.Attribute.{nameIn, valueIn};
+ghost use Rattle.entry.specs.Entry.{ownBytes};
+
+pub fn try_from_slice(bytes: &[u8]) -> FieldRead
+    ensures { λ r. ⌜ r ≡ fieldRead (now (bytes .entry)) ⌝ }
+{
+    match entry::direct_claim(bytes, 42) {
+        Claim::Entry(size) => field::read_entry(le::part_of(bytes, 0, size)),
+        Claim::Refused(why) => field::refused(why),
+    }
+}
+
+pub fn name(bytes: &[u8]) -> &[u8]
+    ensures { λ r. ⌜ now r ≡ fieldName (now (bytes .entry)) ⌝ }
+{
+    match answer_to(bytes) {
+        FieldAnswer::Record(r) => le::part_of(bytes, 42, le::wide(r.name_len)),
+        FieldAnswer::Refused(_) => &bytes[..0],
+    }
+}
+
+pub fn type_name(bytes: &[u8]) -> &[u8]
+    ensures { λ r. ⌜ now r ≡ fieldTypeName (now (bytes .entry)) ⌝ }
+{
+    match answer_to(bytes) {
+        FieldAnswer::Record(r) => {
+            le::part_of(bytes, 43 + le::wide(r.name_len), le::wide(r.type_name_len))
+        }
+        FieldAnswer::Refused(_) => &bytes[..0],
+    }
+}
+
+pub fn comment(bytes: &[u8]) -> &[u8]
+    ensures { λ r. ⌜ now r ≡ fieldComment (now (bytes .entry)) ⌝ }
+{
+    match answer_to(bytes) {
+        FieldAnswer::Record(r) => {
+            let at = 44 + le::wide(r.name_len) + le::wide(r.type_name_len);
+            le::part_of(bytes, at, le::wide(r.comment_len))
+        }
+        FieldAnswer::Refused(_) => &bytes[..0],
+    }
+}
+
+pub fn attribute(bytes: &[u8], number: usize) -> AttributeAnswer
+    ensures { λ r. ⌜ r ≡ fieldAttribute (now (bytes .entry)) number ⌝ }
+{
+    match answer_to(bytes) {
+        FieldAnswer::Record(r) => {
+            let shown = r.attributes;
+            if number < shown.count {
+                return attr::attribute_nth(entry::own_bytes(bytes, 42), shown.first, number);
+            }
+            AttributeAnswer::Refused(Refusal::NoSuchNumber {
+                count: shown.count,
+                asked: number,
+            })
+        }
+        FieldAnswer::Refused(why) => AttributeAnswer::Refused(why),
+    }
+}
+
+pub fn attribute_name(bytes: &[u8], number: usize) -> &[u8]
+    ensures { λ r. ⌜ now r ≡ nameIn (ownBytes 42 (now (bytes .entry))) (fieldAttribute (now (bytes .entry)) number) ⌝ }
+{
+    attr::name_in(entry::own_bytes(bytes, 42), attribute(bytes, number))
+}
+
+pub fn attribute_value(bytes: &[u8], number: usize) -> &[u8]
+    ensures { λ r. ⌜ now r ≡ valueIn (ownBytes 42 (now (bytes .entry))) (fieldAttribute (now (bytes .entry)) number) ⌝ }
+{
+    attr::value_in(entry::own_bytes(bytes, 42), attribute(bytes, number))
+}
+
+fn answer_to(bytes: &[u8]) -> FieldAnswer
+    ensures { λ r. ⌜ r ≡ fieldRead (now (bytes .entry)) .answer ⌝ }
+{
+    let read = try_from_slice(bytes);
+    let answer = read.answer;
+    answer
+}

@@ -1,0 +1,59 @@
+use Rattle.symbol.specs.Questions.{symbolComment}
+use borrow.Author.Needs.{needs}
+use Rattle.symbol_info.proofs.comment.Statement.{statement}
+use Rattle.symbol_info.proofs.comment.Tie as tie
+
+answer-to-requires : tie.Need-answer-to-requires
+answer-to-requires c κs = search needs
+
+enum-known-r : tie.Need-enum-known-r
+enum-known-r c = search needs
+
+wide-requires : tie.Need-wide-requires
+wide-requires c κs = search needs
+
+add-at : tie.Need-add-at
+add-at c = search needs
+
+wide-requires-2 : tie.Need-wide-requires-2
+wide-requires-2 c κs = search needs
+
+add-at-2 : tie.Need-add-at-2
+add-at-2 c = search needs
+
+wide-requires-3 : tie.Need-wide-requires-3
+wide-requires-3 c κs = search needs
+
+part-of-requires : tie.Need-part-of-requires
+part-of-requires c κs = search needs
+
+enum-told : tie.Need-enum-told
+enum-told c = search needs
+
+slice-aggregate-result : tie.Need-slice-aggregate-result
+slice-aggregate-result c = search needs
+
+returns : tie.Need-returns
+unfolding symbolComment
+returns c = simp (← c .part-of .ensures, ← c .before .wide3 .ensures, ← c .before .before .wide2 .ensures, ← c .before .before .before .wide .ensures, c .before .before .before .before .before .r .given .1, ← c .before .before .before .before .before .before .before .answer-to .ensures)
+
+returns-2 : tie.Need-returns-2
+unfolding symbolComment
+returns-2 c = simp (c .before .enum-told .given .1, ← c .before .before .before .answer-to .ensures)
+
+pub comment-spec : {M : Type 1} → statement M
+comment-spec =
+    tie.close
+    (tie.spec
+    answer-to-requires
+    enum-known-r
+    wide-requires
+    add-at
+    wide-requires-2
+    add-at-2
+    wide-requires-3
+    part-of-requires
+    enum-told
+    slice-aggregate-result
+    returns
+    returns-2)
