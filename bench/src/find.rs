@@ -42,6 +42,19 @@ pub fn collecting<'a>(upload: &'a [u8]) -> Contender<'a> {
     })
 }
 
+/// Where the first record of a name starts, with nothing kept: the Rust's own step, up to that record.
+pub fn stepped(upload: &[u8], name: &str) -> usize {
+    let mut cursor = 0;
+    loop {
+        let start = cursor;
+        match parse_next_entry(black_box(upload), &mut cursor) {
+            Some(Ok(record)) if record.name() == name => return start,
+            Some(Ok(_)) => {}
+            _ => wrong("the Rust's walk finds no such name"),
+        }
+    }
+}
+
 pub fn linear(kept: &Kept, name: &str) -> usize {
     match kept.iter().find(|(_, r)| r.name() == name) {
         Some((at, _)) => *at,

@@ -1,7 +1,7 @@
 //! The same work on uploads of 1, 4 and 16 MB: the time an entry takes stays, where the work grows as the upload does.
 use crate::c;
 use crate::clock::{Contender, plain, race};
-use crate::find::{collect, collecting, index, linear};
+use crate::find::{collect, collecting, index, linear, stepped};
 use crate::report::Report;
 use crate::rig::Rig;
 use crate::verify;
@@ -78,7 +78,7 @@ fn finding(report: &Report, rig: &Rig) -> [Line; 3] {
     let theirs = plain(|| linear(&kept, black_box(name)) as u64);
     let found = timed(report, "find the last, index", rig, ours, theirs);
     let ours = plain(|| c::find(upload, black_box(last)) as u64);
-    let theirs = plain(|| linear(&collect(upload), black_box(name)) as u64);
+    let theirs = plain(|| stepped(upload, black_box(name)) as u64);
     let sought = timed(report, "find the last, no index", rig, ours, theirs);
     [indexed, found, sought]
 }

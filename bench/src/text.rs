@@ -11,6 +11,8 @@ use std::hint::black_box;
 const LONG: usize = 65536;
 /// How many names.
 const NAMES: usize = 5000;
+/// The encoder by itself, for text that is known to be UTF-8.
+const UNCHECKED: &str = "UTF-8 not checked, lent";
 
 /// The goal that a kind of text is for.
 enum Goal {
@@ -168,6 +170,7 @@ fn rows_of(report: &mut Report, t: &Texts, way: &str, others: &[&str], times: &[
         match t.goal {
             Goal::AllBytes if i == 0 => report.goals.all_bytes.push((what, ratio)),
             Goal::Names if i == 0 => report.goals.names.push((what, ratio)),
+            _ if *other == UNCHECKED => report.goals.unchecked.push((what, ratio)),
             _ => {}
         }
     }
@@ -183,7 +186,7 @@ pub fn rows(report: &mut Report, seed: u64) {
         let times = decoding(report, &t, &mut out, &mut other);
         rows_of(report, &t, "decode", &["lent", "Cow"], &times);
         let times = encoding(report, &t, &mut out, &mut other);
-        let others = ["UTF-8 checked, lent", "lent", "Cow"];
+        let others = ["UTF-8 checked, lent", UNCHECKED, "Cow"];
         rows_of(report, &t, "encode", &others, &times);
     }
 }

@@ -127,11 +127,11 @@ fn theirs_text(upload: &[u8]) -> u64 {
 pub fn rows(report: &mut Report, rig: &Rig) {
     let (upload, entries) = (rig.upload.as_slice(), rig.symbols.len());
     report.heading("walking", "ns an entry");
-    let what = "walk, every entry read";
+    let what = "walk, text left as bytes (the Rust: Strings)";
     let runs = vec![plain(|| ours(upload)), plain(|| theirs(upload))];
     let times = race(report.allowed, what, runs);
     report.goals.walk = report.row(what, entries, times[0], times[1]);
-    let what = "walk, and all text as UTF-8";
+    let what = "walk, all text as UTF-8 on both sides";
     let mut out = vec![0; 4096];
     let runs = vec![
         plain(|| ours_text(upload, &mut out)),

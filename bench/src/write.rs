@@ -12,14 +12,15 @@ use std::hint::black_box;
 struct Field<'a> {
     symbol: &'a Symbol,
     strings: [String; 3],
+    attributes: Vec<[String; 2]>,
     bytes: Vec<u8>,
     record: AdsFieldInfo,
 }
 
 /// The fields of a rig, written by the library and parsed by the Rust, which has no other way to make one. Both write the same.
-fn fields(rig: &Rig) -> Vec<Field<'_>> {
+fn fields<'a>(rig: &'a Rig) -> Vec<Field<'a>> {
     let mut out = [0; 4096];
-    let field = |symbol: &'_ Symbol| {
+    let field = |symbol: &'a Symbol| {
         let strings = [&symbol.name[..], &symbol.type_name, &symbol.comment];
         let n = c::field_write(symbol, strings, &symbol.block, &mut out);
         let bytes = out[..n].to_vec();
@@ -27,16 +28,16 @@ fn fields(rig: &Rig) -> Vec<Field<'_>> {
             Ok((record, _)) if record.to_vec() == bytes => record,
             _ => wrong("a field that was written is not the Rust's"),
         };
-        (strings.map(text), bytes, record)
+        let attributes = symbol.attributes.iter();
+        Field {
+            symbol,
+            strings: strings.map(text),
+            attributes: attributes.map(|(n, v)| [text(n), text(v)]).collect(),
+            bytes,
+            record,
+        }
     };
-    let made: Vec<_> = rig.symbols.iter().map(field).collect();
-    let pair = |(symbol, (strings, bytes, record))| Field {
-        symbol,
-        strings,
-        bytes,
-        record,
-    };
-    rig.symbols.iter().zip(made).map(pair).collect()
+    rig.symbols.iter().map(field).collect()
 }
 
 fn field_from_bytes(f: &Field, out: &mut [u8]) -> usize {
@@ -44,38 +45,56 @@ fn field_from_bytes(f: &Field, out: &mut [u8]) -> usize {
     c::field_write(s, [&s.name, &s.type_name, &s.comment], &s.block, out)
 }
 
-/// The same from UTF-8 and single attributes, as the Rust has them: the strings are encoded, the block is put together.
-fn field_from_text(
-    f: &Field,
-    rooms: &mut [[u8; 1024]; 3],
-    block: &mut [u8],
-    out: &mut [u8],
-) -> usize {
-    let mut lengths = [0; 3];
-    for (i, s) in f.strings.iter().enumerate() {
-        lengths[i] = c::encode(s.as_bytes(), &mut rooms[i]);
-    }
+/// Texts encoded, each in a room of its own.
+fn encoded<'r, const N: usize>(
+    texts: &[String; N],
+    rooms: &'r mut [[u8; 1024]; N],
+) -> [&'r [u8]; N] {
+    let mut pairs = texts.iter().zip(rooms);
+    std::array::from_fn(|_| {
+        let (text, room) = pairs.next().unwrap();
+        let n = c::encode(text.as_bytes(), room);
+        &room[..n]
+    })
+}
+
+/// Room for what a field is put together from.
+struct Rooms {
+    strings: [[u8; 1024]; 3],
+    attribute: [[u8; 1024]; 2],
+    block: [u8; 4096],
+}
+
+/// The same from UTF-8 and single attributes, as the Rust has them: all text is encoded, the block is put together.
+fn field_from_text(f: &Field, rooms: &mut Rooms, out: &mut [u8]) -> usize {
     let mut at = 0;
-    for (name, value) in &f.symbol.attributes {
-        at += c::attribute_write(name, value, &mut block[at..]);
+    for attribute in &f.attributes {
+        let [name, value] = encoded(attribute, &mut rooms.attribute);
+        at += c::attribute_write(name, value, &mut rooms.block[at..]);
     }
-    let strings = [
-        &rooms[0][..lengths[0]],
-        &rooms[1][..lengths[1]],
-        &rooms[2][..lengths[2]],
-    ];
-    c::field_write(f.symbol, strings, &block[..at], out)
+    let strings = encoded(&f.strings, &mut rooms.strings);
+    c::field_write(f.symbol, strings, &rooms.block[..at], out)
 }
 
 fn field_write_rows(report: &mut Report, fields: &[Field]) {
     let (mut out, mut other) = ([0; 4096], [0; 4096]);
-    let (mut rooms, mut block) = ([[0; 1024]; 3], [0; 4096]);
+    let mut rooms = Rooms {
+        strings: [[0; 1024]; 3],
+        attribute: [[0; 1024]; 2],
+        block: [0; 4096],
+    };
+    for f in fields {
+        let n = field_from_text(f, &mut rooms, &mut out);
+        if out[..n] != f.bytes[..] {
+            wrong("a field that was written from text is not the Rust's");
+        }
+    }
     let what = "write a field";
     let sum = |write: &mut dyn FnMut(&Field) -> usize| fields.iter().map(|f| write(f) as u64).sum();
     let runs = vec![
         plain(|| sum(&mut |f| field_from_bytes(black_box(f), &mut out))),
         plain(|| sum(&mut |f| black_box(black_box(f).record.to_vec()).len())),
-        plain(|| sum(&mut |f| field_from_text(black_box(f), &mut rooms, &mut block, &mut other))),
+        plain(|| sum(&mut |f| field_from_text(black_box(f), &mut rooms, &mut other))),
     ];
     let times = race(report.allowed, what, runs);
     report.row(what, fields.len(), times[0], times[1]);

@@ -180,8 +180,20 @@ struct told call_encode(struct bytes src, struct room out);
 #define NEXT_BIT 0x01000000u
 #define COUNT_MASK 0x01111111u
 
+/* The slots that tell a string's place and length, or the place of the first of some records and how many there are. */
+struct run {
+    size_t place, len;
+};
+
+/* The slots of an entry's numbers and strings, in the order that the entry has them, and of its records. */
+extern const size_t symbol_numbers[4], field_numbers[7];
+extern const struct run symbol_strings[3], field_strings[3];
+extern const struct run symbol_attributes, symbol_refactors, field_attributes;
+extern const struct run attribute_name, attribute_value, refactor_name;
+
 struct told done(uint64_t first, uint64_t second);
 struct told refused(uint32_t number, uint64_t expected, uint64_t got);
+struct told refactor_told(uint64_t count, size_t name, size_t len);
 
 struct told model_symbol_read(struct bytes bytes);
 struct told model_symbol_step(struct bytes bytes, size_t cursor);

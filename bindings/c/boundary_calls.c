@@ -12,24 +12,34 @@
 #define DIRECT (DONE | NUMBER(2) | NUMBER(3) | NUMBER(4) | NUMBER(5))
 #define STEP (DONE | FINISHED | NUMBER(2) | NUMBER(3) | NUMBER(5))
 
+enum {
+    OF_SYMBOL = VINDASKOT_SYMBOL_SLOTS,
+    OF_FIELD = VINDASKOT_FIELD_SLOTS,
+    OF_ATTRIBUTE = VINDASKOT_ATTRIBUTE_SLOTS,
+    OF_REFACTOR = VINDASKOT_REFACTOR_SLOTS
+};
+
 static const struct {
     const char *name;
     size_t slots;
     bool guid, cursor, steps;
     uint32_t statuses;
 } functions[FUNCTIONS] = {
-    [SYMBOL_READ] = {"vindaskot_symbol_read", 20, true, false, false, DIRECT},
-    [SYMBOL_STEP] = {"vindaskot_symbol_step", 20, true, true, false, STEP},
-    [SYMBOL_ATTRIBUTE] = {"vindaskot_symbol_attribute", 5, false, false, false, DIRECT | NUMBER(14)},
-    [SYMBOL_REFACTOR_INFO] = {"vindaskot_symbol_refactor_info", 5, false, false, false, DIRECT | NUMBER(14)},
-    [FIELD_READ] = {"vindaskot_field_read", 17, true, false, false, DIRECT | NUMBER(1)},
-    [FIELD_STEP] = {"vindaskot_field_step", 17, true, true, false, STEP | NUMBER(1)},
-    [FIELD_ATTRIBUTE] = {"vindaskot_field_attribute", 5, false, false, false, DIRECT | NUMBER(1) | NUMBER(14)},
+    [SYMBOL_READ] = {"vindaskot_symbol_read", OF_SYMBOL, true, false, false, DIRECT},
+    [SYMBOL_STEP] = {"vindaskot_symbol_step", OF_SYMBOL, true, true, false, STEP},
+    [SYMBOL_ATTRIBUTE] = {"vindaskot_symbol_attribute", OF_ATTRIBUTE, false, false, false, DIRECT | NUMBER(14)},
+    [SYMBOL_REFACTOR_INFO] = {"vindaskot_symbol_refactor_info", OF_REFACTOR, false, false, false, DIRECT | NUMBER(14)},
+    [FIELD_READ] = {"vindaskot_field_read", OF_FIELD, true, false, false, DIRECT | NUMBER(1)},
+    [FIELD_STEP] = {"vindaskot_field_step", OF_FIELD, true, true, false, STEP | NUMBER(1)},
+    [FIELD_ATTRIBUTE] = {"vindaskot_field_attribute", OF_ATTRIBUTE, false, false, false,
+                         DIRECT | NUMBER(1) | NUMBER(14)},
     [WALK] = {"vindaskot_walk", 0, false, true, true, FINISHED | OUT_OF_STEPS | NUMBER(10)},
-    [ATTRIBUTE_READ] = {"vindaskot_attribute_read", 5, false, false, false, DONE | NUMBER(5) | NUMBER(2) | NUMBER(1)},
-    [REFACTOR_READ] = {"vindaskot_refactor_read", 5, false, false, false, DONE | NUMBER(5) | NUMBER(2)},
+    [ATTRIBUTE_READ] = {"vindaskot_attribute_read", OF_ATTRIBUTE, false, false, false,
+                        DONE | NUMBER(5) | NUMBER(2) | NUMBER(1)},
+    [REFACTOR_READ] = {"vindaskot_refactor_read", OF_REFACTOR, false, false, false, DONE | NUMBER(5) | NUMBER(2)},
     [CHAIN_READ] = {"vindaskot_chain_read", 0, false, false, false, DONE | NUMBER(5) | NUMBER(2)},
-    [CHAIN_RECORD] = {"vindaskot_chain_record", 5, false, false, false, DONE | NUMBER(5) | NUMBER(2) | NUMBER(14)},
+    [CHAIN_RECORD] = {"vindaskot_chain_record", OF_REFACTOR, false, false, false,
+                      DONE | NUMBER(5) | NUMBER(2) | NUMBER(14)},
     [SYMBOL_FLAGS_READ] = {"vindaskot_symbol_flags_read", 0, false, false, false, DONE | NUMBER(5) | NUMBER(1)},
     [SYMBOL2_FLAGS_READ] = {"vindaskot_symbol2_flags_read", 0, false, false, false, DONE | NUMBER(5) | NUMBER(1)},
     [TYPE_FLAGS_READ] = {"vindaskot_type_flags_read", 0, false, false, false, DONE | NUMBER(5) | NUMBER(1)},

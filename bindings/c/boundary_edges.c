@@ -78,11 +78,11 @@ static void empty_writes(struct bytes none, lending no_room)
     SAME(EMPTY, call_symbol_write(&p, no_room()), refused(6, 33, 0));
     SAME(EMPTY, call_field_write(&p, lend(50)), done(45, 0));
     SAME(EMPTY, call_field_write(&p, no_room()), refused(6, 45, 0));
-    p.flags = 0x0008;
+    p.flags = VINDASKOT_SYMBOL_FLAG_TYPE_GUID;
     SAME(EMPTY, call_symbol_write(&p, lend(80)), refused(8, 1, 0));
-    p.flags = 0x1000;
+    p.flags = VINDASKOT_SYMBOL_FLAG_ATTRIBUTES;
     SAME(EMPTY, call_symbol_write(&p, lend(80)), done(35, 0));
-    p.flags = 0x80;
+    p.flags = VINDASKOT_TYPE_FLAG_TYPE_GUID;
     SAME(EMPTY, call_field_write(&p, lend(80)), done(61, 0));
 }
 
@@ -213,7 +213,7 @@ static void every_room_entries(void)
     want.len = 0;
     put_symbol(&want, &job.parts);
     every_room(write_symbol, &job, whole(&want));
-    job.parts.flags = 0x1280;
+    job.parts.flags = VINDASKOT_TYPE_FLAG_TYPE_GUID | VINDASKOT_TYPE_FLAG_COPY_MASK | VINDASKOT_TYPE_FLAG_ATTRIBUTES;
     job.parts.numbers[3] = 9;
     want.len = 0;
     put_field(&want, &job.parts);
@@ -338,7 +338,7 @@ static void draft_rich(void)
 {
     do
         draft_symbol(&rich);
-    while ((rich.parts.flags & 0x9008) != 0x9008 || rich.parts.count < 2 || rich.parts.links < 2);
+    while (rich.parts.guid.len == 0 || rich.parts.count < 2 || rich.parts.links < 2);
 }
 
 /* ---- Strings and counts, at and above what their length fields hold ---- */
@@ -395,19 +395,25 @@ static struct bytes empty_records(enum area which, size_t count, size_t width, s
     return (struct bytes){at, len};
 }
 
+/* A symbol with a chain and nothing else. */
+static const struct parts chained = {.flags = VINDASKOT_SYMBOL_FLAG_EXTENDED_FLAGS,
+                                     .extended = VINDASKOT_SYMBOL2_FLAG_REFACTOR_INFO};
+
 static void long_counts(void)
 {
     for (size_t count = 65534; count <= 65537; count++) {
-        struct parts p = laid(&(struct parts){.flags = 0x1000, .count = count});
+        struct parts p = laid(&(struct parts){.flags = VINDASKOT_SYMBOL_FLAG_ATTRIBUTES, .count = count});
         struct told refusal = refused(7, 65535, count);
         p.block = empty_records(BLOCK, count, 4, 4 * count);
         SAME(LENGTHS, call_symbol_write(&p, lend(300000)), count > 65535 ? refusal : done(35 + 4 * count, 0));
+        p.flags = VINDASKOT_TYPE_FLAG_ATTRIBUTES;
         SAME(LENGTHS, call_field_write(&p, lend(300000)), count > 65535 ? refusal : done(47 + 4 * count, 0));
         struct bytes chain = empty_records(CHAIN, count, 7, 7 * count);
         SAME(LENGTHS, call_refactor_block_write(count, chain, lend(500000)),
              count > 65535 ? refusal : done(2 + 7 * count, 0));
     }
-    struct parts p = laid(&(struct parts){.flags = 0x8000, .extended = 4, .links = 65536});
+    struct parts p = laid(&chained);
+    p.links = 65536;
     p.chain = empty_records(CHAIN, p.links, 7, 7 * p.links);
     SAME(LENGTHS, call_symbol_write(&p, lend(500000)), done(37 + 7 * p.links, 0));
     SAME(LENGTHS, call_refactor_block_write(SIZE_MAX, p.block, lend(9)), refused(7, 65535, SIZE_MAX));
@@ -425,13 +431,80 @@ static void long_guids(void)
              !good      ? refused(1, 16, len)
              : len == 0 ? done(33, 0)
                         : refused(8, 1, 0));
-        p.flags = 0x88;
+        p.flags = VINDASKOT_SYMBOL_FLAG_TYPE_GUID | VINDASKOT_TYPE_FLAG_TYPE_GUID;
         SAME(LENGTHS, call_field_write(&p, lend(99)), good ? done(61, 0) : refused(1, 16, len));
         SAME(LENGTHS, call_symbol_write(&p, lend(99)),
              !good       ? refused(1, 16, len)
              : len == 16 ? done(49, 0)
                          : refused(8, 1, 0));
     }
+}
+
+/* ---- Statuses that the edges above don't have, so that each is seen however few random cases there are ---- */
+
+/* So many zeros that claim so much. */
+static struct bytes claiming(size_t claim, size_t len)
+{
+    uint8_t *at = area(UPLOAD, len);
+    memset(at, 0, len);
+    at[0] = (uint8_t)claim;
+    return (struct bytes){at, len};
+}
+
+static void refused_symbols(void)
+{
+    struct bytes b = claiming(31, 30);
+    SAME(READS, call_symbol_read(b), refused(3, 31, 30));
+    SAME(NUMBERED, call_symbol_attribute(b, 0), refused(3, 31, 30));
+    SAME(NUMBERED, call_symbol_refactor_info(b, 0), refused(3, 31, 30));
+    SAME(WALKS, call_symbol_step(b, 0), moved(refused(3, 31, 30), 30));
+    b = claiming(29, 30);
+    SAME(READS, call_symbol_read(b), refused(4, 30, 29));
+    SAME(NUMBERED, call_symbol_attribute(b, 0), refused(4, 30, 29));
+    SAME(NUMBERED, call_symbol_refactor_info(b, 0), refused(4, 30, 29));
+    SAME(WALKS, call_symbol_step(b, 0), moved(refused(2, 30, 29), 29));
+    b = lay(UPLOAD, (struct bytes){one_symbol, sizeof one_symbol});
+    SAME(NUMBERED, call_symbol_attribute(b, 0), refused(14, 0, 0));
+    SAME(NUMBERED, call_symbol_refactor_info(b, 0), refused(14, 0, 0));
+}
+
+/* An attribute that claims a name of 9 bytes. */
+static const uint8_t long_name[4] = {9};
+
+static void refused_fields(void)
+{
+    static struct buffer entry;
+    struct bytes b = claiming(43, 42);
+    SAME(READS, call_field_read(b), refused(3, 43, 42));
+    SAME(NUMBERED, call_field_attribute(b, 0), refused(3, 43, 42));
+    SAME(WALKS, call_field_step(b, 0), moved(refused(3, 43, 42), 42));
+    b = claiming(41, 42);
+    SAME(READS, call_field_read(b), refused(4, 42, 41));
+    SAME(NUMBERED, call_field_attribute(b, 0), refused(4, 42, 41));
+    SAME(WALKS, call_field_step(b, 0), moved(refused(2, 42, 41), 41));
+    SAME(NUMBERED, call_field_attribute(claiming(45, 45), 0), refused(14, 0, 0));
+    entry.len = 0;
+    put_field(&entry, &(struct parts){.flags = VINDASKOT_TYPE_FLAG_ATTRIBUTES, .count = 1, .block = {long_name, 4}});
+    b = lay(UPLOAD, whole(&entry));
+    SAME(READS, call_field_read(b), refused(1, 13, 4));
+    SAME(NUMBERED, call_field_attribute(b, 0), refused(1, 13, 4));
+    SAME(WALKS, call_field_step(b, 0), moved(refused(1, 13, 4), entry.len));
+}
+
+static void other_statuses(void)
+{
+    struct bytes zero = claiming(0, 40), word = text("\x78\x56\x34\x12");
+    struct parts p = laid(&(struct parts){.flags = VINDASKOT_SYMBOL_FLAG_ATTRIBUTES, .count = 1});
+    struct told stopped = {.status = 10, .answer = {1, 0}, .steps = 1};
+    SAME(WALKS, call_walk(zero, 3, 0), stopped);
+    SAME(FINDS, call_index_build(zero, lend(8)), refused(10, 1, 0));
+    SAME(FINDS, call_find(zero, text("Z")), refused(10, 1, 0));
+    SAME(READS, call_symbol_flags_read(part(word, 0, 2)), done(0x5678, 0));
+    SAME(READS, call_symbol2_flags_read(word), done(0x12345678, 0));
+    SAME(READS, call_type_flags_read(word), done(0x12345678, 0));
+    SAME(WRITES, call_symbol_write(&p, lend(80)), refused(9, 1, 0));
+    p.flags = VINDASKOT_TYPE_FLAG_ATTRIBUTES;
+    SAME(WRITES, call_field_write(&p, lend(80)), refused(9, 1, 0));
 }
 
 void try_edges(void)
@@ -449,6 +522,9 @@ void try_edges(void)
         long_strings();
         long_counts();
         long_guids();
+        refused_symbols();
+        refused_fields();
+        other_statuses();
     }
 }
 
@@ -494,7 +570,7 @@ static void limit_field(size_t len)
 {
     static struct buffer entry;
     struct parts p = rich.parts;
-    p.flags = 0x1080;
+    p.flags = VINDASKOT_TYPE_FLAG_TYPE_GUID | VINDASKOT_TYPE_FLAG_ATTRIBUTES;
     entry.len = 0;
     put_field(&entry, &p);
     struct bytes b = grown(&entry, len, true);
@@ -517,10 +593,9 @@ static void limit_records(size_t len)
     SAME(LIMITS, call_type_flags_read(b), at_limit(len, refused(1, 4, len)));
     size_t count = len / 7;
     b = empty_records(UPLOAD, count, 7, len);
-    SAME(LIMITS, call_refactor_read(b), at_limit(len, (struct told){.slots = {NEXT_BIT, 1, 6, 0, 7}}));
+    SAME(LIMITS, call_refactor_read(b), at_limit(len, refactor_told(NEXT_BIT, 6, 0)));
     SAME(LIMITS, call_chain_read(b), at_limit(len, done(count, 7 * count)));
-    SAME(LIMITS, call_chain_record(b, count - 1),
-         at_limit(len, (struct told){.slots = {0, 0, 7 * count - 1, 0, 7 * count}}));
+    SAME(LIMITS, call_chain_record(b, count - 1), at_limit(len, refactor_told(0, 7 * count - 1, 0)));
     SAME(LIMITS, call_chain_record(b, count), at_limit(len, refused(14, count, count)));
 }
 
@@ -592,14 +667,14 @@ static struct bytes long_chain(size_t len, size_t *count)
 
 static void limit_writes(size_t len)
 {
-    struct parts p = laid(&(struct parts){.flags = 0x8000, .extended = 4});
+    struct parts p = laid(&chained);
     p.chain = long_chain(len - 37, &p.links);
     SAME(LIMITS, call_symbol_write(&p, lend(len)), at_limit(len, done(len, 0)));
     SAME(LIMITS, call_symbol_write(&p, lend(len - 1)), at_limit(len, refused(6, len, len - 1)));
     struct bytes chain = long_chain(len - 2, &p.links);
     SAME(LIMITS, call_refactor_block_write(p.links, chain, lend(len)), at_limit(len, done(len, 0)));
     SAME(LIMITS, call_refactor_block_write(p.links, chain, lend(len - 1)), at_limit(len, refused(6, len, len - 1)));
-    p = laid(&(struct parts){.flags = 0x200, .numbers = {0, 0, 0, (uint32_t)(len - 45)}});
+    p = laid(&(struct parts){.flags = VINDASKOT_TYPE_FLAG_COPY_MASK, .numbers = {0, 0, 0, (uint32_t)(len - 45)}});
     SAME(LIMITS, call_field_write(&p, lend(len)), at_limit(len, done(len, 0)));
     SAME(LIMITS, call_field_write(&p, lend(len - 1)), at_limit(len, refused(6, len, len - 1)));
     p.numbers[3] = UINT32_MAX;

@@ -112,9 +112,9 @@ static void put_strings(struct buffer *to, const struct parts *p)
     put_string(to, p->comment);
 }
 
-static void put_block(struct buffer *to, const struct parts *p)
+static void put_block(struct buffer *to, const struct parts *p, uint32_t flag)
 {
-    if ((p->flags & 0x1000) != 0) {
+    if ((p->flags & flag) != 0) {
         put_number(to, p->count, 2);
         put(to, p->block);
     }
@@ -138,8 +138,8 @@ void put_symbol(struct buffer *to, const struct parts *p)
     put_lengths(to, p);
     put_strings(to, p);
     put(to, p->guid);
-    put_block(to, p);
-    if ((p->flags & 0x8000) != 0)
+    put_block(to, p, VINDASKOT_SYMBOL_FLAG_ATTRIBUTES);
+    if ((p->flags & VINDASKOT_SYMBOL_FLAG_EXTENDED_FLAGS) != 0)
         put_number(to, p->extended, 4);
     put(to, p->chain);
     set_claim(to, start, to->len - start);
@@ -159,7 +159,7 @@ static void put_field_head(struct buffer *to, const struct parts *p, size_t arra
 
 static void put_field_guid(struct buffer *to, const struct parts *p)
 {
-    if ((p->flags & 0x80) == 0)
+    if ((p->flags & VINDASKOT_TYPE_FLAG_TYPE_GUID) == 0)
         return;
     if (p->guid.len == 16)
         put(to, p->guid);
@@ -172,9 +172,9 @@ void put_field(struct buffer *to, const struct parts *p)
     size_t start = to->len;
     put_field_head(to, p, 0, 0);
     put_field_guid(to, p);
-    if ((p->flags & 0x200) != 0)
+    if ((p->flags & VINDASKOT_TYPE_FLAG_COPY_MASK) != 0)
         put_zeros(to, p->numbers[3]);
-    put_block(to, p);
+    put_block(to, p, VINDASKOT_TYPE_FLAG_ATTRIBUTES);
     set_claim(to, start, to->len - start);
 }
 
@@ -259,13 +259,13 @@ void draft_symbol(struct draft *d)
     struct parts *p = &d->parts;
     draft_strings(d);
     p->flags = (uint32_t)any() & 0xFFFF;
-    if ((p->flags & 0x0008) != 0)
+    if ((p->flags & VINDASKOT_SYMBOL_FLAG_TYPE_GUID) != 0)
         draft_guid(d);
-    if ((p->flags & 0x1000) != 0)
+    if ((p->flags & VINDASKOT_SYMBOL_FLAG_ATTRIBUTES) != 0)
         draft_attributes(d);
-    if ((p->flags & 0x8000) != 0)
-        p->extended = one_in(2) ? (uint32_t)any() : 4;
-    if ((p->extended & 0x0004) != 0)
+    if ((p->flags & VINDASKOT_SYMBOL_FLAG_EXTENDED_FLAGS) != 0)
+        p->extended = one_in(2) ? (uint32_t)any() : VINDASKOT_SYMBOL2_FLAG_REFACTOR_INFO;
+    if ((p->extended & VINDASKOT_SYMBOL2_FLAG_REFACTOR_INFO) != 0)
         draft_chain(d);
 }
 
@@ -276,9 +276,9 @@ void draft_field(struct draft *d)
     draft_strings(d);
     p->flags = (uint32_t)any();
     p->numbers[3] = (uint32_t)below(one_in(10) ? 3000 : 40);
-    if ((p->flags & 0x80) != 0 ? !one_in(8) : one_in(8))
+    if ((p->flags & VINDASKOT_TYPE_FLAG_TYPE_GUID) != 0 ? !one_in(8) : one_in(8))
         draft_guid(d);
-    if ((p->flags & 0x1000) != 0)
+    if ((p->flags & VINDASKOT_TYPE_FLAG_ATTRIBUTES) != 0)
         draft_attributes(d);
 }
 
@@ -384,14 +384,14 @@ void make_field(struct buffer *to)
     put_any(to, 8 * arrays);
     put_items(to, items);
     put_field_guid(to, p);
-    if ((p->flags & 0x200) != 0)
+    if ((p->flags & VINDASKOT_TYPE_FLAG_COPY_MASK) != 0)
         put_any(to, p->numbers[3] < 4000 ? p->numbers[3] : below(40));
-    if ((p->flags & 0x800) != 0) {
+    if ((p->flags & VINDASKOT_TYPE_FLAG_METHOD_INFOS) != 0) {
         size_t methods = below(4);
         put_number(to, methods, 2);
         put_items(to, methods);
     }
-    put_block(to, p);
+    put_block(to, p, VINDASKOT_TYPE_FLAG_ATTRIBUTES);
     if (one_in(4))
         put_any(to, below(20));
     set_claim(to, start, to->len - start);

@@ -1,6 +1,25 @@
 /* What document 01 says the answer is, worked out from the bytes in plain C. It shares no code with the library. Where
- * 01 leaves a choice it follows docs/DECISIONS.md. */
+ * 01 leaves a choice it follows docs/DECISIONS.md. Slots and flags go by the header's names, so that a header that
+ * gives one of them another number is found. */
 #include "boundary.h"
+
+const size_t symbol_numbers[4] = {VINDASKOT_SYMBOL_INDEX_GROUP, VINDASKOT_SYMBOL_INDEX_OFFSET, VINDASKOT_SYMBOL_SIZE,
+                                  VINDASKOT_SYMBOL_DATA_TYPE_ID};
+const size_t field_numbers[7] = {VINDASKOT_FIELD_VERSION, VINDASKOT_FIELD_HASH_VALUE, VINDASKOT_FIELD_TYPE_HASH_VALUE,
+                                 VINDASKOT_FIELD_SIZE,    VINDASKOT_FIELD_OFFSET,     VINDASKOT_FIELD_TYPE_ID,
+                                 VINDASKOT_FIELD_FLAGS};
+const struct run symbol_strings[3] = {{VINDASKOT_SYMBOL_NAME, VINDASKOT_SYMBOL_NAME_LEN},
+                                      {VINDASKOT_SYMBOL_TYPE_NAME, VINDASKOT_SYMBOL_TYPE_NAME_LEN},
+                                      {VINDASKOT_SYMBOL_COMMENT, VINDASKOT_SYMBOL_COMMENT_LEN}};
+const struct run field_strings[3] = {{VINDASKOT_FIELD_NAME, VINDASKOT_FIELD_NAME_LEN},
+                                     {VINDASKOT_FIELD_TYPE_NAME, VINDASKOT_FIELD_TYPE_NAME_LEN},
+                                     {VINDASKOT_FIELD_COMMENT, VINDASKOT_FIELD_COMMENT_LEN}};
+const struct run symbol_attributes = {VINDASKOT_SYMBOL_ATTRIBUTES, VINDASKOT_SYMBOL_ATTRIBUTE_COUNT};
+const struct run symbol_refactors = {VINDASKOT_SYMBOL_REFACTORS, VINDASKOT_SYMBOL_REFACTOR_COUNT};
+const struct run field_attributes = {VINDASKOT_FIELD_ATTRIBUTES, VINDASKOT_FIELD_ATTRIBUTE_COUNT};
+const struct run attribute_name = {VINDASKOT_ATTRIBUTE_NAME, VINDASKOT_ATTRIBUTE_NAME_LEN};
+const struct run attribute_value = {VINDASKOT_ATTRIBUTE_VALUE, VINDASKOT_ATTRIBUTE_VALUE_LEN};
+const struct run refactor_name = {VINDASKOT_REFACTOR_NAME, VINDASKOT_REFACTOR_NAME_LEN};
 
 uint64_t number_at(struct bytes b, size_t at, size_t width)
 {
@@ -55,7 +74,21 @@ static struct told attribute_at(struct bytes b, size_t at)
     size_t name = b.at[at], value = b.at[at + 1];
     if (left < name + value + 4)
         return refused(1, name + value + 4, left);
-    return (struct told){.slots = {at + 2, name, at + name + 3, value, at + name + value + 4}};
+    return (struct told){.slots = {[VINDASKOT_ATTRIBUTE_NAME] = at + 2,
+                                   [VINDASKOT_ATTRIBUTE_NAME_LEN] = name,
+                                   [VINDASKOT_ATTRIBUTE_VALUE] = at + name + 3,
+                                   [VINDASKOT_ATTRIBUTE_VALUE_LEN] = value,
+                                   [VINDASKOT_ATTRIBUTE_NEXT] = at + name + value + 4}};
+}
+
+/* A record that was read: its masked number, which has the follower bit, and its name's place and length. */
+struct told refactor_told(uint64_t count, size_t name, size_t len)
+{
+    return (struct told){.slots = {[VINDASKOT_REFACTOR_COUNT] = count,
+                                   [VINDASKOT_REFACTOR_HAS_NEXT] = (count & NEXT_BIT) != 0,
+                                   [VINDASKOT_REFACTOR_NAME] = name,
+                                   [VINDASKOT_REFACTOR_NAME_LEN] = len,
+                                   [VINDASKOT_REFACTOR_NEXT] = name + len + 1}};
 }
 
 static struct told refactor_at(struct bytes b, size_t at)
@@ -67,7 +100,7 @@ static struct told refactor_at(struct bytes b, size_t at)
     if (left < name + 7)
         return refused(2, name + 7, left);
     uint64_t packed = number_at(b, at, 4);
-    return (struct told){.slots = {packed & COUNT_MASK, (packed & NEXT_BIT) != 0, at + 6, name, at + name + 7}};
+    return refactor_told(packed & COUNT_MASK, at + 6, name);
 }
 
 static struct told chain_at(struct bytes b, size_t at)
@@ -150,13 +183,14 @@ static struct list attributes_at(struct bytes e, size_t at, bool flagged)
 }
 
 /* Places and lengths of the three strings, and the place after them. */
-static size_t strings_of(struct bytes e, size_t header, size_t lengths, uint64_t *slots)
+static size_t strings_of(struct bytes e, size_t header, size_t lengths, const struct run *strings, uint64_t *slots)
 {
     size_t at = header;
     for (size_t i = 0; i < 3; i++) {
-        slots[2 * i] = at;
-        slots[2 * i + 1] = number_at(e, lengths + 2 * i, 2);
-        at += (size_t)slots[2 * i + 1] + 1;
+        size_t len = (size_t)number_at(e, lengths + 2 * i, 2);
+        slots[strings[i].place] = at;
+        slots[strings[i].len] = len;
+        at += len + 1;
     }
     return at;
 }
@@ -174,18 +208,18 @@ static size_t symbol_sections(struct bytes e, size_t at, struct told *told)
 {
     uint64_t *s = told->slots;
     uint64_t flags = s[VINDASKOT_SYMBOL_FLAGS];
-    at = guid_of(e, at, (flags & 0x0008) != 0, told, VINDASKOT_SYMBOL_HAS_GUID);
-    struct list list = attributes_at(e, at, (flags & 0x1000) != 0);
+    at = guid_of(e, at, (flags & VINDASKOT_SYMBOL_FLAG_TYPE_GUID) != 0, told, VINDASKOT_SYMBOL_HAS_GUID);
+    struct list list = attributes_at(e, at, (flags & VINDASKOT_SYMBOL_FLAG_ATTRIBUTES) != 0);
     s[VINDASKOT_SYMBOL_ATTRIBUTES] = list.first;
     s[VINDASKOT_SYMBOL_ATTRIBUTE_COUNT] = list.count;
     at = list.next;
-    if ((flags & 0x8000) != 0 && left_at(e, at) >= 4) {
+    if ((flags & VINDASKOT_SYMBOL_FLAG_EXTENDED_FLAGS) != 0 && left_at(e, at) >= 4) {
         s[VINDASKOT_SYMBOL_HAS_EXTENDED] = 1;
         s[VINDASKOT_SYMBOL_EXTENDED_FLAGS] = number_at(e, at, 4);
         at += 4;
     }
     s[VINDASKOT_SYMBOL_REFACTORS] = at;
-    if ((s[VINDASKOT_SYMBOL_EXTENDED_FLAGS] & 0x0004) != 0 && left_at(e, at) > 0) {
+    if ((s[VINDASKOT_SYMBOL_EXTENDED_FLAGS] & VINDASKOT_SYMBOL2_FLAG_REFACTOR_INFO) != 0 && left_at(e, at) > 0) {
         struct told chain = chain_at(e, at);
         if (chain.status == VINDASKOT_DONE) {
             s[VINDASKOT_SYMBOL_REFACTOR_COUNT] = chain.answer[0];
@@ -202,12 +236,12 @@ static struct told symbol_entry(struct bytes e)
     uint64_t *s = told.slots;
     if (e.len < 30)
         return refused(2, 30, e.len);
-    size_t at = strings_of(e, 30, 24, s + VINDASKOT_SYMBOL_NAME);
+    size_t at = strings_of(e, 30, 24, symbol_strings, s);
     if (e.len < at)
         return refused(3, at, e.len);
     s[VINDASKOT_SYMBOL_LENGTH] = e.len;
     for (size_t i = 0; i < 4; i++)
-        s[VINDASKOT_SYMBOL_INDEX_GROUP + i] = number_at(e, 4 + 4 * i, 4);
+        s[symbol_numbers[i]] = number_at(e, 4 + 4 * i, 4);
     s[VINDASKOT_SYMBOL_FLAGS] = number_at(e, 20, 2);
     s[VINDASKOT_SYMBOL_UNREAD] = left_at(e, symbol_sections(e, at, &told));
     return told;
@@ -226,12 +260,12 @@ static struct list field_sections(struct bytes e, size_t at, struct told *told)
     uint64_t flags = told->slots[VINDASKOT_FIELD_FLAGS], size = told->slots[VINDASKOT_FIELD_SIZE];
     at += 8 * (size_t)number_at(e, 38, 2);
     at = skip(e, at, number_at(e, 40, 2));
-    at = guid_of(e, at, (flags & 0x80) != 0, told, VINDASKOT_FIELD_HAS_GUID);
-    if ((flags & 0x200) != 0)
+    at = guid_of(e, at, (flags & VINDASKOT_TYPE_FLAG_TYPE_GUID) != 0, told, VINDASKOT_FIELD_HAS_GUID);
+    if ((flags & VINDASKOT_TYPE_FLAG_COPY_MASK) != 0)
         at = size < left_at(e, at) ? at + (size_t)size : e.len;
-    if ((flags & 0x800) != 0 && left_at(e, at) >= 2)
+    if ((flags & VINDASKOT_TYPE_FLAG_METHOD_INFOS) != 0 && left_at(e, at) >= 2)
         at = skip(e, at + 2, number_at(e, at, 2));
-    return attributes_at(e, at, (flags & 0x1000) != 0);
+    return attributes_at(e, at, (flags & VINDASKOT_TYPE_FLAG_ATTRIBUTES) != 0);
 }
 
 static struct told field_entry(struct bytes e)
@@ -240,12 +274,12 @@ static struct told field_entry(struct bytes e)
     uint64_t *s = told.slots;
     if (e.len < 42)
         return refused(2, 42, e.len);
-    size_t at = strings_of(e, 42, 32, s + VINDASKOT_FIELD_NAME);
+    size_t at = strings_of(e, 42, 32, field_strings, s);
     if (e.len < at)
         return refused(3, at, e.len);
     s[VINDASKOT_FIELD_LENGTH] = e.len;
     for (size_t i = 0; i < 7; i++)
-        s[VINDASKOT_FIELD_VERSION + i] = number_at(e, 4 + 4 * i, 4);
+        s[field_numbers[i]] = number_at(e, 4 + 4 * i, 4);
     struct list list = field_sections(e, at, &told);
     if (list.stopped.status != VINDASKOT_DONE)
         return list.stopped;
@@ -276,31 +310,41 @@ struct told model_field_read(struct bytes b)
     return direct(b, 42, field_entry);
 }
 
-/* A record of an entry that was read, by number. */
-static struct told of_entry(struct bytes b, struct told read, size_t first, size_t number, size_t next,
+/* A record by number, of an entry whose bytes begin b and that tells its records in these slots. */
+static struct told of_entry(struct bytes b, struct told read, struct run records, size_t number, size_t next,
                             struct told (*record)(struct bytes, size_t))
 {
     if (read.status != VINDASKOT_DONE)
         return read;
-    if (number >= read.slots[first + 1])
-        return refused(14, read.slots[first + 1], number);
-    return nth(part(b, 0, (size_t)read.slots[0]), (size_t)read.slots[first], number, next, record);
+    if (number >= read.slots[records.len])
+        return refused(14, read.slots[records.len], number);
+    return nth(b, (size_t)read.slots[records.place], number, next, record);
+}
+
+static struct bytes entry_of(struct bytes b, struct told read, size_t length)
+{
+    return part(b, 0, (size_t)read.slots[length]);
 }
 
 struct told model_symbol_attribute(struct bytes b, size_t number)
 {
-    return of_entry(b, model_symbol_read(b), VINDASKOT_SYMBOL_ATTRIBUTES, number, VINDASKOT_ATTRIBUTE_NEXT,
-                    attribute_at);
+    struct told read = model_symbol_read(b);
+    return of_entry(entry_of(b, read, VINDASKOT_SYMBOL_LENGTH), read, symbol_attributes, number,
+                    VINDASKOT_ATTRIBUTE_NEXT, attribute_at);
 }
 
 struct told model_symbol_refactor_info(struct bytes b, size_t number)
 {
-    return of_entry(b, model_symbol_read(b), VINDASKOT_SYMBOL_REFACTORS, number, VINDASKOT_REFACTOR_NEXT, refactor_at);
+    struct told read = model_symbol_read(b);
+    return of_entry(entry_of(b, read, VINDASKOT_SYMBOL_LENGTH), read, symbol_refactors, number, VINDASKOT_REFACTOR_NEXT,
+                    refactor_at);
 }
 
 struct told model_field_attribute(struct bytes b, size_t number)
 {
-    return of_entry(b, model_field_read(b), VINDASKOT_FIELD_ATTRIBUTES, number, VINDASKOT_ATTRIBUTE_NEXT, attribute_at);
+    struct told read = model_field_read(b);
+    return of_entry(entry_of(b, read, VINDASKOT_FIELD_LENGTH), read, field_attributes, number, VINDASKOT_ATTRIBUTE_NEXT,
+                    attribute_at);
 }
 
 /* ---- Walking ---- */
@@ -404,13 +448,20 @@ struct told model_find_indexed(struct bytes b, struct bytes slots, struct bytes 
 
 /* ---- Writing ---- */
 
+/* The byte after a string that a record tells. */
+static uint8_t end_byte(struct bytes b, const uint64_t *slots, struct run string)
+{
+    return b.at[slots[string.place] + slots[string.len]];
+}
+
 static struct told good_attributes(size_t count, struct bytes block)
 {
     size_t at = 0, good = 0;
     for (; good < count; good++) {
         struct told a = attribute_at(block, at);
         const uint64_t *s = a.slots;
-        if (a.status != VINDASKOT_DONE || block.at[s[0] + s[1]] != 0 || block.at[s[2] + s[3]] != 0)
+        if (a.status != VINDASKOT_DONE || end_byte(block, s, attribute_name) != 0 ||
+            end_byte(block, s, attribute_value) != 0)
             break;
         at = (size_t)s[VINDASKOT_ATTRIBUTE_NEXT];
     }
@@ -423,7 +474,7 @@ static struct told good_refactors(size_t count, struct bytes block)
     for (; good < count; good++) {
         struct told r = refactor_at(block, at);
         const uint64_t *s = r.slots;
-        if (r.status != VINDASKOT_DONE || block.at[s[VINDASKOT_REFACTOR_NAME] + s[VINDASKOT_REFACTOR_NAME_LEN]] != 0)
+        if (r.status != VINDASKOT_DONE || end_byte(block, s, refactor_name) != 0)
             break;
         if ((number_at(block, at, 4) & ~(uint64_t)COUNT_MASK) != 0 ||
             (s[VINDASKOT_REFACTOR_HAS_NEXT] != 0) != (good + 1 < count))
@@ -459,13 +510,14 @@ static struct told attributes_fit(const struct parts *p)
 
 static struct told sections_agree(const struct parts *p)
 {
-    if ((p->guid.len == 16) != ((p->flags & 0x0008) != 0))
+    if ((p->guid.len == 16) != ((p->flags & VINDASKOT_SYMBOL_FLAG_TYPE_GUID) != 0))
         return refused(8, 1, 0);
-    if (p->block.len > 0 && (p->flags & 0x1000) == 0)
+    if (p->block.len > 0 && (p->flags & VINDASKOT_SYMBOL_FLAG_ATTRIBUTES) == 0)
         return refused(8, 2, 0);
-    if (p->extended != 0 && (p->flags & 0x8000) == 0)
+    if (p->extended != 0 && (p->flags & VINDASKOT_SYMBOL_FLAG_EXTENDED_FLAGS) == 0)
         return refused(8, 3, 0);
-    return (p->links > 0) != ((p->extended & 0x0004) != 0) ? refused(8, 4, 0) : done(0, 0);
+    bool flagged = (p->extended & VINDASKOT_SYMBOL2_FLAG_REFACTOR_INFO) != 0;
+    return (p->links > 0) != flagged ? refused(8, 4, 0) : done(0, 0);
 }
 
 struct told model_symbol_write(const struct parts *p, size_t lent)
@@ -480,22 +532,22 @@ struct told model_symbol_write(const struct parts *p, size_t lent)
     if (told.status != VINDASKOT_DONE)
         return told;
     uint64_t needed = 33 + (uint64_t)p->name.len + p->type_name.len + p->comment.len + p->guid.len + p->chain.len;
-    needed += (p->flags & 0x1000) != 0 ? 2 + (uint64_t)p->block.len : 0;
-    needed += (p->flags & 0x8000) != 0 ? 4 : 0;
+    needed += (p->flags & VINDASKOT_SYMBOL_FLAG_ATTRIBUTES) != 0 ? 2 + (uint64_t)p->block.len : 0;
+    needed += (p->flags & VINDASKOT_SYMBOL_FLAG_EXTENDED_FLAGS) != 0 ? 4 : 0;
     return room_for(needed, lent);
 }
 
 struct told model_field_write(const struct parts *p, size_t lent)
 {
-    bool attributes = (p->flags & 0x1000) != 0;
+    bool attributes = (p->flags & VINDASKOT_TYPE_FLAG_ATTRIBUTES) != 0;
     struct told told = strings_fit(p);
     if (told.status == VINDASKOT_DONE && attributes)
         told = attributes_fit(p);
     if (told.status != VINDASKOT_DONE)
         return told;
     uint64_t needed = 45 + (uint64_t)p->name.len + p->type_name.len + p->comment.len;
-    needed += (p->flags & 0x80) != 0 ? 16 : 0;
-    needed += (p->flags & 0x200) != 0 ? p->numbers[3] : 0;
+    needed += (p->flags & VINDASKOT_TYPE_FLAG_TYPE_GUID) != 0 ? 16 : 0;
+    needed += (p->flags & VINDASKOT_TYPE_FLAG_COPY_MASK) != 0 ? p->numbers[3] : 0;
     needed += attributes ? 2 + (uint64_t)p->block.len : 0;
     return room_for(needed, lent);
 }

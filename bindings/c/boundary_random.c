@@ -7,15 +7,32 @@ static struct draft draft;
 
 /* ---- Reading ---- */
 
+/* The slots of a record's last string, and of the place after the record. */
+struct record {
+    struct run last;
+    size_t next;
+};
+
+static const struct record an_attribute = {{VINDASKOT_ATTRIBUTE_VALUE, VINDASKOT_ATTRIBUTE_VALUE_LEN},
+                                           VINDASKOT_ATTRIBUTE_NEXT};
+static const struct record a_refactor = {{VINDASKOT_REFACTOR_NAME, VINDASKOT_REFACTOR_NAME_LEN},
+                                         VINDASKOT_REFACTOR_NEXT};
+
+static bool ends_within(const uint64_t *slots, struct record record, uint64_t end)
+{
+    return slots[record.next] <= end && slots[record.last.place] + slots[record.last.len] + 1 == slots[record.next];
+}
+
 /* Records of an entry that ends there: the first by number, those around the last, and one that never is there. */
-static void try_numbers(struct bytes b, uint64_t end, uint64_t count, numbered call, numbered model)
+static void try_numbers(struct bytes b, uint64_t end, uint64_t count, struct record record, numbered call,
+                        numbered model)
 {
     const size_t last = (size_t)count, numbers[] = {0, 1, last / 2, last - 1, last, last + 1, SIZE_MAX};
     for (size_t i = 0; i < sizeof numbers / sizeof *numbers; i++) {
         struct told told = call(b, numbers[i]);
         SAME(NUMBERED, told, model(b, numbers[i]));
         if (told.status == VINDASKOT_DONE)
-            CHECK(PLACES, told.slots[4] <= end && told.slots[2] <= told.slots[4], "%s: a record ends past its entry",
+            CHECK(PLACES, ends_within(told.slots, record, end), "%s: a record ends past its entry",
                   name_of(told.function));
     }
 }
@@ -30,60 +47,65 @@ static void try_records(struct bytes b)
     SAME(READS, call_symbol2_flags_read(b), model_flags_read(b, 4));
     SAME(READS, call_type_flags_read(b), model_flags_read(b, 4));
     if (attribute.status == VINDASKOT_DONE)
-        CHECK(PLACES, attribute.slots[VINDASKOT_ATTRIBUTE_NEXT] <= b.len, "an attribute ends past its bytes");
+        CHECK(PLACES, ends_within(attribute.slots, an_attribute, b.len), "an attribute ends past its bytes");
     if (refactor.status == VINDASKOT_DONE)
-        CHECK(PLACES, refactor.slots[VINDASKOT_REFACTOR_NEXT] <= b.len, "a refactor record ends past its bytes");
+        CHECK(PLACES, ends_within(refactor.slots, a_refactor, b.len), "a refactor record ends past its bytes");
     if (chain.status == VINDASKOT_DONE)
         CHECK(PLACES, chain.answer[1] <= b.len && 7 * chain.answer[0] <= chain.answer[1],
               "a chain ends past its bytes");
-    try_numbers(b, b.len, chain.status == VINDASKOT_DONE ? chain.answer[0] : 0, call_chain_record, model_chain_record);
+    try_numbers(b, b.len, chain.status == VINDASKOT_DONE ? chain.answer[0] : 0, a_refactor, call_chain_record,
+                model_chain_record);
 }
 
-/* A place and a length, or a place and a count of records that take at least so many bytes, within an entry. */
-static bool within(const uint64_t *slots, size_t slot, size_t width)
+/* Records that take at least so many bytes each, within an entry of that length. */
+static bool within(const uint64_t *slots, struct run records, size_t width, uint64_t length)
 {
-    return slots[slot + 1] == 0 || slots[slot] + width * slots[slot + 1] <= slots[0];
+    return slots[records.len] == 0 || slots[records.place] + width * slots[records.len] <= length;
 }
 
 /* The strings follow the header, each with an end byte: worked out from the entry's own length fields. */
-static void check_strings(struct bytes e, const uint64_t *slots, size_t first, size_t header, size_t lengths)
+static void check_strings(struct bytes e, const uint64_t *slots, const struct run *strings, size_t header,
+                          size_t lengths, uint64_t length)
 {
-    size_t name = (size_t)number_at(e, lengths, 2), type_name = (size_t)number_at(e, lengths + 2, 2);
-    size_t comment = (size_t)number_at(e, lengths + 4, 2);
-    CHECK(PLACES, slots[first] == header && slots[first + 1] == name, "the name is told at another place");
-    CHECK(PLACES, slots[first + 2] == header + 1 + name && slots[first + 3] == type_name,
-          "the type is told at another place");
-    CHECK(PLACES, slots[first + 4] == header + 2 + name + type_name && slots[first + 5] == comment,
-          "the comment is told at another place");
-    CHECK(PLACES, slots[first + 4] + comment < slots[0] && slots[0] <= e.len, "strings or an entry past the end");
+    size_t at = header;
+    for (size_t i = 0; i < 3; i++) {
+        size_t len = (size_t)number_at(e, lengths + 2 * i, 2);
+        CHECK(PLACES, slots[strings[i].place] == at && slots[strings[i].len] == len,
+              "string %zu is told at another place", i);
+        at += len + 1;
+    }
+    CHECK(PLACES, at <= length && length <= e.len, "strings or an entry past the end");
 }
 
 static void try_symbol(struct bytes b)
 {
     struct told told = call_symbol_read(b);
-    const uint64_t *s = told.slots;
+    const uint64_t *s = told.slots, length = s[VINDASKOT_SYMBOL_LENGTH];
     SAME(READS, told, model_symbol_read(b));
-    try_numbers(b, s[0], s[VINDASKOT_SYMBOL_ATTRIBUTE_COUNT], call_symbol_attribute, model_symbol_attribute);
-    try_numbers(b, s[0], s[VINDASKOT_SYMBOL_REFACTOR_COUNT], call_symbol_refactor_info, model_symbol_refactor_info);
+    try_numbers(b, length, s[VINDASKOT_SYMBOL_ATTRIBUTE_COUNT], an_attribute, call_symbol_attribute,
+                model_symbol_attribute);
+    try_numbers(b, length, s[VINDASKOT_SYMBOL_REFACTOR_COUNT], a_refactor, call_symbol_refactor_info,
+                model_symbol_refactor_info);
     if (told.status != VINDASKOT_DONE)
         return;
-    check_strings(b, s, VINDASKOT_SYMBOL_NAME, 30, 24);
+    check_strings(b, s, symbol_strings, 30, 24, length);
     CHECK(PLACES,
-          within(s, VINDASKOT_SYMBOL_ATTRIBUTES, 4) && within(s, VINDASKOT_SYMBOL_REFACTORS, 7) &&
-              s[VINDASKOT_SYMBOL_REFACTORS] + s[VINDASKOT_SYMBOL_UNREAD] <= s[0],
+          within(s, symbol_attributes, 4, length) && within(s, symbol_refactors, 7, length) &&
+              s[VINDASKOT_SYMBOL_REFACTORS] + s[VINDASKOT_SYMBOL_UNREAD] <= length,
           "a symbol tells records past its end");
 }
 
 static void try_field(struct bytes b)
 {
     struct told told = call_field_read(b);
+    const uint64_t *s = told.slots, length = s[VINDASKOT_FIELD_LENGTH];
     SAME(READS, told, model_field_read(b));
-    try_numbers(b, told.slots[0], told.slots[VINDASKOT_FIELD_ATTRIBUTE_COUNT], call_field_attribute,
+    try_numbers(b, length, s[VINDASKOT_FIELD_ATTRIBUTE_COUNT], an_attribute, call_field_attribute,
                 model_field_attribute);
     if (told.status != VINDASKOT_DONE)
         return;
-    check_strings(b, told.slots, VINDASKOT_FIELD_NAME, 42, 32);
-    CHECK(PLACES, within(told.slots, VINDASKOT_FIELD_ATTRIBUTES, 4), "a field tells attributes past its end");
+    check_strings(b, s, field_strings, 42, 32, length);
+    CHECK(PLACES, within(s, field_attributes, 4, length), "a field tells attributes past its end");
 }
 
 /* ---- Walking ---- */
@@ -257,9 +279,9 @@ static struct bytes try_entry(const struct parts *from, writing call,
     return lay(UPLOAD, (struct bytes){out.at, needed});
 }
 
-static bool holds(struct bytes e, const uint64_t *slots, size_t slot, struct bytes want)
+static bool holds(struct bytes e, const uint64_t *slots, struct run string, struct bytes want)
 {
-    return slots[slot + 1] == want.len && equal(part(e, (size_t)slots[slot], want.len), want);
+    return slots[string.len] == want.len && equal(part(e, (size_t)slots[string.place], want.len), want);
 }
 
 static void back_attributes(struct bytes e, const struct draft *d, numbered call)
@@ -267,8 +289,8 @@ static void back_attributes(struct bytes e, const struct draft *d, numbered call
     for (size_t i = 0; i < d->parts.count; i++) {
         struct told told = call(e, i);
         CHECK(ROUND_TRIPS,
-              told.status == VINDASKOT_DONE && holds(e, told.slots, VINDASKOT_ATTRIBUTE_NAME, d->names[i]) &&
-                  holds(e, told.slots, VINDASKOT_ATTRIBUTE_VALUE, d->values[i]),
+              told.status == VINDASKOT_DONE && holds(e, told.slots, attribute_name, d->names[i]) &&
+                  holds(e, told.slots, attribute_value, d->values[i]),
               "attribute %zu is read as another", i);
     }
 }
@@ -278,19 +300,25 @@ static void back_chain(struct bytes e, const struct draft *d, numbered call)
     for (size_t i = 0; i < d->parts.links; i++) {
         struct told told = call(e, i);
         CHECK(ROUND_TRIPS,
-              told.status == VINDASKOT_DONE && holds(e, told.slots, VINDASKOT_REFACTOR_NAME, d->formers[i]) &&
+              told.status == VINDASKOT_DONE && holds(e, told.slots, refactor_name, d->formers[i]) &&
                   told.slots[VINDASKOT_REFACTOR_COUNT] == d->counts[i] &&
                   told.slots[VINDASKOT_REFACTOR_HAS_NEXT] == (i + 1 < d->parts.links),
               "refactor record %zu is read as another", i);
     }
 }
 
-static bool numbers_back(const uint64_t *slots, const uint32_t *numbers, size_t count)
+static bool numbers_back(const uint64_t *slots, const size_t *which, const uint32_t *numbers, size_t count)
 {
     for (size_t i = 0; i < count; i++)
-        if (slots[i] != numbers[i])
+        if (slots[which[i]] != numbers[i])
             return false;
     return true;
+}
+
+static bool strings_back(struct bytes e, const uint64_t *slots, const struct run *strings, const struct parts *p)
+{
+    return holds(e, slots, strings[0], p->name) && holds(e, slots, strings[1], p->type_name) &&
+           holds(e, slots, strings[2], p->comment);
 }
 
 static bool guid_back(const struct told *told, uint64_t has, struct bytes guid)
@@ -309,14 +337,11 @@ static void try_symbol_back(const struct draft *d)
           told.status == VINDASKOT_DONE && s[VINDASKOT_SYMBOL_LENGTH] == e.len && s[VINDASKOT_SYMBOL_UNREAD] == 0,
           "a written symbol is read with status %u", (unsigned)told.status);
     CHECK(ROUND_TRIPS,
-          numbers_back(s + VINDASKOT_SYMBOL_INDEX_GROUP, p->numbers, 4) && s[VINDASKOT_SYMBOL_FLAGS] == p->flags &&
+          numbers_back(s, symbol_numbers, p->numbers, 4) && s[VINDASKOT_SYMBOL_FLAGS] == p->flags &&
               s[VINDASKOT_SYMBOL_EXTENDED_FLAGS] == p->extended &&
-              s[VINDASKOT_SYMBOL_HAS_EXTENDED] == ((p->flags & 0x8000) != 0),
+              s[VINDASKOT_SYMBOL_HAS_EXTENDED] == ((p->flags & VINDASKOT_SYMBOL_FLAG_EXTENDED_FLAGS) != 0),
           "a symbol's numbers are read as others");
-    CHECK(ROUND_TRIPS,
-          holds(e, s, VINDASKOT_SYMBOL_NAME, p->name) && holds(e, s, VINDASKOT_SYMBOL_TYPE_NAME, p->type_name) &&
-              holds(e, s, VINDASKOT_SYMBOL_COMMENT, p->comment),
-          "a symbol's strings are read as others");
+    CHECK(ROUND_TRIPS, strings_back(e, s, symbol_strings, p), "a symbol's strings are read as others");
     CHECK(ROUND_TRIPS,
           guid_back(&told, s[VINDASKOT_SYMBOL_HAS_GUID], p->guid) && s[VINDASKOT_SYMBOL_ATTRIBUTE_COUNT] == p->count &&
               s[VINDASKOT_SYMBOL_REFACTOR_COUNT] == p->links,
@@ -329,21 +354,18 @@ static void try_field_back(const struct draft *d)
 {
     const struct parts *p = &d->parts;
     static const uint8_t zeros[16];
-    bool flagged = (p->flags & 0x80) != 0;
+    bool flagged = (p->flags & VINDASKOT_TYPE_FLAG_TYPE_GUID) != 0;
     struct bytes guid = {p->guid.len == 16 ? p->guid.at : zeros, flagged ? 16 : 0};
     struct bytes e = try_entry(p, call_field_write, model_field_write, put_field);
-    if ((p->flags & 0x800) != 0)
+    if ((p->flags & VINDASKOT_TYPE_FLAG_METHOD_INFOS) != 0)
         return;
     struct told told = call_field_read(e);
     const uint64_t *s = told.slots;
     CHECK(ROUND_TRIPS, told.status == VINDASKOT_DONE && s[VINDASKOT_FIELD_LENGTH] == e.len,
           "a written field is read with status %u", (unsigned)told.status);
-    CHECK(ROUND_TRIPS, numbers_back(s + VINDASKOT_FIELD_VERSION, p->numbers, 6) && s[VINDASKOT_FIELD_FLAGS] == p->flags,
+    CHECK(ROUND_TRIPS, numbers_back(s, field_numbers, p->numbers, 6) && s[VINDASKOT_FIELD_FLAGS] == p->flags,
           "a field's numbers are read as others");
-    CHECK(ROUND_TRIPS,
-          holds(e, s, VINDASKOT_FIELD_NAME, p->name) && holds(e, s, VINDASKOT_FIELD_TYPE_NAME, p->type_name) &&
-              holds(e, s, VINDASKOT_FIELD_COMMENT, p->comment),
-          "a field's strings are read as others");
+    CHECK(ROUND_TRIPS, strings_back(e, s, field_strings, p), "a field's strings are read as others");
     CHECK(ROUND_TRIPS,
           guid_back(&told, s[VINDASKOT_FIELD_HAS_GUID], guid) && s[VINDASKOT_FIELD_ATTRIBUTE_COUNT] == p->count,
           "a field's sections are read as others");
@@ -364,8 +386,8 @@ static void try_attribute_back(struct bytes name, struct bytes value)
     struct bytes e = lay(UPLOAD, (struct bytes){out.at, out.len});
     struct told told = call_attribute_read(e);
     CHECK(ROUND_TRIPS,
-          told.slots[VINDASKOT_ATTRIBUTE_NEXT] == e.len && holds(e, told.slots, VINDASKOT_ATTRIBUTE_NAME, name) &&
-              holds(e, told.slots, VINDASKOT_ATTRIBUTE_VALUE, value),
+          told.slots[VINDASKOT_ATTRIBUTE_NEXT] == e.len && holds(e, told.slots, attribute_name, name) &&
+              holds(e, told.slots, attribute_value, value),
           "an attribute is read as another");
 }
 
@@ -384,7 +406,7 @@ static void try_refactor_back(uint32_t count, bool has_next, struct bytes name)
     struct bytes e = lay(UPLOAD, (struct bytes){out.at, out.len});
     struct told told = call_refactor_read(e);
     CHECK(ROUND_TRIPS,
-          told.slots[VINDASKOT_REFACTOR_NEXT] == e.len && holds(e, told.slots, VINDASKOT_REFACTOR_NAME, name) &&
+          told.slots[VINDASKOT_REFACTOR_NEXT] == e.len && holds(e, told.slots, refactor_name, name) &&
               told.slots[VINDASKOT_REFACTOR_COUNT] == packed,
           "a refactor record is read as another");
 }

@@ -1,19 +1,28 @@
-//! Links libvindaskot.a, after a look whether it is there and made for the target.
+//! Links libvindaskot.a, after a look whether it is there, made for the target, and not older than what it is made of.
 
 use std::env;
 use std::fs;
 use std::path::{self, Path, PathBuf};
+use std::time::SystemTime;
 
 const ARCHIVE: &str = "libvindaskot.a";
 
 /// The processors that an archive can be made for: rustc's name and ELF's number.
 const MACHINES: [(&str, u16); 2] = [("x86_64", 62), ("aarch64", 183)];
 
+/// Where `rt staticlib` puts the archive, and what it is made of. Both paths count from this crate's folder, where cargo
+/// runs this program.
+const MADE: &str = "../../target/staticlib";
+const CRATES: &str = "../../crates";
+
 fn main() {
     println!("cargo::rerun-if-env-changed=VINDASKOT_LIB_DIR");
     println!("cargo::rerun-if-changed=build.rs");
-    let folder = folder();
+    let given = env::var_os("VINDASKOT_LIB_DIR").filter(|given| !given.is_empty());
+    let folder = whole(given.as_ref().map_or(MADE.into(), PathBuf::from));
     let archive = folder.join(ARCHIVE);
+    // An older file in the archive's place is no newer than this program's last run; that the folder has changed is.
+    println!("cargo::rerun-if-changed={}", folder.display());
     println!("cargo::rerun-if-changed={}", archive.display());
     match check(&archive) {
         Ok(()) => {
@@ -22,14 +31,42 @@ fn main() {
         }
         Err(why) => println!("cargo::error={why}"),
     }
+    // At its own place one command makes the archive anew, so an old one is an error there. One that was brought from
+    // elsewhere may keep another machine's time.
+    if let Some(why) = too_old(&archive) {
+        let severity = if given.is_some() { "warning" } else { "error" };
+        println!("cargo::{severity}={why}");
+    }
 }
 
-/// The archive's folder. A relative path counts from this crate's folder, where cargo runs this program.
-fn folder() -> PathBuf {
-    let given = env::var_os("VINDASKOT_LIB_DIR").filter(|given| !given.is_empty());
-    let folder = PathBuf::from(given.unwrap_or_else(|| "../../target/staticlib".into()));
+fn whole(folder: PathBuf) -> PathBuf {
     let whole = fs::canonicalize(&folder).or_else(|_| path::absolute(&folder));
     whole.unwrap_or(folder)
+}
+
+/// When a file or folder was last changed; of a folder, the latest of all that is in it.
+fn changed(path: &Path) -> Option<SystemTime> {
+    let inside = fs::read_dir(path).into_iter().flatten().flatten();
+    let latest = inside.filter_map(|entry| changed(&entry.path())).max();
+    latest.or_else(|| fs::metadata(path).ok()?.modified().ok())
+}
+
+/// Says so if the archive is older than a source of the crates. Where the crates are not beside it, nothing is known.
+fn too_old(archive: &Path) -> Option<String> {
+    let made = changed(archive)?;
+    let crates = fs::read_dir(CRATES).ok()?.flatten();
+    let sources = crates.map(|one| one.path().join("src"));
+    let sources = sources.filter(|source| source.is_dir());
+    let newer = sources.filter(|source| {
+        println!("cargo::rerun-if-changed={}", source.display());
+        changed(source).is_some_and(|changed| made < changed)
+    });
+    let newest = newer.max_by_key(|source| changed(source))?;
+    Some(format!(
+        "{} is older than {}: make it anew with `rt staticlib vindaskot` in the repository's root",
+        archive.display(),
+        newest.display(),
+    ))
 }
 
 fn check(archive: &Path) -> Result<(), String> {

@@ -65,5 +65,7 @@ pub fn decode_to_string(src: &[u8]) -> Result<String, Refusal> {
 /// UTF-8 as Windows-1252. Refusals: 5, 11.
 #[cfg(feature = "alloc")]
 pub fn encode_to_vec(src: impl AsRef<[u8]>) -> Result<Vec<u8>, Refusal> {
-    crate::told::filled(|out| encode_into(src.as_ref(), out))
+    // Asked once: what it gives need not be the same twice.
+    let src = src.as_ref();
+    crate::told::filled(|out| encode_into(src, out))
 }

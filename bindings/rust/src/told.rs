@@ -45,12 +45,13 @@ pub(crate) fn needed<T>(
     }
 }
 
-/// What a writer writes, in just the room that it needs.
+/// What a writer writes, and no more, in just the room that it needs.
 #[cfg(feature = "alloc")]
 pub(crate) fn filled<T: Copy + Default>(
     write: impl Fn(&mut [T]) -> Result<usize, Refusal>,
 ) -> Result<Vec<T>, Refusal> {
     let mut out = vec![T::default(); needed(&write)?];
-    write(&mut out)?;
+    let written = write(&mut out)?;
+    out.truncate(written);
     Ok(out)
 }

@@ -2,6 +2,8 @@
 
 mod common;
 
+use std::cell::Cell;
+
 use common::plain::{PlainField, PlainSymbol};
 use common::{Random, refusal, rig};
 use vindaskot::index::starts_to_vec;
@@ -51,6 +53,29 @@ fn texts() {
     assert_eq!(encode_to_vec("geprüft €"), Ok(b"gepr\xFCft \x80".to_vec()));
     assert_eq!(encode_to_vec(b"ab\xFF"), Err(refusal(11, 2, 1)));
     assert_eq!(encode_to_vec("ab\u{3A9}"), Err(refusal(11, 2, 2)));
+}
+
+/// What gives another text each time that it is asked.
+struct Changing<'a> {
+    asked: Cell<usize>,
+    texts: [&'a str; 2],
+}
+
+impl AsRef<[u8]> for Changing<'_> {
+    fn as_ref(&self) -> &[u8] {
+        let asked = self.asked.get();
+        self.asked.set(asked + 1);
+        self.texts[asked.min(1)].as_bytes()
+    }
+}
+
+#[test]
+fn a_text_that_changes_is_encoded_as_it_was_first() {
+    for texts in [["geprüft", "ab"], ["ab", "geprüft"]] {
+        let asked = Cell::new(0);
+        let first = encode_to_vec(texts[0]);
+        assert_eq!(encode_to_vec(Changing { asked, texts }), first);
+    }
 }
 
 #[test]

@@ -2,11 +2,12 @@
 
 mod common;
 
-use common::plain::PlainSymbol;
+use common::plain::{PlainField, PlainSymbol};
 use common::{Random, refusal, written};
 use vindaskot::{
     AdsAttribute, AdsFieldInfo, AdsRefactorInfo, AdsSymbol2Flags, AdsSymbolFlags, AdsSymbolInfo,
-    AdsTypeFlags, AttributeWriter, Block, FieldNumbers, FieldParts, RefactorWriter,
+    AdsTypeFlags, AttributeWriter, Block, FieldNumbers, FieldParts, IndexGroup, IndexOffset,
+    RefactorWriter,
 };
 
 #[test]
@@ -104,6 +105,32 @@ fn a_refactor_record_that_is_too_long_or_too_short_is_refused() {
     assert_eq!(short, Err(refusal(2, 16, 7)));
 }
 
+/// A list of `count` items tells at every step how many are left, and gives that many.
+fn assert_counted<T>(mut list: impl ExactSizeIterator<Item = T>, count: usize) {
+    for left in (1..=count).rev() {
+        assert_eq!(list.size_hint(), (left, Some(left)));
+        assert!(list.next().is_some());
+    }
+    assert_eq!(list.size_hint(), (0, Some(0)));
+    assert!(list.next().is_none());
+}
+
+#[test]
+fn lists_tell_how_many_are_left() {
+    let mut r = Random(14);
+    for _ in 0..200 {
+        let plain = PlainSymbol::random(&mut r);
+        let bytes = plain.bytes();
+        let info = AdsSymbolInfo::try_from_slice(&bytes).unwrap();
+        assert_counted(info.attributes(), plain.common.attributes.len());
+        assert_counted(info.refactor_infos(), plain.refactors.len());
+        let plain = PlainField::random(&mut r);
+        let bytes = plain.bytes();
+        let info = AdsFieldInfo::try_from_slice(&bytes).unwrap();
+        assert_counted(info.attributes(), plain.common.attributes.len());
+    }
+}
+
 #[test]
 fn numbers_that_are_not_there_are_refused() {
     let mut r = Random(7);
@@ -169,6 +196,14 @@ fn an_absent_list_has_no_records_wherever_its_place_is() {
     let info = AdsFieldInfo::try_from_slice(&field).unwrap();
     assert_eq!(info.attributes().next(), None);
     assert_eq!(info.attribute_block(), Block::default());
+}
+
+#[test]
+fn addresses_keep_their_numbers() {
+    for number in [0, 1, 0x4020, u32::MAX] {
+        assert_eq!(IndexGroup::new(number).as_u32(), number);
+        assert_eq!(IndexOffset::new(number).as_u32(), number);
+    }
 }
 
 #[test]

@@ -5,8 +5,8 @@ mod common;
 use common::plain::{PlainField, PlainSymbol};
 use common::{Random, refusal, rig};
 use vindaskot::{
-    AdsFieldInfoIterator, AdsSymbolInfo, AdsSymbolInfoIterator, Refusal, WalkEnd, Walked, field,
-    symbol, walk,
+    AdsFieldInfo, AdsFieldInfoIterator, AdsSymbolInfo, AdsSymbolInfoIterator, Refusal, WalkEnd,
+    Walked, field, symbol, walk,
 };
 
 /// Where the entries of an upload start, by their claims alone, and its end.
@@ -82,6 +82,23 @@ fn starts_are_those_of_the_claims() {
     let refused: Vec<_> = items.iter().filter(|(_, item)| item.is_err()).collect();
     assert_eq!(refused.len(), 1);
     assert_eq!(refused[0].0, bounds[1]);
+}
+
+#[test]
+fn starts_of_fields_are_those_of_the_claims() {
+    let mut r = Random(13);
+    let plain: Vec<_> = (0..12).map(|_| PlainField::random(&mut r)).collect();
+    let mut upload: Vec<u8> = plain.iter().flat_map(PlainField::write).collect();
+    let bounds = bounds(&upload);
+    upload[bounds[1] + 33] = 0xFF;
+    let items: Vec<_> = AdsFieldInfoIterator::new(&upload).with_starts().collect();
+    let starts: Vec<_> = items.iter().map(|(start, _)| *start).collect();
+    assert_eq!(starts, bounds[..bounds.len() - 1]);
+    for (i, (start, item)) in items.iter().enumerate() {
+        let read = AdsFieldInfo::try_from_slice(&upload[*start..]);
+        assert_eq!(item, &read);
+        assert_eq!(item.is_err(), i == 1);
+    }
 }
 
 #[test]

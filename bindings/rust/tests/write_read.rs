@@ -45,6 +45,7 @@ fn symbols_there_and_back() {
         assert_eq!(bytes, plain.bytes());
         let info = AdsSymbolInfo::try_from_slice(&bytes).unwrap();
         plain.assert_told_by(&info, 0);
+        assert_eq!(AdsSymbolInfo::try_from(&bytes[..]), Ok(info));
         assert_eq!(info.as_bytes(), bytes);
         assert_eq!(info.numbers(), plain.numbers);
         let parts = info.parts();
@@ -64,6 +65,7 @@ fn fields_there_and_back() {
         assert_eq!(bytes, plain.bytes());
         let info = AdsFieldInfo::try_from_slice(&bytes).unwrap();
         plain.assert_told_by(&info);
+        assert_eq!(AdsFieldInfo::try_from(&bytes[..]), Ok(info));
         assert_eq!(info.as_bytes(), bytes);
         assert_eq!(info.numbers(), plain.numbers);
         let parts = info.parts();
