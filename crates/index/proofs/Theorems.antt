@@ -12,12 +12,10 @@ use Rattle.le.specs.Le.{if_then_else_, le4, part}
 use Rattle.refusal.specs.Refusal.{limit}
 use Rattle.refusal.specs.Writing.{Bytes, Refuse, Writes}
 use Rattle.refusal.specs.declared.Refusal.{Refusal}
-use Rattle.refusal.specs.declared.Refusal.the-variants.{ZeroEntryLength}
 use Rattle.refusal.specs.declared.Written.the-variants.{Done, Refused}
 use Rattle.entry.specs.Entry.{claimed, claimAt}
 use Rattle.entry.specs.declared.Met.the-variants as met
-use Rattle.entry.specs.Walk.{stands, stepsFrom, steps, any, boundedFrom, walked}
-use Rattle.entry.specs.declared.WalkEnd.the-variants as walk-end
+use Rattle.entry.specs.Walk.{stands, stepsFrom, steps, any}
 use Rattle.symbol.specs.declared.AdsSymbolInfo.{AdsSymbolInfo}
 use Rattle.walk.specs.Walk.{symbolStep}
 use Rattle.walk.specs.declared.Step.{Step}
@@ -49,26 +47,6 @@ zero-claim s at h e =
 pub steps-enough : (s : List ℕ) (n : ℕ) → length s ≤ n → stepsFrom s 0 n ≡ steps s
 unfolding steps
 steps-enough s n h = same-steps s n (length s) 0 (omega arith) (omega arith)
-
--- its steps are those that the bounded walk counts
-counts : (s : List ℕ) (n at made : ℕ) → boundedFrom s at made n .steps ≡ made + length (stepsFrom s at n)
-unfolding boundedFrom stepsFrom
-counts s zero at made = end (leb (length s) at)
-  where
-    end : (t : Bool) → (if t then walked walk-end.Finished made at else walked walk-end.OutOfSteps made at) .steps ≡ made + 0
-    end true = omega arith
-    end false = omega arith
-counts s (suc n) at made = turn (counts s n (claimAt s at .next) (made + 1)) (leb (length s) at) (stands s at)
-  where
-    turn : boundedFrom s (claimAt s at .next) (made + 1) n .steps ≡ made + 1 + length (stepsFrom s (claimAt s at .next) n) → (p q : Bool) → (if p then walked walk-end.Finished made at else if q then walked (walk-end.Refused ZeroEntryLength) (made + 1) at else boundedFrom s (claimAt s at .next) (made + 1) n) .steps
-        ≡ made + length (if p then [] else at ∷ (if q then [] else stepsFrom s (claimAt s at .next) n))
-    turn h true q = omega arith
-    turn h false true = omega arith
-    turn h false false = omega arith
-
-pub steps-counted : (s : List ℕ) → length (steps s) ≡ boundedFrom s 0 0 (length s) .steps
-unfolding steps
-steps-counted s = omega (arith, counts s (length s) 0 0)
 
 -- how many of some places pass a test
 unfoldable pub number : (ℕ → Bool) → List ℕ → ℕ

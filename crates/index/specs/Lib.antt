@@ -2,3 +2,4 @@ pub mod Names
 pub mod Steps
 pub mod Index
 pub mod Inside
+pub mod Meaning

@@ -1,0 +1,37 @@
+-- What the index and finding mean: places in order, and names as a caller who asks the entry's own bytes is told them.
+use Prim.Native.Nat.{ℕ, suc, _-_, _≤_}
+use mathlib.Core.Path.{_≡_}
+use mathlib.Core.Bool.{Bool, true, false}
+use mathlib.Core.List.{List, [], _∷_, _++_}
+use Rattle.le.specs.Le.{if_then_else_, part}
+use Rattle.entry.specs.Entry.{claimAt}
+use Rattle.entry.specs.Walk.{steps, any}
+use Rattle.symbol.specs.Questions.{symbolName}
+use Rattle.index.specs.Names.{sameName}
+use Rattle.index.specs.Steps.{accepted}
+use Rattle.index.specs.Index.{starts, find}
+use Rattle.index.specs.declared.FindAnswer.the-variants.{Found}
+
+-- each place is above the one before it, and the first is at least so large
+pub data Ascends : ℕ → List ℕ → Type 0 where
+  done : {least : ℕ} → Ascends least []
+  next : {least at : ℕ} {more : List ℕ} → least ≤ at → Ascends (suc at) more → Ascends least (at ∷ more)
+
+-- the starts of an index ascend strictly, so no entry stands twice in it
+abbrev pub StartsAscend : Type 0
+StartsAscend = (s : List ℕ) → Ascends 0 (starts s)
+
+-- an entry begins at a place, the walk accepts it, and its bytes, asked for their name, tell the one that is looked for
+unfoldable pub named : List ℕ → List ℕ → ℕ → Bool
+named s name at = if accepted s at then sameName (symbolName (part s at (claimAt s at .next - at))) name else false
+
+-- what is found is a step of the walk, has the name, and no step before it has
+pub record Finds (s name : List ℕ) (at : ℕ) : Type 0 where
+  pub before : List ℕ
+  pub after : List ℕ
+  pub among : steps s ≡ before ++ (at ∷ after)
+  pub has : named s name at ≡ true
+  pub first : any (named s name) before ≡ false
+
+abbrev pub FoundIsFirst : Type 0
+FoundIsFirst = (s name : List ℕ) (at : ℕ) → find s name ≡ Found at → Finds s name at
