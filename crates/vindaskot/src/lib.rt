@@ -16,7 +16,7 @@ ghost use Rattle.attr.specs.Writing.{attributeWriting};
 ghost use Rattle.refactor.specs.Refactor.{refactorRead, chainRead, chainNth};
 ghost use Rattle.refactor.specs.Writing.{refactorWriting, blockWriting};
 ghost use Rattle.flags.specs.Flags.{symbolFlagsFrom, symbol2FlagsFrom, typeFlagsFrom};
-ghost use Rattle.entry.specs.Walk.{boundedFrom};
+ghost use Rattle.entry.specs.Walk.{boundedWalk};
 ghost use Rattle.symbol.specs.Symbol.{symbolRead};
 ghost use Rattle.symbol.specs.Questions.{symbolAttribute, symbolRefactor};
 ghost use Rattle.walk.specs.Walk as symbols;
@@ -148,9 +148,9 @@ pub extern "C" fn vindaskot_walk(
     steps: &mut usize,
     answer: &mut [u64; 2],
 ) -> u32
-    ensures { λ r. ⌜ Tells (endTold (boundedFrom (now (bytes .entry)) (now (cursor .entry)) 0 allowed .end)) r (now (answer .exit)) ⌝ }
-    ensures { λ _. ⌜ now (cursor .exit) ≡ boundedFrom (now (bytes .entry)) (now (cursor .entry)) 0 allowed .cursor ⌝ }
-    ensures { λ _. ⌜ now (steps .exit) ≡ boundedFrom (now (bytes .entry)) (now (cursor .entry)) 0 allowed .steps ⌝ }
+    ensures { λ r. ⌜ Tells (endTold (boundedWalk (now (bytes .entry)) (now (cursor .entry)) allowed .end)) r (now (answer .exit)) ⌝ }
+    ensures { λ _. ⌜ now (cursor .exit) ≡ boundedWalk (now (bytes .entry)) (now (cursor .entry)) allowed .cursor ⌝ }
+    ensures { λ _. ⌜ now (steps .exit) ≡ boundedWalk (now (bytes .entry)) (now (cursor .entry)) allowed .steps ⌝ }
 {
     let from = *cursor;
     told::walked(
