@@ -10,8 +10,8 @@ use lib.ListN.{length, take, drop, getD, length-append, drop-of-length-le}
 use lib.Seq.{drop-cons}
 use borrow.Author.Tests.{lt-ltb, le-ltb, eq-eqb, ne-eqb, ltb-true}
 use Rattle.le.specs.Le.{if_then_else_}
-use Rattle.le.proofs.Laws.{take-more}
-use Rattle.digits.specs.Text.{decimalBy, glyph, pairs, hex}
+use Rattle.le.proofs.Laws.{take-more, one-write}
+use Rattle.digits.specs.Text.{decimalBy, glyph, pairs, hex, Put}
 use Rattle.digits.specs.Frame.{valueOf, allDigits, spelt}
 
 decimal-step : (k n : ℕ) → 0 < k → decimalBy k n ≡ (if ltb n 10 then (48 + n) ∷ [] else decimalBy (k - 1) (n / 10) ++ ((48 + n % 10) ∷ []))
@@ -93,3 +93,7 @@ pub spelt-length : (line : List ℕ) (n : ℕ) → length (spelt line n) ≡ n
 unfolding spelt
 spelt-length line zero = refl
 spelt-length line (suc n) = simp length-append (omega (arith, spelt-length line n))
+
+-- two buffers, and two next places, that one promise allows are equal
+pub one-put : {most at next next' : ℕ} {old bs new new' : List ℕ} → Put most old at bs new next → Put most old at bs new' next' → (next ≡ next') × (new ≡ new')
+one-put p q = one-write (p .wrote) (q .wrote)

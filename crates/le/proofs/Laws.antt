@@ -103,6 +103,10 @@ put-three old at a b c h =
 pub same-bytes : {old new bs cs : List ℕ} {at next : ℕ} → bs ≡ cs → Wrote old at bs new next → Wrote old at cs new next
 same-bytes {old} {new} {bs} {cs} {at} {next} e w = subst (λ (x : List ℕ). Wrote old at x new next) e w
 
+-- two buffers, and two next places, that one promise allows are equal
+pub one-write : {old new new' bs : List ℕ} {at next next' : ℕ} → Wrote old at bs new next → Wrote old at bs new' next' → (next ≡ next') × (new ≡ new')
+one-write p q = (p .end ∙ sym (q .end), p .is ∙ sym (q .is))
+
 -- nothing written yet: where a loop begins
 pub wrote-none : {old : List ℕ} {at : ℕ} → at ≤ length old → Wrote old at [] old at
 wrote-none {old} {at} h = record { is = sym (put-none old at); end = omega arith; room = omega arith; long = refl }

@@ -71,3 +71,7 @@ module _ {s : List ℕ} {from held end : ℕ} {old : List ℕ} {r : Taken} (e : 
         said = p ∙ ap (λ (x : ℕ). hold s x next) e ∙ ap (hold s (endOf s from)) (w .end ∙ ap (λ (x : List ℕ). held + length x) k);
         left = w .is ∙ ap (put old held) k;
       }
+
+-- two answers, and two buffers, that one promise allows are equal
+pub one-taking : {s old new new' : List ℕ} {from held : ℕ} {r r' : Taken} → Takes s from held old new r → Takes s from held old new' r' → (r ≡ r') × (new ≡ new')
+one-taking p q = (p .said ∙ sym (q .said), p .left ∙ sym (q .left))

@@ -4,11 +4,11 @@ use native.Mathlib.Omega.{arith}
 use native.Mathlib.Numerals.{sub-one}
 use mathlib.Core.Path.{_≡_, refl, sym, ap, _∙_}
 use mathlib.Core.Bool.{Bool, true, false}
-use mathlib.Core.List.{List, [], _++_, append-assoc, append-nil}
+use mathlib.Core.List.{List, [], _∷_, _++_, append-assoc, append-nil}
 use lib.Dec.{leb, ltb, eqb}
 use lib.ListN.{length, drop}
 use lib.Seq.{take-at}
-use borrow.Author.Tests.{le-ltb, le-leb, lt-leb, eq-eqb, ne-eqb, ltb-false, eqb-false}
+use borrow.Author.Tests.{le-ltb, le-leb, lt-leb, eq-eqb, ne-eqb, ltb-true, ltb-false, leb-false, eqb-true, eqb-false}
 use Rattle.le.specs.Le.{if_then_else_, le4, part}
 use Rattle.le.specs.Put.{Wrote}
 use Rattle.le.proofs.Laws.{after, same-bytes, wrote-none}
@@ -29,7 +29,7 @@ use Rattle.walk.specs.declared.Step.the-variants as step
 use Rattle.walk.specs.Walk.{symbolStep, finished, stepOf, refused}
 use Rattle.digits.specs.Text.{Put}
 use Rattle.digits.specs.Frame.{allDigits, frameOf}
-use Rattle.digits.proofs.Laws.{spelt-length}
+use Rattle.digits.proofs.Laws.{spelt-length, one-put}
 use Rattle.listing.specs.Listing.{byStep, stepText, stepNext, walkText, textOf, frameText, ListsLine}
 use Rattle.rows.specs.Rows.{refusalLine, entryLine}
 
@@ -84,12 +84,22 @@ module _ (number : ℕ) (s : List ℕ) (at : ℕ) (x : Stepped) (e : x ≡ symbo
   unfolding stepText stepNext
   moves p = (simp (← e, ne-eqb _ _ p), simp (← e, ne-eqb _ _ p))
 
--- the loop over a frame: so much text is written, the rest of the text is left, and there is room for it
-pub record Begun (number : ℕ) (s old new : List ℕ) (at said left : ℕ) : Type 0 where
+-- steps beyond a frame's bytes print nothing more
+enough-by : (b : Bool) (x y z : List ℕ) → (b ≡ false → y ≡ z) → (if b then [] else x ++ y) ≡ (if b then [] else x ++ z)
+enough-by true x y z e = refl
+enough-by false x y z e = ap (λ (l : List ℕ). x ++ l) (e refl)
+
+pub enough : (number : ℕ) (s : List ℕ) (at left : ℕ) → length s - at ≤ left → walkText number s at (suc left) ≡ walkText number s at left
+unfolding walkText
+enough number s at zero h = let p : length s ≤ at = omega arith in simp (le-leb _ _ p)
+enough number s at (suc left) h = enough-by (leb (length s) at) (stepText number s at) _ _ (λ e. let i = next-inside s at (leb-false (length s) at e) in enough number s (stepNext s at) left (omega (arith, i .0, leb-false (length s) at e)))
+
+-- the loop over a frame: so much text is written, the rest of the text is left, and no more than 239 bytes for each byte
+pub record Begun (number : ℕ) (s old : List ℕ) (start : ℕ) (new : List ℕ) (at said left : ℕ) : Type 0 where
   pub done : List ℕ
-  pub wrote : Wrote old 0 done new said
+  pub wrote : Wrote old start done new said
   pub rest : done ++ walkText number s at left ≡ walkText number s 0 (length s)
-  pub room : said + (length s - at) * 239 ≤ length old
+  pub low : said + (length s - at) * 239 ≤ start + length s * 239
 
 walk-step : (number : ℕ) (s : List ℕ) (at left : ℕ) → 0 < left → walkText number s at left ≡ (if leb (length s) at then [] else stepText number s at ++ walkText number s (stepNext s at) (left - 1))
 unfolding walkText
@@ -101,22 +111,25 @@ unfolding walkText
 walk-none number s at zero h = refl
 walk-none number s at (suc n) h = absurd (omega arith)
 
-module _ {number : ℕ} {s old : List ℕ} where
-  pub begin : length s * 239 ≤ length old → Begun number s old old 0 0 (length s)
-  begin h = record { done = []; wrote = wrote-none (omega arith); rest = refl; room = omega arith }
+module _ {number : ℕ} {s old : List ℕ} {start : ℕ} where
+  pub begin : start + length s * 239 ≤ length old → Begun number s old start old 0 start (length s)
+  begin h = record { done = []; wrote = wrote-none (omega arith); rest = refl; low = omega arith }
 
-  module _ {new : List ℕ} {at said left : ℕ} (b : Begun number s old new at said left) where
-    ended : walkText number s at left ≡ [] → Wrote old 0 (walkText number s 0 (length s)) new said
-    ended e = same-bytes (sym (append-nil (b .done)) ∙ ap (λ (x : List ℕ). b .done ++ x) (sym e) ∙ b .rest) (b .wrote)
+  module _ {new : List ℕ} {at said left : ℕ} (b : Begun number s old start new at said left) where
+    ended : walkText number s at left ≡ [] → Put (length s * 239) old start (walkText number s 0 (length s)) new said
+    ended e = record {
+      wrote = same-bytes (sym (append-nil (b .done)) ∙ ap (λ (x : List ℕ). b .done ++ x) (sym e) ∙ b .rest) (b .wrote);
+      low = omega (arith, b .low);
+    }
 
-    pub stop-end : 0 < left → length s ≤ at → Wrote old 0 (walkText number s 0 (length s)) new said
+    pub stop-end : 0 < left → length s ≤ at → Put (length s * 239) old start (walkText number s 0 (length s)) new said
     stop-end h p = ended (walk-step number s at left h ∙ simp (le-leb _ _ p))
 
-    pub stop-left : left ≤ 0 → Wrote old 0 (walkText number s 0 (length s)) new said
+    pub stop-left : left ≤ 0 → Put (length s * 239) old start (walkText number s 0 (length s)) new said
     stop-left h = ended (walk-none number s at left h)
 
     pub go-on : {new' : List ℕ} {next said' : ℕ} → 0 < left → at < length s
-        → Put ((stepNext s at - at) * 239) new said (stepText number s at) new' said' → next ≡ stepNext s at → Begun number s old new' next said' (left - 1)
+        → Put ((stepNext s at - at) * 239) new said (stepText number s at) new' said' → next ≡ stepNext s at → Begun number s old start new' next said' (left - 1)
     go-on {new'} {next} {said'} h p w e =
         let i : (at < stepNext s at) × (stepNext s at ≤ length s) = next-inside s at p in
         let r : walkText number s at left ≡ stepText number s at ++ walkText number s next (left - 1) =
@@ -125,7 +138,7 @@ module _ {number : ℕ} {s old : List ℕ} where
           done = b .done ++ stepText number s at;
           wrote = after (b .wrote) (w .wrote);
           rest = append-assoc (b .done) (stepText number s at) (walkText number s next (left - 1)) ∙ ap (λ (x : List ℕ). b .done ++ x) (sym r) ∙ b .rest;
-          room = omega (arith, w .low, b .room);
+          low = omega (arith, w .low, b .low);
         }
 
 -- what a line spells, as the walk finds it in the buffer
@@ -140,42 +153,74 @@ text-done : (number : ℕ) (w : Writing) (old new : List ℕ) (n : ℕ) → Writ
 text-done number (Bytes bs) old new n w = simp (said-done number (ltb (length old) (length bs)) bs old new n refl (w .said) (w .left))
 text-done number (Refuse why) old new n w = let e : Done n ≡ Refused why = w .said in let z : _≡_ {A = ℕ} 0 1 = cc in absurd (omega arith)
 
--- a frame has room in 16,384 bytes, so that a refusal is the line's own
-abbrev Short : Writing → Type 0
-Short (Bytes bs) = length bs ≤ 16384
-Short (Refuse why) = Unit {0}
+-- a frame has room in 16,384 bytes, so that a refusal is the line's own; each of its bytes is two characters, and a line that is refused has one
+abbrev Short : ℕ → Writing → Type 0
+Short n (Bytes bs) = (length bs ≤ 16384) × (length bs * 2 ≤ n)
+Short n (Refuse why) = 0 < n
 
-frame-short : (line : List ℕ) → Short (frameOf line)
+no-digits : (line : List ℕ) → allDigits line ≡ false → 0 < length line
+unfolding allDigits
+no-digits [] e = absurd (let z : _≡_ {A = ℕ} 0 1 = cc in omega arith)
+no-digits (c ∷ line) e = omega arith
+
+frame-short : (line : List ℕ) → Short (length line) (frameOf line)
 unfolding frameOf
 frame-short line =
-    within Short (ltb 32768 (length line)) _ _ (λ e. tt)
-    (λ e. within Short (eqb (length line % 2) 1) _ _ (λ o. tt)
-    (λ o. within Short (allDigits line) _ _ (λ d. omega (arith, ltb-false 32768 (length line) e, spelt-length line (length line / 2))) (λ d. tt)))
+    let P : Writing → Type 0 = Short (length line) in
+    within P (ltb 32768 (length line)) _ _ (λ e. omega (arith, ltb-true 32768 (length line) e))
+    (λ e. within P (eqb (length line % 2) 1) _ _ (λ o. omega (arith, eqb-true (length line % 2) 1 o))
+    (λ o. within P (allDigits line) _ _
+    (λ d. let k = spelt-length line (length line / 2) in (omega (arith, ltb-false 32768 (length line) e), omega arith))
+    (λ d. no-digits line d)))
 
-said-refused : (number : ℕ) (w : Writing) (old new : List ℕ) (why : Refusal) → Short w → length old ≡ 16384 → Writes w old new (Refused why) → refusalLine number 0 why ≡ textOf number w
-said-refused number (Bytes bs) old new why s l w =
+said-short : (w : Writing) (k : ℕ) (old new : List ℕ) (n : ℕ) → Short k w → length old ≡ 16384 → Writes w old new (Done n) → n * 2 ≤ k
+said-short (Bytes bs) k old new n s l w =
+    let t : ltb (length old) (length bs) ≡ false = le-ltb (length old) (length bs) (omega arith) in
+    let e : Done n ≡ Done (length bs) = simp t at (w .said) in
+    let i : n ≡ length bs = cc in
+    omega arith
+said-short (Refuse why) k old new n s l w = let e : Done n ≡ Refused why = w .said in let z : _≡_ {A = ℕ} 0 1 = cc in absurd (omega arith)
+
+said-refused : (number : ℕ) (w : Writing) (k : ℕ) (old new : List ℕ) (why : Refusal) → Short k w → length old ≡ 16384 → Writes w old new (Refused why)
+    → (refusalLine number 0 why ≡ textOf number w) × (0 < k)
+said-refused number (Bytes bs) k old new why s l w =
     let t : ltb (length old) (length bs) ≡ false = le-ltb (length old) (length bs) (omega arith) in
     let e : Refused why ≡ Done (length bs) = simp t at (w .said) in
     let z : _≡_ {A = ℕ} 0 1 = cc in absurd (omega arith)
-said-refused number (Refuse why') old new why s l w =
+said-refused number (Refuse why') k old new why s l w =
     let e : Refused why ≡ Refused why' = w .said in
-    let k : why ≡ why' = cc in
-    ap (refusalLine number 0) k
+    let i : why ≡ why' = cc in
+    (ap (refusalLine number 0) i, s)
 
-module _ {number : ℕ} {line oldFrame newFrame old new : List ℕ} {said : ℕ} {r : Written} (w : Writes (frameOf line) oldFrame newFrame r) where
-  pub lists-done : {src : List ℕ} {n : ℕ} → r ≡ Done n → src ≡ part newFrame 0 n → Wrote old 0 (walkText number src 0 (length src)) new said
-      → ListsLine number line oldFrame newFrame old new said
-  unfolding frameText
-  lists-done {src} {n} e p d =
-      let u : Writes (frameOf line) oldFrame newFrame (Done n) = rw e at w in
-      record {
-        text = same-bytes (ap (λ (x : List ℕ). walkText number x 0 (length x)) p ∙ text-done number (frameOf line) oldFrame newFrame n u) d;
-        frame = w .left;
-      }
+module _ (line : List ℕ) {oldFrame newFrame : List ℕ} {r : Written} (w : Writes (frameOf line) oldFrame newFrame r) (l : length oldFrame ≡ 16384) where
+  pub spells : {n : ℕ} → r ≡ Done n → n * 2 ≤ length line
+  spells {n} e = said-short (frameOf line) (length line) oldFrame newFrame n (frame-short line) l (rw e at w)
 
-  pub lists-refused : {why : Refusal} → length oldFrame ≡ 16384 → r ≡ Refused why → Wrote old 0 (refusalLine number 0 why) new said
-      → ListsLine number line oldFrame newFrame old new said
-  unfolding frameText
-  lists-refused {why} l e d =
-      let u : Writes (frameOf line) oldFrame newFrame (Refused why) = rw e at w in
-      record { text = same-bytes (said-refused number (frameOf line) oldFrame newFrame why (frame-short line) l u) d; frame = w .left }
+  refused-by : (number : ℕ) {why : Refusal} → r ≡ Refused why → (refusalLine number 0 why ≡ textOf number (frameOf line)) × (0 < length line)
+  refused-by number {why} e = said-refused number (frameOf line) (length line) oldFrame newFrame why (frame-short line) l (rw e at w)
+
+  pub not-empty : {why : Refusal} → r ≡ Refused why → 0 < length line
+  not-empty e = refused-by 0 e .1
+
+  module _ {number : ℕ} {old new : List ℕ} {at said : ℕ} where
+    pub lists-done : {src : List ℕ} {n : ℕ} → r ≡ Done n → src ≡ part newFrame 0 n → length src ≤ n → Put (length src * 239) old at (walkText number src 0 (length src)) new said
+        → ListsLine number line oldFrame newFrame old at new said
+    unfolding frameText
+    lists-done {src} {n} e p k d =
+        let u : Writes (frameOf line) oldFrame newFrame (Done n) = rw e at w in
+        record {
+          text = record {
+            wrote = same-bytes (ap (λ (x : List ℕ). walkText number x 0 (length x)) p ∙ text-done number (frameOf line) oldFrame newFrame n u) (d .wrote);
+            low = omega (arith, spells e, d .low);
+          };
+          frame = w .left;
+        }
+
+    pub lists-refused : {why : Refusal} → r ≡ Refused why → Put 113 old at (refusalLine number 0 why) new said → ListsLine number line oldFrame newFrame old at new said
+    unfolding frameText
+    lists-refused {why} e d = record { text = record { wrote = same-bytes (refused-by number e .0) (d .wrote); low = omega (arith, not-empty e, d .low) }; frame = w .left }
+
+-- two answers, and two buffers, that one promise allows are equal
+pub one-line : {number : ℕ} {line oldFrame f f' old : List ℕ} {at : ℕ} {new new' : List ℕ} {r r' : ℕ}
+    → ListsLine number line oldFrame f old at new r → ListsLine number line oldFrame f' old at new' r' → (r ≡ r') × ((new ≡ new') × (f ≡ f'))
+one-line p q = let t = one-put (p .text) (q .text) in (t .0, (t .1, p .frame ∙ sym (q .frame)))

@@ -1,15 +1,15 @@
 -- 01, "Listing": the text that `list` prints.
-use Prim.Native.Nat.{ℕ, zero, suc, _+_, _-_}
+use Prim.Native.Nat.{ℕ, zero, suc, _+_, _-_, _*_, _/_}
 use mathlib.Core.Path.{_≡_}
 use mathlib.Core.List.{List, [], _∷_, _++_}
 use lib.Dec.{leb, eqb}
 use lib.ListN.{length}
 use Rattle.le.specs.Le.{if_then_else_, part}
-use Rattle.le.specs.Put.{Wrote}
 use Rattle.refusal.specs.declared.Refusal.{Refusal}
 use Rattle.refusal.specs.declared.Refusal.the-variants.{ZeroEntryLength}
 use Rattle.refusal.specs.Writing.{Writing, Bytes, Refuse, leaves}
 use Rattle.digits.specs.Frame.{frameOf}
+use Rattle.digits.specs.Text.{Put}
 use Rattle.lines.specs.Lines.{lineFeed}
 use Rattle.rows.specs.Rows.{refusalLine, entryLine}
 use Rattle.symbol.specs.declared.AdsSymbolInfo.{AdsSymbolInfo}
@@ -77,7 +77,7 @@ inputText number line (c ∷ s) =
 unfoldable pub listing : List ℕ → List ℕ
 listing s = header ++ inputText 1 [] s
 
--- the promise of the listing of a line: its text from place 0 of one buffer, the frame that it spells in the other
-pub record ListsLine (number : ℕ) (line oldFrame newFrame old new : List ℕ) (r : ℕ) : Type 0 where
-  pub text : Wrote old 0 (frameText number line) new r
+-- the promise of the listing of a line: its text from a place of one buffer on, at most 239 bytes for two characters, and the frame that it spells in the other
+pub record ListsLine (number : ℕ) (line oldFrame newFrame old : List ℕ) (at : ℕ) (new : List ℕ) (r : ℕ) : Type 0 where
+  pub text : Put (length line * 239 / 2) old at (frameText number line) new r
   pub frame : newFrame ≡ leaves (frameOf line) oldFrame

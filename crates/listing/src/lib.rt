@@ -4,17 +4,14 @@ use refusal::Written;
 use walk::Cursor;
 use walk::Step;
 ghost use mathlib.Core.Path.{_≡_};
-ghost use Prim.Native.Nat.{_+_, _-_, _*_, _≤_, _<_};
+ghost use Prim.Native.Nat.{_+_, _-_, _*_, _/_, _≤_, _<_};
 ghost use lib.ListN.{length};
-ghost use Rattle.le.specs.Put.{Wrote};
 ghost use Rattle.refusal.specs.Writing.{Writes, Bytes};
 ghost use Rattle.digits.specs.Text.{Put};
 ghost use Rattle.listing.specs.Listing.{header, stepText, stepNext, walkText, ListsLine};
 
-// Bytes of a frame, and of the longest text of one: no step prints more than 239 bytes for each byte that it moves.
+// Bytes of a frame.
 pub const FRAME: usize = 16384;
-
-pub const TEXT: usize = 3915776;
 
 // Where the text of a step ends, and the place of the frame where the next step begins.
 struct Listed {
@@ -69,13 +66,14 @@ fn put_step(out: &mut [u8], said: usize, number: usize, frame: &[u8], at: usize)
     }
 }
 
-// The text of a frame. Every step moves, so there are no more steps than bytes.
-fn put_frame(out: &mut [u8], number: usize, frame: &[u8]) -> usize
-    requires { ⌜ length (now frame) * 239 ≤ length (now out) ⌝ }
-    ensures { λ r. ⌜ Wrote (now (out .entry)) 0 (walkText number (now (frame .entry)) 0 (length (now (frame .entry)))) (now (out .exit)) r ⌝ }
+// The text of a frame, of which no step prints more than 239 bytes for each byte that it moves. Every step moves, so there are no more steps than
+// bytes.
+fn put_frame(out: &mut [u8], start: usize, number: usize, frame: &[u8]) -> usize
+    requires { ⌜ start + length (now frame) * 239 ≤ length (now out) ⌝ }
+    ensures { λ r. ⌜ Put (length (now (frame .entry)) * 239) (now (out .entry)) start (walkText number (now (frame .entry)) 0 (length (now (frame .entry)))) (now (out .exit)) r ⌝ }
 {
     let mut at = 0;
-    let mut said = 0;
+    let mut said = start;
     let mut left = frame.len();
     while 0 < left {
         left = left - 1;
@@ -89,12 +87,19 @@ fn put_frame(out: &mut [u8], number: usize, frame: &[u8]) -> usize
     said
 }
 
-// The text of a line of input.
-pub fn list_line(line: &[u8], number: usize, frame: &mut [u8; FRAME], out: &mut [u8; TEXT]) -> usize
-    ensures { λ r. ⌜ ListsLine number (now (line .entry)) (now (frame .entry)) (now (frame .exit)) (now (out .entry)) (now (out .exit)) r ⌝ }
+// The text of a line of input, at a place: a byte of a frame is two characters, and a line that is refused has at least one.
+pub fn list_line(
+    line: &[u8],
+    number: usize,
+    frame: &mut [u8; FRAME],
+    out: &mut [u8],
+    said: usize,
+) -> usize
+    requires { ⌜ said + length (now line) * 239 / 2 ≤ length (now out) ⌝ }
+    ensures { λ r. ⌜ ListsLine number (now (line .entry)) (now (frame .entry)) (now (frame .exit)) (now (out .entry)) said (now (out .exit)) r ⌝ }
 {
     match digits::read_frame(line, frame) {
-        Written::Done(n) => put_frame(out, number, le::part_of(frame, 0, n)),
-        Written::Refused(why) => rows::put_refusal(out, 0, number, 0, why),
+        Written::Done(n) => put_frame(out, said, number, le::part_of(frame, 0, n)),
+        Written::Refused(why) => rows::put_refusal(out, said, number, 0, why),
     }
 }

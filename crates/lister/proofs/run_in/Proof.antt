@@ -1,12 +1,14 @@
+use native.Mathlib.Omega.{arith}
+use Rattle.lines.proofs.Laws.{short-of}
 use borrow.Author.Needs.{needs}
 use Rattle.lister.proofs.run_in.Statement.{statement}
 use Rattle.lister.proofs.run_in.Tie as tie
 
 abbrev Inv-loop : tie.InvT-loop
-Inv-loop buf₀ line₀ frame₀ out₀ place₀ turns₀ buf line frame out place turns = Unit {0}
+Inv-loop buf₀ line₀ frame₀ out₀ at₀ turns₀ buf line frame out at turns = Unit {0}
 
 abbrev μ-loop : tie.MeasureT-loop
-μ-loop buf₀ line₀ frame₀ out₀ place₀ turns₀ buf line frame out place turns = turns
+μ-loop buf₀ line₀ frame₀ out₀ at₀ turns₀ buf line frame out at turns = turns
 
 write-header-requires : tie.Need-write-header-requires Inv-loop μ-loop
 write-header-requires c κs = search needs
@@ -29,8 +31,11 @@ sub-turns c = search needs
 read-full-requires : tie.Need-read-full-requires Inv-loop μ-loop
 read-full-requires c κs = search needs
 
-say-line-requires : tie.Need-say-line-requires Inv-loop μ-loop
-say-line-requires c κs = search needs
+list-rest-requires : tie.Need-list-rest-requires Inv-loop μ-loop
+list-rest-requires c κs = omega arith
+
+say-requires-2 : tie.Need-say-requires-2 Inv-loop μ-loop
+say-requires-2 c κs = search needs
 
 returns : tie.Need-returns Inv-loop μ-loop
 returns c = search needs
@@ -38,8 +43,11 @@ returns c = search needs
 part-of-requires : tie.Need-part-of-requires Inv-loop μ-loop
 part-of-requires c κs = search needs
 
-say-part-requires : tie.Need-say-part-requires Inv-loop μ-loop
-say-part-requires c κs = search needs
+list-part-requires : tie.Need-list-part-requires Inv-loop μ-loop
+list-part-requires c κs = omega (arith, short-of _ _ _ _ (c .before .before .before .part-of .ensures))
+
+say-requires-3 : tie.Need-say-requires-3 Inv-loop μ-loop
+say-requires-3 c κs = search needs
 
 loop-less : tie.Need-loop-less Inv-loop μ-loop
 loop-less c = search needs
@@ -63,10 +71,12 @@ run-in-spec =
     loop-holds
     sub-turns
     read-full-requires
-    say-line-requires
+    list-rest-requires
+    say-requires-2
     returns
     part-of-requires
-    say-part-requires
+    list-part-requires
+    say-requires-3
     loop-less
     loop-again
     returns-2)

@@ -5,10 +5,10 @@ use Rattle.listing.proofs.put_frame.Statement.{statement}
 use Rattle.listing.proofs.put_frame.Tie as tie
 
 abbrev Inv-loop : tie.InvT-loop
-Inv-loop out₀ number frame at₀ said₀ left₀ out at said left = Begun number frame out₀ out at said left
+Inv-loop out₀ start number frame at₀ said₀ left₀ out at said left = Begun number frame out₀ start out at said left
 
 abbrev μ-loop : tie.MeasureT-loop
-μ-loop out₀ number frame at₀ said₀ left₀ out at said left = left
+μ-loop out₀ start number frame at₀ said₀ left₀ out at said left = left
 
 loop-holds : tie.Need-loop-holds Inv-loop μ-loop
 loop-holds c = begin (omega arith)
@@ -23,7 +23,7 @@ returns : tie.Need-returns Inv-loop μ-loop
 returns c = stop-end (c .before .before .loop .inv) (c .before .loop-test .taken) (c .if1 .taken)
 
 put-step-requires : tie.Need-put-step-requires Inv-loop μ-loop
-put-step-requires c κs = (c .before .if1 .left, omega (arith, c .before .before .before .loop .inv .room, c .before .before .before .loop .inv .wrote .long))
+put-step-requires c κs = (c .before .if1 .left, omega (arith, c .before .before .before .loop .inv .low, c .before .before .before .loop .inv .wrote .long))
 
 loop-less : tie.Need-loop-less Inv-loop μ-loop
 loop-less c = search needs
