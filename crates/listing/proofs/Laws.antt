@@ -6,31 +6,30 @@ use mathlib.Core.Path.{_≡_, refl, sym, ap, _∙_}
 use mathlib.Core.Bool.{Bool, true, false}
 use mathlib.Core.List.{List, [], _∷_, _++_, append-assoc, append-nil}
 use lib.Dec.{leb, ltb, eqb}
-use lib.ListN.{length, drop}
-use lib.Seq.{take-at}
-use borrow.Author.Tests.{le-ltb, le-leb, lt-leb, eq-eqb, ne-eqb, ltb-true, ltb-false, leb-false, eqb-true, eqb-false}
+use lib.ListN.{length}
+use borrow.Author.Tests.{le-ltb, le-leb, lt-leb, eq-eqb, ne-eqb, ltb-true, ltb-false, eqb-true, eqb-false}
 use Rattle.le.specs.Le.{if_then_else_, le4, part}
 use Rattle.le.specs.Put.{Wrote}
 use Rattle.le.proofs.Laws.{after, same-bytes, wrote-none}
 use Rattle.refusal.specs.Refusal.{limit}
 use Rattle.refusal.specs.declared.Refusal.{Refusal}
-use Rattle.refusal.specs.declared.Refusal.the-variants.{OutputTooSmall, ZeroEntryLength}
+use Rattle.refusal.specs.declared.Refusal.the-variants.{ZeroEntryLength}
 use Rattle.refusal.specs.declared.Written.{Written}
 use Rattle.refusal.specs.declared.Written.the-variants.{Done, Refused}
 use Rattle.refusal.specs.Writing.{Writing, Bytes, Refuse, Writes}
-use Rattle.entry.specs.declared.Met.{Met}
-use Rattle.entry.specs.declared.Met.the-variants as met
+use Rattle.refusal.proofs.DoneBy.{done-by}
 use Rattle.entry.specs.declared.Claimed.{Claimed}
-use Rattle.entry.specs.Entry.{claimAt, byMet}
-use Rattle.symbol.specs.declared.SymbolRead.{SymbolRead}
-use Rattle.symbol.specs.Symbol.{symbolEntry}
+use Rattle.entry.specs.Entry.{claimAt}
+use Rattle.entry.specs.Walk.{stands, stepsFrom, steps}
+use Rattle.entry.proofs.Demand3 as walking
 use Rattle.walk.specs.declared.Stepped.{Stepped}
 use Rattle.walk.specs.declared.Step.the-variants as step
-use Rattle.walk.specs.Walk.{symbolStep, finished, stepOf, refused}
+use Rattle.walk.specs.Walk.{byStep, symbolStep}
+use Rattle.walk.proofs.Kind.{kind}
 use Rattle.digits.specs.Text.{Put}
 use Rattle.digits.specs.Frame.{allDigits, frameOf}
 use Rattle.digits.proofs.Laws.{spelt-length, one-put}
-use Rattle.listing.specs.Listing.{byStep, stepText, stepNext, walkText, textOf, frameText, ListsLine}
+use Rattle.listing.specs.Listing.{stepText, stepsText, textOf, frameText, ListsLine, stepNext, walkText}
 use Rattle.rows.specs.Rows.{refusalLine, entryLine}
 
 -- a step inside a frame moves on and stays in it
@@ -51,14 +50,8 @@ claim-inside s at h =
     (λ e. within P (ltb (length s - at) (le4 s at)) _ _ (λ e. (omega arith, omega arith))
     (λ e. (omega arith, omega (arith, ltb-false (length s - at) (le4 s at) e))))))
 
-met-cursor : (m : Met) (f : ℕ → SymbolRead) (next : ℕ) → byMet m (finished next) (λ size. stepOf (f size) next) (λ why. refused why next) .cursor .at ≡ next
-met-cursor met.Finished f next = refl
-met-cursor (met.Entry size) f next = refl
-met-cursor (met.Refused why) f next = refl
-
 step-claim : (s : List ℕ) (at : ℕ) → symbolStep s at .cursor .at ≡ claimAt s at .next
-unfolding symbolStep
-step-claim s at = met-cursor (claimAt s at .met) (λ size. symbolEntry (part s at size)) (claimAt s at .next)
+step-claim s at = walking.moves kind s at
 
 pub step-inside : (s : List ℕ) (at : ℕ) → at < length s → Inside s at (symbolStep s at .cursor .at)
 step-inside s at h = rw step-claim (claim-inside s at h)
@@ -83,16 +76,6 @@ module _ (number : ℕ) (s : List ℕ) (at : ℕ) (x : Stepped) (e : x ≡ symbo
       → (byStep (x .step) [] (λ r. entryLine number at r (part s at (x .cursor .at - at))) (refusalLine number at) ≡ stepText number s at) × (x .cursor .at ≡ stepNext s at)
   unfolding stepText stepNext
   moves p = (simp (← e, ne-eqb _ _ p), simp (← e, ne-eqb _ _ p))
-
--- steps beyond a frame's bytes print nothing more
-enough-by : (b : Bool) (x y z : List ℕ) → (b ≡ false → y ≡ z) → (if b then [] else x ++ y) ≡ (if b then [] else x ++ z)
-enough-by true x y z e = refl
-enough-by false x y z e = ap (λ (l : List ℕ). x ++ l) (e refl)
-
-pub enough : (number : ℕ) (s : List ℕ) (at left : ℕ) → length s - at ≤ left → walkText number s at (suc left) ≡ walkText number s at left
-unfolding walkText
-enough number s at zero h = let p : length s ≤ at = omega arith in simp (le-leb _ _ p)
-enough number s at (suc left) h = enough-by (leb (length s) at) (stepText number s at) _ _ (λ e. let i = next-inside s at (leb-false (length s) at e) in enough number s (stepNext s at) left (omega (arith, i .0, leb-false (length s) at e)))
 
 -- the loop over a frame: so much text is written, the rest of the text is left, and no more than 239 bytes for each byte
 pub record Begun (number : ℕ) (s old : List ℕ) (start : ℕ) (new : List ℕ) (at said left : ℕ) : Type 0 where
@@ -142,16 +125,29 @@ module _ {number : ℕ} {s old : List ℕ} {start : ℕ} where
         }
 
 -- what a line spells, as the walk finds it in the buffer
-said-done : (number : ℕ) (b : Bool) (bs old new : List ℕ) (n : ℕ) → ltb (length old) (length bs) ≡ b
-    → Done n ≡ (if b then Refused (OutputTooSmall (length bs) (length old)) else Done (length bs))
-    → new ≡ (if b then old else bs ++ drop (length bs) old) → part new 0 n ≡ bs
-unfolding part
-said-done number true bs old new n e p q = let z : _≡_ {A = ℕ} 0 1 = cc in absurd (omega arith)
-said-done number false bs old new n e p q = let k : n ≡ length bs = cc in simp (q, k) (take-at bs (drop (length bs) old) (length bs) refl)
+-- the turns of the loop are the steps of the walk
+walk-steps : (number : ℕ) (s : List ℕ) (at left : ℕ) → walkText number s at left ≡ stepsText number s (stepsFrom s at left)
+unfolding walkText stepsText stepsFrom stepNext
+walk-steps number s at zero = refl
+walk-steps number s at (suc left) = turn (walk-steps number s (claimAt s at .next) left) (ended left) (leb (length s) at) (stands s at) refl
+  where
+    ended : (n : ℕ) → walkText number s (length s) n ≡ []
+    ended zero = refl
+    ended (suc n) = simp (le-leb (length s) (length s) (omega arith))
 
+    turn : walkText number s (claimAt s at .next) left ≡ stepsText number s (stepsFrom s (claimAt s at .next) left) → walkText number s (length s) left ≡ [] → (end stand : Bool) → stands s at ≡ stand
+        → (if end then [] else stepText number s at ++ walkText number s (stepNext s at) left) ≡ stepsText number s (if end then [] else at ∷ (if stand then [] else stepsFrom s (claimAt s at .next) left))
+    turn on off true stand e = refl
+    turn on off false stand e = ap (λ (l : List ℕ). stepText number s at ++ l) (go stand e)
+      where
+        go : (stand : Bool) → stands s at ≡ stand → walkText number s (stepNext s at) left ≡ stepsText number s (if stand then [] else stepsFrom s (claimAt s at .next) left)
+        go true e = simp (step-claim s at, e, off)
+        go false e = simp (step-claim s at, e, on)
+
+-- a frame that was read prints the text of its steps
 text-done : (number : ℕ) (w : Writing) (old new : List ℕ) (n : ℕ) → Writes w old new (Done n) → walkText number (part new 0 n) 0 (length (part new 0 n)) ≡ textOf number w
-text-done number (Bytes bs) old new n w = simp (said-done number (ltb (length old) (length bs)) bs old new n refl (w .said) (w .left))
-text-done number (Refuse why) old new n w = let e : Done n ≡ Refused why = w .said in let z : _≡_ {A = ℕ} 0 1 = cc in absurd (omega arith)
+unfolding part steps
+text-done number w old new n h = let d = done-by w old new n h in simp (d .first, d .given) (walk-steps number (d .bytes) 0 (length (d .bytes)))
 
 -- a frame has room in 16,384 bytes, so that a refusal is the line's own; each of its bytes is two characters, and a line that is refused has one
 abbrev Short : ℕ → Writing → Type 0

@@ -5,17 +5,14 @@ use mathlib.Core.List.{List, [], _∷_, _++_}
 use lib.Dec.{leb, eqb}
 use lib.ListN.{length}
 use Rattle.le.specs.Le.{if_then_else_, part}
-use Rattle.refusal.specs.declared.Refusal.{Refusal}
 use Rattle.refusal.specs.declared.Refusal.the-variants.{ZeroEntryLength}
 use Rattle.refusal.specs.Writing.{Writing, Bytes, Refuse, leaves}
+use Rattle.entry.specs.Walk.{steps}
 use Rattle.digits.specs.Frame.{frameOf}
 use Rattle.digits.specs.Text.{Put}
 use Rattle.lines.specs.Lines.{lineFeed}
 use Rattle.rows.specs.Rows.{refusalLine, entryLine}
-use Rattle.symbol.specs.declared.AdsSymbolInfo.{AdsSymbolInfo}
-use Rattle.walk.specs.Walk.{symbolStep}
-use Rattle.walk.specs.declared.Step.{Step}
-use Rattle.walk.specs.declared.Step.the-variants as step
+use Rattle.walk.specs.Walk.{byStep, symbolStep}
 
 -- "line at len group offset size type flags unread attrs refs name typename"
 abbrev pub header : List ℕ
@@ -34,12 +31,6 @@ header =
     110 ∷ 97 ∷ 109 ∷ 101 ∷ 32 ∷
     116 ∷ 121 ∷ 112 ∷ 101 ∷ 110 ∷ 97 ∷ 109 ∷ 101 ∷ 10 ∷ []
 
--- by what a step of the walk gives
-abbrev pub byStep : {A : Type 0} → Step → A → (AdsSymbolInfo → A) → (Refusal → A) → A
-byStep step.Finished finished entry stop = finished
-byStep (step.Record r) finished entry stop = entry r
-byStep (step.Refused why) finished entry stop = stop why
-
 -- what is printed of the step at a place of a frame: a step that does not move is a zero claim, refusal 10, any other moves over its entry
 unfoldable pub stepText : ℕ → List ℕ → ℕ → List ℕ
 stepText number s at =
@@ -48,18 +39,14 @@ stepText number s at =
     (λ r. entryLine number at r (part s at (symbolStep s at .cursor .at - at)))
     (refusalLine number at)
 
--- the place of the next step: a zero claim ends the line
-unfoldable pub stepNext : List ℕ → ℕ → ℕ
-stepNext s at = if eqb (symbolStep s at .cursor .at) at then length s else symbolStep s at .cursor .at
+-- what is printed of the steps that begin at these places
+unfoldable pub stepsText : ℕ → List ℕ → List ℕ → List ℕ
+stepsText number s [] = []
+stepsText number s (at ∷ more) = stepText number s at ++ stepsText number s more
 
--- at most so many steps from a place on
-unfoldable pub walkText : ℕ → List ℕ → ℕ → ℕ → List ℕ
-walkText number s at zero = []
-walkText number s at (suc left) = if leb (length s) at then [] else stepText number s at ++ walkText number s (stepNext s at) left
-
--- every step moves, so a frame has no more steps than bytes; a line that is no frame is refused at start 0
+-- a frame is walked from its start, and a zero claim ends its line; a line that is no frame is refused at start 0
 abbrev pub textOf : ℕ → Writing → List ℕ
-textOf number (Bytes s) = walkText number s 0 (length s)
+textOf number (Bytes s) = stepsText number s (steps s)
 textOf number (Refuse why) = refusalLine number 0 why
 
 -- what is printed of a line of input, its characters without the LF
@@ -81,3 +68,11 @@ listing s = header ++ inputText 1 [] s
 pub record ListsLine (number : ℕ) (line oldFrame newFrame old : List ℕ) (at : ℕ) (new : List ℕ) (r : ℕ) : Type 0 where
   pub text : Put (length line * 239 / 2) old at (frameText number line) new r
   pub frame : newFrame ≡ leaves (frameOf line) oldFrame
+
+-- what the loop over a frame prints from a place on, in at most so many turns: after a zero claim it goes on at the end
+unfoldable pub stepNext : List ℕ → ℕ → ℕ
+stepNext s at = if eqb (symbolStep s at .cursor .at) at then length s else symbolStep s at .cursor .at
+
+unfoldable pub walkText : ℕ → List ℕ → ℕ → ℕ → List ℕ
+walkText number s at zero = []
+walkText number s at (suc left) = if leb (length s) at then [] else stepText number s at ++ walkText number s (stepNext s at) left

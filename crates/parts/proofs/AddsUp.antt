@@ -11,11 +11,10 @@ use borrow.Author.Tests.{lt-ltb, ltb-true, ltb-false}
 use Rattle.le.specs.Le.{if_then_else_}
 use Rattle.le.specs.Put.{put}
 use Rattle.le.proofs.Laws.{length-put}
-use Rattle.entry.specs.Whole.{joined}
 use Rattle.lines.specs.Lines.{lineFeed}
 use Rattle.listing.specs.Listing.{header, inputText, listing}
 use Rattle.listing.proofs.Cut.{input-cut}
-use Rattle.parts.specs.Parts.{Reading, reading, largest, nextNumber, heldOf, lineText, ended, holding, partText, after, partsText, printed, AddsUp}
+use Rattle.parts.specs.Parts.{joined, Reading, reading, largest, nextNumber, heldOf, lineText, ended, holding, partText, after, partsText, printed, AddsUp}
 
 -- the line's buffer has its length, what is held is in it, and the numbers of so many more lines fit 64 bits
 record Fits (r : Reading) (k : ℕ) : Type 0 where

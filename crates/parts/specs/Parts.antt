@@ -8,7 +8,6 @@ use lib.ListN.{length, take}
 use Rattle.le.specs.Le.{if_then_else_}
 use Rattle.le.specs.Put.{put, Wrote}
 use Rattle.refusal.specs.Writing.{leaves}
-use Rattle.entry.specs.Whole.{joined}
 use Rattle.digits.specs.Frame.{frameOf}
 use Rattle.digits.specs.Text.{Put}
 use Rattle.lines.specs.Lines.{lineFeed}
@@ -78,6 +77,11 @@ partsText r (s ∷ parts) = partText r s ++ partsText (after r s) parts
 -- what `list` prints of its input, part by part, whatever its buffers hold at first
 unfoldable pub printed : List ℕ → List ℕ → List (List ℕ) → List ℕ
 printed line frame parts = header ++ partsText (reading 1 0 line frame) parts
+
+-- the parts one after another
+abbrev pub joined : List (List ℕ) → List ℕ
+joined [] = []
+joined (s ∷ parts) = s ++ joined parts
 
 -- however the input is divided into parts, the whole listing of it is printed; line numbers need an input of fewer than 2^64 - 1 characters
 abbrev pub AddsUp : Type 0
