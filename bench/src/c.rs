@@ -80,7 +80,7 @@ pub fn attribute_read(bytes: &[u8], told: &mut Told<{ sys::ATTRIBUTE_SLOTS }>) {
     done("attribute_read", status, told.answer);
 }
 
-pub fn refactor_read(bytes: &[u8], told: &mut Told<{ sys::ATTRIBUTE_SLOTS }>) {
+pub fn refactor_read(bytes: &[u8], told: &mut Told<{ sys::REFACTOR_SLOTS }>) {
     let status = unsafe {
         sys::vindaskot_refactor_read(
             bytes.as_ptr(),

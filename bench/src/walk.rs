@@ -81,30 +81,53 @@ fn ours_text(upload: &[u8], out: &mut [u8]) -> u64 {
     }
 }
 
-fn ours_text_of(entry: &[u8], told: &Told<{ sys::SYMBOL_SLOTS }>, out: &mut [u8]) -> u64 {
-    let mut sum = 0;
-    let mut decode = |bytes: &[u8], place: u64, len: u64| {
-        sum += c::decode(&bytes[place as usize..][..len as usize], out);
-        black_box(&out);
-    };
-    for place in [sys::SYMBOL_NAME, sys::SYMBOL_TYPE_NAME, sys::SYMBOL_COMMENT] {
-        decode(entry, told.slots[place], told.slots[place + 1]);
-    }
+/// The length in UTF-8 of the bytes that two slots tell, which are decoded.
+fn decoded(bytes: &[u8], slots: &[u64], [place, len]: [usize; 2], out: &mut [u8]) -> u64 {
+    let n = c::decode(&bytes[slots[place] as usize..][..slots[len] as usize], out);
+    black_box(&out);
+    n as u64
+}
+
+/// The same of so many attributes from a place on.
+pub fn attributes_text(entry: &[u8], first: usize, count: usize, out: &mut [u8]) -> u64 {
+    const NAME: [usize; 2] = [sys::ATTRIBUTE_NAME, sys::ATTRIBUTE_NAME_LEN];
+    const VALUE: [usize; 2] = [sys::ATTRIBUTE_VALUE, sys::ATTRIBUTE_VALUE_LEN];
     let mut record = Told::<{ sys::ATTRIBUTE_SLOTS }>::new();
-    let mut left = &entry[told.number(sys::SYMBOL_ATTRIBUTES)..];
-    for _ in 0..told.slots[sys::SYMBOL_ATTRIBUTE_COUNT] {
+    let mut left = &entry[first..];
+    let mut sum = 0;
+    for _ in 0..count {
         c::attribute_read(left, &mut record);
-        decode(left, record.slots[0], record.slots[1]);
-        decode(left, record.slots[2], record.slots[3]);
-        left = &left[record.number(4)..];
+        sum += decoded(left, &record.slots, NAME, out) + decoded(left, &record.slots, VALUE, out);
+        left = &left[record.number(sys::ATTRIBUTE_NEXT)..];
     }
+    sum
+}
+
+/// The same of an entry's strings.
+pub fn strings_text(entry: &[u8], slots: &[u64], strings: [[usize; 2]; 3], out: &mut [u8]) -> u64 {
+    let each = strings.iter();
+    each.map(|string| decoded(entry, slots, *string, out)).sum()
+}
+
+fn ours_text_of(entry: &[u8], told: &Told<{ sys::SYMBOL_SLOTS }>, out: &mut [u8]) -> u64 {
+    const STRINGS: [[usize; 2]; 3] = [
+        [sys::SYMBOL_NAME, sys::SYMBOL_NAME_LEN],
+        [sys::SYMBOL_TYPE_NAME, sys::SYMBOL_TYPE_NAME_LEN],
+        [sys::SYMBOL_COMMENT, sys::SYMBOL_COMMENT_LEN],
+    ];
+    const FORMER: [usize; 2] = [sys::REFACTOR_NAME, sys::REFACTOR_NAME_LEN];
+    let attributes = told.number(sys::SYMBOL_ATTRIBUTES);
+    let count = told.number(sys::SYMBOL_ATTRIBUTE_COUNT);
+    let mut sum = strings_text(entry, &told.slots, STRINGS, out);
+    sum += attributes_text(entry, attributes, count, out);
+    let mut record = Told::<{ sys::REFACTOR_SLOTS }>::new();
     let mut left = &entry[told.number(sys::SYMBOL_REFACTORS)..];
     for _ in 0..told.slots[sys::SYMBOL_REFACTOR_COUNT] {
         c::refactor_read(left, &mut record);
-        decode(left, record.slots[2], record.slots[3]);
-        left = &left[record.number(4)..];
+        sum += decoded(left, &record.slots, FORMER, out);
+        left = &left[record.number(sys::REFACTOR_NEXT)..];
     }
-    sum as u64
+    sum
 }
 
 fn theirs_text(upload: &[u8]) -> u64 {

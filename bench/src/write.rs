@@ -5,6 +5,7 @@ use crate::report::Report;
 use crate::rig::{Rig, Symbol};
 use crate::sys;
 use crate::verify::text;
+use crate::walk::{attributes_text, strings_text};
 use crate::{AdsAttribute, AdsFieldInfo, AdsRefactorInfo};
 use std::hint::black_box;
 
@@ -141,6 +142,39 @@ fn theirs_read(fields: &[Field]) -> u64 {
     sum
 }
 
+/// Every string of every field decoded, where the Rust has it as a `String`. The sum is that of the lengths in UTF-8.
+fn ours_read_text(fields: &[Field], out: &mut [u8]) -> u64 {
+    const STRINGS: [[usize; 2]; 3] = [
+        [sys::FIELD_NAME, sys::FIELD_NAME_LEN],
+        [sys::FIELD_TYPE_NAME, sys::FIELD_TYPE_NAME_LEN],
+        [sys::FIELD_COMMENT, sys::FIELD_COMMENT_LEN],
+    ];
+    let mut told = Told::<{ sys::FIELD_SLOTS }>::new();
+    let mut sum = 0;
+    for f in fields {
+        c::field_read(black_box(&f.bytes), &mut told);
+        let attributes = told.number(sys::FIELD_ATTRIBUTES);
+        let count = told.number(sys::FIELD_ATTRIBUTE_COUNT);
+        sum += strings_text(&f.bytes, &told.slots, STRINGS, out);
+        sum += attributes_text(&f.bytes, attributes, count, out);
+    }
+    sum
+}
+
+fn theirs_read_text(fields: &[Field]) -> u64 {
+    let mut sum = 0;
+    for f in fields {
+        let Ok((r, _)) = black_box(AdsFieldInfo::try_from_slice(black_box(&f.bytes))) else {
+            wrong("the Rust refuses a field");
+        };
+        sum += r.name().len() + r.type_name().len() + r.comment().len();
+        for a in r.attributes() {
+            sum += a.name().len() + a.value().len();
+        }
+    }
+    sum as u64
+}
+
 fn attribute_row(report: &mut Report, rig: &Rig) {
     let ours: Vec<_> = rig.symbols.iter().flat_map(|s| &s.attributes).collect();
     let theirs: Vec<_> = ours
@@ -215,8 +249,15 @@ pub fn rows(report: &mut Report, rig: &Rig) {
     field_write_rows(report, &fields);
     attribute_row(report, rig);
     refactor_row(report, rig);
-    let what = "read a field";
+    let what = "read a field, text left as bytes (the Rust: Strings)";
     let runs = vec![plain(|| ours_read(&fields)), plain(|| theirs_read(&fields))];
+    let times = race(report.allowed, what, runs);
+    report.row(what, fields.len(), times[0], times[1]);
+    let what = "read a field, all text as UTF-8 on both sides";
+    let runs = vec![
+        plain(|| ours_read_text(&fields, &mut out)),
+        plain(|| theirs_read_text(&fields)),
+    ];
     let times = race(report.allowed, what, runs);
     report.row(what, fields.len(), times[0], times[1]);
 }
