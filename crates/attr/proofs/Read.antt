@@ -130,43 +130,6 @@ module _ (p b q : List ℕ) where
       simp (attribute-inside p b q k a (r .1 .0), s)
       (list-turn a g left m rest (list-read (a .next) (g + 1) left m rest) (leb (length (big p b q)) (length p + a .next)) refl)
 
-  -- the record with a number, in the block and in the entry
-  pub record Numbered (k j : ℕ) : Type 0 where
-    pub at : ℕ
-    pub attribute : AdsAttribute
-    pub reads : attributeAt b at ≡ Record attribute
-    pub here : attributeNth b k j ≡ Record attribute
-    pub there : attributeNth (big p b q) (length p + k) j ≡ Record (shift (length p) attribute)
-
-  pub nth-read : (k g left m j : ℕ) → goodFrom (goodAttribute b) k g left ≡ counted (g + left) m → j < left → Numbered k j
-  unfolding attributeNth
-  nth-read k g zero m j e h = absurd (omega arith)
-  nth-read k g (suc left) m zero e h =
-      let f = good-first (goodAttribute b) k g left m e in
-      let r = good-record b k left (f .0) (f .1 .0) in
-      record { at = k; attribute = r .0; reads = r .1 .0; here = r .1 .0; there = attribute-inside p b q k (r .0) (r .1 .0) }
-  nth-read k g (suc left) m (suc j) e h =
-      let f = good-first (goodAttribute b) k g left m e in
-      let r = good-record b k left (f .0) (f .1 .0) in
-      let a = r .0 in
-      let n = nth-read (a .next) (g + 1) left m j (rw (r .1 .1) (f .1 .1)) (omega arith) in
-      record {
-        at = n .at;
-        attribute = n .attribute;
-        reads = n .reads;
-        here = simp (r .1 .0) (n .here);
-        there = simp (attribute-inside p b q k a (r .1 .0)) (n .there);
-      }
-
-  -- its strings are those of the block
-  pub name-read : (k g left m j : ℕ) → goodFrom (goodAttribute b) k g left ≡ counted (g + left) m → j < left
-      → nameIn (big p b q) (attributeNth (big p b q) (length p + k) j) ≡ nameIn b (attributeNth b k j)
-  name-read k g left m j e h = let n = nth-read k g left m j e h in simp (n .here, n .there) (name-inside p b q (n .at) (n .attribute) (n .reads))
-
-  pub value-read : (k g left m j : ℕ) → goodFrom (goodAttribute b) k g left ≡ counted (g + left) m → j < left
-      → valueIn (big p b q) (attributeNth (big p b q) (length p + k) j) ≡ valueIn b (attributeNth b k j)
-  value-read k g left m j e h = let n = nth-read k g left m j e h in simp (n .here, n .there) (value-inside p b q (n .at) (n .attribute) (n .reads))
-
 abbrev whole : ℕ → Listed → Attributes
 whole first list = record { first = first; list = list }
 
@@ -185,17 +148,6 @@ attributes-read p count block rest true small good =
     let list = simp (zero-add, add-zero, length-append, append-assoc) at (list-read (p ++ bytes2 count) block rest 0 0 count (length block) (rw zero-add good)) in
     simp (le-leb 2 (length s - length p) (omega arith), n, list) (ap (λ (x : ℕ). whole (length p + 2) (listed count x Fine)) (omega arith))
 attributes-read p count block rest false small good = simp add-zero
-
--- each of them by its number
-pub attribute-numbered : (p : List ℕ) (count : ℕ) (block rest : List ℕ) (flagged : Bool) (k : ℕ) → goodFrom (goodAttribute block) 0 0 count ≡ counted count (length block) → k < (if flagged then count else 0)
-    → (nameIn (p ++ ((if flagged then bytes2 count ++ block else []) ++ rest)) (attributeNth (p ++ ((if flagged then bytes2 count ++ block else []) ++ rest)) (length p + (if flagged then 2 else 0)) k) ≡ nameIn block (attributeNth block 0 k))
-    × (valueIn (p ++ ((if flagged then bytes2 count ++ block else []) ++ rest)) (attributeNth (p ++ ((if flagged then bytes2 count ++ block else []) ++ rest)) (length p + (if flagged then 2 else 0)) k) ≡ valueIn block (attributeNth block 0 k))
-attribute-numbered p count block rest true k good h =
-    let g : goodFrom (goodAttribute block) 0 0 count ≡ counted (0 + count) (length block) = rw zero-add good in (
-      simp (append-assoc, length-append, add-zero) at (name-read (p ++ bytes2 count) block rest 0 0 count (length block) k g h),
-      simp (append-assoc, length-append, add-zero) at (value-read (p ++ bytes2 count) block rest 0 0 count (length block) k g h),
-    )
-attribute-numbered p count block rest false k good h = absurd (omega arith)
 
 -- a record takes at most 514 bytes, and so many good records at most as many times that
 module _ (s : List ℕ) (bytes : (k : ℕ) → getD s k 0 < 256) where

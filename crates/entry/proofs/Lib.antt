@@ -3,3 +3,4 @@ pub mod Whole
 pub mod Direct
 pub mod Claims
 pub mod Demand3
+pub mod Useless

@@ -16,10 +16,10 @@ use Rattle.entry.proofs.Demand3 as entries
 use Rattle.field_walk.specs.Walk.{entry}
 use Rattle.field_walk.specs.Told.{stepTold}
 use Rattle.field_walk.proofs.Kind.{kind}
-use Rattle.wire.specs.Wire.{entryOf}
+use Rattle.wire.specs.Wire.{entryOf, entryWriting}
 use Rattle.wire.proofs.Laws.{length-entry}
 use Rattle.wire.proofs.Read.{grown-entry, entry-whole, entry-is}
-use Rattle.field_writer.specs.Writing.{fieldBytes, fieldWriting}
+use Rattle.field_writer.specs.Writing.{fieldBytes, fieldChecked, fieldWriting}
 use Rattle.field_fit.specs.Demand3.{Parts, bytesOf, writingOf, Fit, fieldMeant, Demand3Fields, WrittenFieldsFit}
 use Rattle.field_fit.proofs.Accepted.{accepted}
 use Rattle.field_fit.proofs.Header.{bodyOf}
@@ -48,6 +48,6 @@ pub written-fields-fit : WrittenFieldsFit
 unfolding fieldWriting
 written-fields-fit p old new n t g w =
     let d = done-by (writingOf p) old new n w in
-    let c = check-passed _ _ (d .bytes) (d .given) in
+    let c = check-passed (fieldChecked (p .numbers) (p .name) (p .type-name) (p .comment) (p .count) (p .block)) (entryWriting (bytesOf p)) (d .bytes) (d .given) in
     let i = entry-is (bytesOf p) (d .bytes) (c .1) in
     record { fit = record { typed = t; accepted = d .given ∙ ap Bytes i; agrees = g }; bytes = d .first ∙ i }

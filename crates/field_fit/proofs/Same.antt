@@ -19,6 +19,7 @@ use Rattle.attr.specs.Attribute.{attributeNth}
 use Rattle.attr.specs.Told.{attributeTold, attributesIn}
 use Rattle.attr.proofs.Asked.{section-asked}
 use Rattle.guid.specs.Guid.{zeros16}
+use Rattle.guid.proofs.Read.{guid-told}
 use Rattle.field.specs.Field.{typeGuid, attributes, infoOf, fieldWith, fieldRead}
 use Rattle.field.specs.Questions.{fieldName, fieldTypeName, fieldComment, fieldAttribute}
 use Rattle.field.specs.declared.AdsFieldInfo.{AdsFieldInfo}
@@ -37,11 +38,6 @@ use Rattle.field_fit.proofs.Entry.{guidTold, attributesTold, entry-read
 shown : (f : Bool) (count : ℕ) → (f ≡ false → count ≡ 0) → (if f then count else 0) ≡ count
 shown true count h = refl
 shown false count h = sym (h refl)
-
--- a GUID is told where it is flagged
-told-guid : (here has : Bool) (guid zeros : List ℕ) → has ≡ here → (if here then some (if here then guid else zeros) else none) ≡ (if has then some guid else none)
-told-guid true has guid zeros e = simp e
-told-guid false has guid zeros e = simp e
 
 regroup : (f g m r : List ℕ) → f ++ (g ++ (m ++ r)) ≡ (f ++ (g ++ m)) ++ r
 regroup f g m r = simp append-assoc
@@ -116,7 +112,7 @@ module _ (p : Parts) (f : Fit p) (a : Accepted p) (extra : List ℕ) (small : le
   told-is : fieldTold info (guidTold p f a extra fits .bytes) e ≡ fieldMeant p extra
   unfolding infoOf
   told-is =
-      let g = told-guid (flagged (p .numbers) typeGuid) (p .numbers .«has_guid») (p .guid) zeros16 (f .agrees .guid-agrees) in
+      let g = guid-told (flagged (p .numbers) typeGuid) (p .numbers .«has_guid») (p .guid) zeros16 (f .agrees .guid-agrees) in
       simp (
         header.version p t a extra fits,
         header.hash p t a extra fits,

@@ -10,6 +10,7 @@ use Rattle.refusal.specs.Asked.{Given}
 use Rattle.refusal.specs.Writing.{Writing, Bytes, Writes}
 use Rattle.refusal.specs.declared.Written.the-variants.{Done}
 use Rattle.entry.specs.Demand3.{Demand3}
+use Rattle.entry.specs.Useless.{ShutsOut}
 use Rattle.attr.specs.Told.{attributesIn}
 use Rattle.field.specs.Field.{typeGuid, methodInfos, attributes}
 use Rattle.field_walk.specs.Walk.{fieldStep}
@@ -77,6 +78,10 @@ fieldMeant p extra =
 
 abbrev pub Demand3Fields : Type 0
 Demand3Fields = Demand3 Fit bytesOf fieldMeant fieldStep cursorOf stepTold
+
+-- it shuts out a step that never gives a record, and one that gives its first answer again
+abbrev pub FieldsShutOut : Type 0
+FieldsShutOut = ShutsOut Fit bytesOf fieldMeant cursorOf stepTold
 
 -- from the code's answer to demand 3: where `to_vec` answers that it wrote n bytes of a field that agrees with its flags, the field is fit, and these
 -- bytes are those that demand 3 speaks of

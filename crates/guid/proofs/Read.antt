@@ -5,6 +5,7 @@ use native.Mathlib.Nat.{add-zero}
 use mathlib.Core.Path.{_≡_, refl, sym, ap, _∙_}
 use mathlib.Core.Bool.{Bool, true, false}
 use mathlib.Core.List.{List, [], _++_}
+use mathlib.Core.Option.{none, some}
 use lib.ListN.{length, length-append}
 use borrow.Author.Tests.{le-leb}
 use Rattle.le.specs.Le.{if_then_else_, part}
@@ -12,10 +13,10 @@ use Rattle.le.proofs.Inside.{part-whole}
 use Rattle.guid.specs.declared.Guid.{Guid}
 use Rattle.guid.specs.Guid.{guidAt, zeros16}
 
--- the bytes of a GUID that is there
-pub picked : (f : Bool) (x y : List ℕ) → f ≡ true → (if f then x else y) ≡ x
-picked true x y h = refl
-picked false x y h = absurd (let z : _≡_ {A = ℕ} 0 1 = cc in omega arith)
+-- a GUID is told where it is flagged, by a record that says so
+pub guid-told : (here has : Bool) (guid zeros : List ℕ) → has ≡ here → (if here then some (if here then guid else zeros) else none) ≡ (if has then some guid else none)
+guid-told true has guid zeros e = simp e
+guid-told false has guid zeros e = simp e
 
 pub guid-read : (p g rest : List ℕ) (flagged : Bool) → length g ≡ 16
     → guidAt (p ++ ((if flagged then g else []) ++ rest)) (length p) flagged

@@ -12,6 +12,9 @@ use Rattle.le.specs.Le.{if_then_else_, le4, part}
 use Rattle.refusal.specs.Refusal.{limit}
 use Rattle.refusal.specs.Writing.{Bytes, Refuse, Writes}
 use Rattle.refusal.specs.declared.Refusal.{Refusal}
+use Rattle.refusal.specs.declared.Refusal.the-variants.{TooLarge, ZeroEntryLength}
+use Rattle.refusal.proofs.Laws.{passed}
+use Rattle.refusal.proofs.DoneBy.{done-by}
 use Rattle.refusal.specs.declared.Written.the-variants.{Done, Refused}
 use Rattle.entry.specs.Entry.{claimed, claimAt}
 use Rattle.entry.specs.declared.Met.the-variants as met
@@ -64,20 +67,18 @@ number-those test (at ∷ l) = turn (number-those test l) (test at)
 
 -- what is known where an index was built
 module _ (s old new : List ℕ) (n : ℕ) where
-  fits : (t : Bool) (why : Refusal) (m : ℕ) → Done n ≡ (if t then Refused why else Done m) → (t ≡ false) × (m ≡ n)
-  fits true why m e = let z : _≡_ {A = ℕ} 0 1 = cc in absurd (omega arith)
-  fits false why m e = (refl, cc)
-
-  built-by : (p q : Bool) (a b : Refusal) (c : List ℕ) → Writes (if p then Refuse a else if q then Refuse b else Bytes c) old new (Done n) → (p ≡ false) × (q ≡ false) × (length c ≡ n) × (take n new ≡ c)
-  built-by true q a b c w = let z : _≡_ {A = ℕ} 0 1 = cc (w .said) in absurd (omega arith)
-  built-by false true a b c w = let z : _≡_ {A = ℕ} 0 1 = cc (w .said) in absurd (omega arith)
-  built-by false false a b c w =
-      let f = fits (ltb (length old) (length c)) _ (length c) (w .said) in
-      (refl, refl, f .1, ap (take n) (w .left ∙ simp (f .0)) ∙ take-at c (drop (length c) old) n (f .1))
+  built-by : (p q : Bool) (a b : Refusal) (c bs : List ℕ) → (if p then Refuse a else if q then Refuse b else Bytes c) ≡ Bytes bs → (p ≡ false) × (q ≡ false) × (bs ≡ c)
+  built-by p q a b c bs h =
+      let x = passed p a _ bs h in
+      let y = passed q b (Bytes c) bs (x .1) in
+      (x .0, y .0, let z : Bytes c ≡ Bytes bs = y .1 in cc)
 
   built : Writes (indexing s) old new (Done n) → (ltb limit (length s) ≡ false) × (any (stands s) (steps s) ≡ false) × (length (starts s) ≡ n) × (take n new ≡ starts s)
   unfolding indexing
-  built w = built-by (ltb limit (length s)) (any (stands s) (steps s)) _ _ (starts s) w
+  built w =
+      let d = done-by (indexing s) old new n w in
+      let b = built-by (ltb limit (length s)) (any (stands s) (steps s)) (TooLarge (length s)) ZeroEntryLength (starts s) (d .bytes) (d .given) in
+      (b .0, b .1, rw (sym (b .2)) (d .long), d .first ∙ b .2)
 
   -- an index has as many slots as the walk has accepted entries
   pub index-length : Writes (indexing s) old new (Done n) → n ≡ number (accepted s) (steps s)

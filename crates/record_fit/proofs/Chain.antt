@@ -13,26 +13,18 @@ use Rattle.le.proofs.Laws.{le2-bytes2}
 use Rattle.refusal.specs.Refusal.{limit}
 use Rattle.refusal.specs.Asked.{Given, asks}
 use Rattle.refusal.specs.Writing.{Bytes, counted, goodFrom}
+use Rattle.refusal.proofs.Asked.{asks-same}
 use Rattle.refusal.proofs.Laws.{passed, check-passed, exact, good-first}
 use Rattle.refactor.specs.Refactor.{chainFrom, chainAt, chainRead, chainNth, refactorNth}
 use Rattle.refactor.specs.Writing.{goodRefactor, refactorsChecked, blockWriting}
 use Rattle.refactor.specs.Told.{renamingOf, renamingTold, renamingsIn}
+use Rattle.refactor.proofs.Asked.{asks-read}
 use Rattle.refactor.proofs.Read.{good-record, whole, chain-read}
 use Rattle.record_fit.specs.Refactors.{Back, EntriesReadBack}
 
-asks-same : {A : Type 0} (f g : ℕ → A) (n : ℕ) → ((k : ℕ) → k < n → f k ≡ g k) → asks f n ≡ asks g n
-unfolding asks
-asks-same f g zero h = refl
-asks-same {A} f g (suc n) h = ap₂ (λ (x : A) (l : List A). x ∷ l) (h 0 (omega arith)) (asks-same (λ k. f (suc k)) (λ k. g (suc k)) n (λ k j. h (suc k) (omega arith)))
-
 -- the records of a good block, asked for by number
 numbered : (b : List ℕ) (at g left m : ℕ) → goodFrom (goodRefactor b) at g left ≡ counted (g + left) m → asks (λ k. renamingTold b (refactorNth b at k)) left ≡ map Given (renamingsIn b at left)
-unfolding asks refactorNth renamingsIn
-numbered b at g zero m e = refl
-numbered b at g (suc left) m e =
-    let f = good-first (goodRefactor b) at g left m e in
-    let r = good-record b at left (f .0) (f .1 .0) in
-    simp (r .reads) (ap (λ l. Given (renamingOf b (r .info)) ∷ l) (numbered b (r .info .next) (g + 1) left m (rw (r .moves) (f .1 .1))))
+numbered b at g left m e = simp (append-nil, zero-add) at (asks-read [] b [] at g left m e)
 
 module _ (count : ℕ) (block : List ℕ) (pos : 0 < count) (good : goodFrom (goodRefactor block) 0 0 count ≡ counted count (length block)) (small : length block ≤ limit) where
   good-zero : goodFrom (goodRefactor block) 0 0 count ≡ counted (0 + count) (length block)

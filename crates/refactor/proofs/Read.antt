@@ -123,38 +123,6 @@ module _ (p b q : List ℕ) where
       let s : g + 1 + suc left ≡ g + suc (suc left) = omega arith in
       chain-step (big p b q) (length p + k) g i ∙ simp (r .follows, lt-ltb 0 (suc left) (omega arith)) (ih ∙ ap (λ (c : ℕ). whole c (length p + m)) s)
 
-  -- the record with a number, in the block and in the entry
-  pub record Numbered (k j : ℕ) : Type 0 where
-    pub at : ℕ
-    pub info : AdsRefactorInfo
-    pub reads : refactorAt b at ≡ Record info
-    pub here : refactorNth b k j ≡ Record info
-    pub there : refactorNth (big p b q) (length p + k) j ≡ Record (shift (length p) info)
-
-  pub nth-read : (k g left m j : ℕ) → goodFrom (goodRefactor b) k g left ≡ counted (g + left) m → j < left → Numbered k j
-  unfolding refactorNth
-  nth-read k g zero m j e h = absurd (omega arith)
-  nth-read k g (suc left) m zero e h =
-      let f = good-first (goodRefactor b) k g left m e in
-      let r = good-record b k left (f .0) (f .1 .0) in
-      record { at = k; info = r .info; reads = r .reads; here = r .reads; there = refactor-inside p b q k (r .info) (r .reads) }
-  nth-read k g (suc left) m (suc j) e h =
-      let f = good-first (goodRefactor b) k g left m e in
-      let r = good-record b k left (f .0) (f .1 .0) in
-      let n = nth-read (r .info .next) (g + 1) left m j (rw (r .moves) (f .1 .1)) (omega arith) in
-      record {
-        at = n .at;
-        info = n .info;
-        reads = n .reads;
-        here = simp (r .reads) (n .here);
-        there = simp (refactor-inside p b q k (r .info) (r .reads)) (n .there);
-      }
-
-  -- its name is that of the block
-  pub name-read : (k g left m j : ℕ) → goodFrom (goodRefactor b) k g left ≡ counted (g + left) m → j < left
-      → nameIn (big p b q) (refactorNth (big p b q) (length p + k) j) ≡ nameIn b (refactorNth b k j)
-  name-read k g left m j e h = let n = nth-read k g left m j e h in simp (n .here, n .there) (name-inside p b q (n .at) (n .info) (n .reads))
-
 abbrev chainTo : ℕ → ℕ → Chain
 chainTo count next = record { count = count; next = next }
 

@@ -16,10 +16,10 @@ use Rattle.entry.proofs.Demand3 as entries
 use Rattle.walk.specs.Walk.{entry}
 use Rattle.walk.specs.Told.{stepTold}
 use Rattle.walk.proofs.Kind.{kind}
-use Rattle.wire.specs.Wire.{entryOf}
+use Rattle.wire.specs.Wire.{entryOf, entryWriting}
 use Rattle.wire.proofs.Laws.{length-entry}
 use Rattle.wire.proofs.Read.{grown-entry, entry-whole, entry-is}
-use Rattle.symbol_writer.specs.Writing.{Parts, symbolBytes, symbolWriting}
+use Rattle.symbol_writer.specs.Writing.{Parts, symbolBytes, symbolChecked, symbolWriting}
 use Rattle.symbol_fit.specs.Demand3.{Fit, symbolMeant, Demand3Symbols, WrittenSymbolsFit}
 use Rattle.symbol_fit.proofs.Accepted.{accepted}
 use Rattle.symbol_fit.proofs.Header.{bodyOf}
@@ -48,6 +48,6 @@ pub written-symbols-fit : WrittenSymbolsFit
 unfolding symbolWriting
 written-symbols-fit p old new n t w =
     let d = done-by (symbolWriting p) old new n w in
-    let c = check-passed _ _ (d .bytes) (d .given) in
+    let c = check-passed (symbolChecked p) (entryWriting (symbolBytes p)) (d .bytes) (d .given) in
     let i = entry-is (symbolBytes p) (d .bytes) (c .1) in
     record { fit = record { typed = t; accepted = d .given ∙ ap Bytes i }; bytes = d .first ∙ i }

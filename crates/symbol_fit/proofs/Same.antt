@@ -26,6 +26,7 @@ use Rattle.refactor.specs.Told.{renamingTold, renamingsIn}
 use Rattle.refactor.proofs.Asked.{asks-read}
 use Rattle.refactor.proofs.Read.{beq}
 use Rattle.guid.specs.Guid.{zeros16}
+use Rattle.guid.proofs.Read.{guid-told}
 use Rattle.symbol.specs.Symbol.{typeGuid, attributes, extendedFlags, infoRecord, infoOf, symbolRead}
 use Rattle.symbol.specs.Questions.{symbolName, symbolTypeName, symbolComment, symbolAttribute, symbolRefactor}
 use Rattle.symbol.specs.declared.AdsSymbolInfo.{AdsSymbolInfo}
@@ -42,11 +43,6 @@ use Rattle.symbol_fit.proofs.Entry.{sectionsTold, entry-read}
 
 regroup : (f g a x r : List ℕ) → f ++ (g ++ (a ++ (x ++ r))) ≡ (f ++ (g ++ (a ++ x))) ++ r
 regroup f g a x r = simp append-assoc
-
--- a GUID is told where it is flagged
-told-guid : (here has : Bool) (guid zeros : List ℕ) → has ≡ here → (if here then some (if here then guid else zeros) else none) ≡ (if has then some guid else none)
-told-guid true has guid zeros e = simp e
-told-guid false has guid zeros e = simp e
 
 module _ (p : Parts) (t : Typed p) (a : Accepted p) (extra : List ℕ) (small : length (bodyOf p ++ extra) + 4 ≤ limit) where
   fits : length (bodyOf p ++ extra) + 4 < 4294967296
@@ -141,7 +137,7 @@ module _ (p : Parts) (t : Typed p) (a : Accepted p) (extra : List ℕ) (small : 
   told-is : symbolTold info (sectionsTold p t a extra fits .guid) e ≡ symbolMeant p extra
   unfolding infoRecord
   told-is =
-      let g = told-guid (flagged (p .numbers) typeGuid) (p .numbers .«has_guid») (p .guid) zeros16 (beq _ _ (a .guid-agrees)) in
+      let g = guid-told (flagged (p .numbers) typeGuid) (p .numbers .«has_guid») (p .guid) zeros16 (beq _ _ (a .guid-agrees)) in
       simp (
         header.group p t a extra fits,
         header.offset p t a extra fits,

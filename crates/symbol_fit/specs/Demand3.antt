@@ -9,6 +9,7 @@ use Rattle.refusal.specs.Asked.{Given}
 use Rattle.refusal.specs.Writing.{Bytes, Writes}
 use Rattle.refusal.specs.declared.Written.the-variants.{Done}
 use Rattle.entry.specs.Demand3.{Demand3}
+use Rattle.entry.specs.Useless.{ShutsOut}
 use Rattle.attr.specs.Told.{attributesIn}
 use Rattle.refactor.specs.Told.{renamingsIn}
 use Rattle.symbol.specs.Symbol.{extendedFlags}
@@ -52,6 +53,10 @@ symbolMeant p extra =
 
 abbrev pub Demand3Symbols : Type 0
 Demand3Symbols = Demand3 Fit symbolBytes symbolMeant symbolStep cursorOf stepTold
+
+-- it shuts out a step that never gives a record, and one that gives its first answer again
+abbrev pub SymbolsShutOut : Type 0
+SymbolsShutOut = ShutsOut Fit symbolBytes symbolMeant cursorOf stepTold
 
 -- from the code's answer to demand 3: where `to_vec` answers that it wrote n bytes, the symbol is fit, and these bytes are those that demand 3 speaks of
 pub record Reached (p : Parts) (n : ℕ) (new : List ℕ) : Type 0 where
