@@ -1,19 +1,19 @@
 -- A block of good attributes that stands anywhere in an entry: each of its attributes, asked for by its number, is told as the block tells it.
-use Prim.Native.Nat.{ℕ, zero, suc, _+_, _<_}
+use Prim.Native.Nat.{ℕ, zero, suc, _+_}
 use native.Mathlib.Nat.{add-zero, zero-add}
-use mathlib.Core.Path.{_≡_, refl, sym, ap, ap₂, _∙_}
+use mathlib.Core.Path.{_≡_, refl, sym}
 use mathlib.Core.Bool.{Bool, true, false}
-use mathlib.Core.List.{List, [], _∷_, _++_, append-assoc, map}
+use mathlib.Core.List.{List, [], _++_, append-assoc, map}
 use lib.ListN.{length, length-append}
 use Rattle.le.specs.Le.{if_then_else_, bytes2}
-use Rattle.refusal.specs.Asked.{Asked, Given, asks}
+use Rattle.refusal.specs.Asked.{Given, asks}
 use Rattle.refusal.specs.Writing.{counted, goodFrom}
 use Rattle.refusal.proofs.Laws.{good-first}
 use Rattle.attr.specs.declared.AdsAttribute.{AdsAttribute}
 use Rattle.attr.specs.declared.AttributeAnswer.the-variants.{Record}
 use Rattle.attr.specs.Attribute.{attributeAt, attributeNth}
 use Rattle.attr.specs.Writing.{goodAttribute}
-use Rattle.attr.specs.Told.{Attribute, attributeOf, attributeTold, attributesIn}
+use Rattle.attr.specs.Told.{attributeOf, attributeTold, attributesIn}
 use Rattle.attr.proofs.Read.{shift, attribute-inside, name-inside, value-inside, good-record}
 
 module _ (p b q : List ℕ) where

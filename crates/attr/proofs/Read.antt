@@ -4,15 +4,15 @@ use native.Mathlib.Omega.{arith}
 use native.Mathlib.Nat.{add-zero, zero-add}
 use mathlib.Core.Path.{_≡_, refl, sym, ap, _∙_}
 use mathlib.Core.Bool.{Bool, true, false}
-use mathlib.Core.List.{List, [], _∷_, _++_, append-assoc}
-use lib.Dec.{ltb, leb}
+use mathlib.Core.List.{List, [], _++_, append-assoc}
+use lib.Dec.{leb}
 use lib.ListN.{length, getD, length-append}
 use borrow.Author.Tests.{le-ltb, le-leb, ltb-false, leb-true}
 use Rattle.le.specs.Le.{if_then_else_, le2, bytes2, part}
 use Rattle.le.proofs.Inside.{getD-inside, le2-inside, part-inside}
 use Rattle.le.proofs.Laws.{le2-bytes2}
 use Rattle.refusal.specs.declared.Refusal.{Refusal}
-use Rattle.refusal.specs.Writing.{Good, Next, None, counted, goodFrom}
+use Rattle.refusal.specs.Writing.{Next, None, counted, goodFrom}
 use Rattle.refusal.proofs.Laws.{good-first}
 use Rattle.attr.specs.declared.AdsAttribute.{AdsAttribute}
 use Rattle.attr.specs.declared.AttributeAnswer.{AttributeAnswer}
@@ -20,7 +20,7 @@ use Rattle.attr.specs.declared.AttributeAnswer.the-variants.{Record, Ref
 use Rattle.attr.specs.declared.Ending.the-variants.{Fine}
 use Rattle.attr.specs.declared.Attributes.{Attributes}
 use Rattle.attr.specs.declared.Listed.{Listed}
-use Rattle.attr.specs.Attribute.{attributeAt, byAttribute, listed, attributesFrom, attributesAt, attributeNth, nameIn, valueIn}
+use Rattle.attr.specs.Attribute.{attributeAt, byAttribute, listed, attributesFrom, attributesAt}
 use Rattle.attr.specs.Writing.{endsZero, goodAttribute}
 
 abbrev attribute : ℕ → ℕ → ℕ → ℕ → ℕ → AdsAttribute

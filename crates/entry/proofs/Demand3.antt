@@ -2,14 +2,14 @@
 use Prim.Native.Nat.{ℕ, zero, suc, _+_, _-_, _<_, _≤_}
 use native.Mathlib.Omega.{arith}
 use native.Mathlib.Nat.{suc-add}
-use mathlib.Core.Path.{_≡_, refl, sym, ap, _∙_}
+use mathlib.Core.Path.{_≡_, refl, ap, _∙_}
 use mathlib.Core.Bool.{Bool, true, false}
 use mathlib.Core.List.{List, [], _∷_, _++_, append-assoc, append-nil, map}
 use lib.Dec.{ltb, leb, eqb}
 use lib.ListN.{length, take, length-append, length-take}
 use lib.Seq.{take-append-le, take-append-add, take-nil}
 use borrow.Author.Tests.{le-leb, lt-leb, leb-true, leb-false, eqb-true, eqb-false}
-use Rattle.le.specs.Le.{if_then_else_, part}
+use Rattle.le.specs.Le.{part}
 use Rattle.le.proofs.Inside.{part-whole}
 use Rattle.refusal.specs.Refusal.{limit, figuresOf}
 use Rattle.refusal.specs.declared.Refusal.{Refusal}
@@ -18,7 +18,7 @@ use Rattle.entry.specs.declared.Met.the-variants as met
 use Rattle.entry.specs.Entry.{claimAt, claimed, byMet}
 use Rattle.entry.specs.Tells.{Tells, Entry, Refused, End}
 use Rattle.entry.specs.Walk.{stepBy, walk}
-use Rattle.entry.specs.Demand3.{grown, Grown, entryOf, upload, cutFigures, comesBack, cutBack, toldBy, Demand3}
+use Rattle.entry.specs.Demand3.{grown, Grown, entryOf, upload, cutFigures, comesBack, cutBack, Demand3}
 use Rattle.entry.proofs.Whole.{Whole, claim-end, claim-whole, length-cut, cutRefusal, cut-figures, claim-cut, above}
 use Rattle.entry.proofs.Laws.{walk-on}
 

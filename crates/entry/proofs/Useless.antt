@@ -1,17 +1,16 @@
 -- A fit record whose entry is within the limit is enough to shut the useless versions out.
-use Prim.Native.Nat.{ℕ, zero, _<_, _≤_}
+use Prim.Native.Nat.{ℕ, _≤_}
 use native.Mathlib.Omega.{arith}
-use mathlib.Core.Path.{_≡_, sym, ap, _∙_}
+use mathlib.Core.Path.{_≡_, ap}
 use mathlib.Core.Bool.{Bool, true, false}
-use mathlib.Core.List.{List, [], _∷_, _++_, append-nil, map}
+use mathlib.Core.List.{List, [], _∷_, append-nil}
 use lib.Dec.{leb}
-use lib.ListN.{length, drop}
+use lib.ListN.{length}
 use borrow.Author.Tests.{lt-leb}
-use Rattle.le.specs.Le.{if_then_else_}
 use Rattle.refusal.specs.Refusal.{limit}
-use Rattle.entry.specs.Tells.{Tells, Entry, End}
+use Rattle.entry.specs.Tells.{Tells}
 use Rattle.entry.specs.Walk.{walk}
-use Rattle.entry.specs.Demand3.{grown, Grown, entryOf, upload, comesBack, toldBy, Demand3}
+use Rattle.entry.specs.Demand3.{grown, Grown, entryOf, upload, Demand3}
 use Rattle.entry.specs.Useless.{isEntry, ShutsOut}
 
 module _ {R S T : Type 0} (Fit : R → Type 0) (written : R → List ℕ) (meant : R → List ℕ → S) (cursor : T → ℕ) (told : List ℕ → T → Tells S) (g : Grown Fit) (small : length (entryOf Fit written g) ≤ limit) where

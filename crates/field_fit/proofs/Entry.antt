@@ -1,18 +1,18 @@
 -- A written entry, grown by any bytes, is read as the field that was written.
-use Prim.Native.Nat.{ℕ, _+_, _-_, _*_, _<_, _≤_}
+use Prim.Native.Nat.{ℕ, _+_, _-_, _<_, _≤_}
 use native.Mathlib.Omega.{arith}
 use native.Mathlib.Nat.{add-zero}
 use mathlib.Core.Path.{_≡_, refl, sym, ap, _∙_}
 use mathlib.Core.Bool.{Bool, true, false}
-use mathlib.Core.List.{List, [], _∷_, _++_, append-assoc}
+use mathlib.Core.List.{List, [], _++_, append-assoc}
 use lib.ListN.{length, length-append}
 use borrow.Author.Tests.{le-ltb}
-use Rattle.le.specs.Le.{if_then_else_, le2, le4, has}
+use Rattle.le.specs.Le.{if_then_else_, le4, has}
 use Rattle.guid.specs.Guid.{guidAt, zeros16}
 use Rattle.guid.specs.declared.Guid.{Guid}
 use Rattle.guid.proofs.Read.{guid-read}
 use Rattle.attr.specs.declared.Attributes.{Attributes}
-use Rattle.field.specs.Field.{typeGuid, copyMask, methodInfos, attributes, stringsEnd, skipFrom, itemsEnd, attributesAfter, fieldWith, fieldEntry}
+use Rattle.field.specs.Field.{typeGuid, copyMask, attributes, stringsEnd, skipFrom, itemsEnd, attributesAfter, fieldWith, fieldEntry}
 use Rattle.wire.specs.Wire.{attributesOf, entryOf}
 use Rattle.field_writer.specs.Writing.{flagged, guidOf}
 use Rattle.field_fit.specs.Demand3.{Parts, Typed, Fit}

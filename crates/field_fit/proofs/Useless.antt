@@ -3,7 +3,6 @@ use native.Mathlib.Omega.{arith}
 use mathlib.Core.Path.{_≡_, refl}
 use mathlib.Core.Bool.{false}
 use mathlib.Core.List.{[]}
-use lib.ListN.{length}
 use Rattle.refusal.specs.Writing.{Bytes}
 use Rattle.entry.specs.Demand3.{grown, Grown}
 use Rattle.entry.proofs.Useless.{shuts-out}

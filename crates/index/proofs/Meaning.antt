@@ -13,9 +13,6 @@ use Rattle.refusal.specs.declared.Refusal.{Refusal}
 use Rattle.entry.specs.Entry.{claimAt}
 use Rattle.entry.specs.Walk.{stands, stepsFrom, steps, any}
 use Rattle.symbol.specs.Questions.{symbolName}
-use Rattle.symbol.specs.Symbol.{symbolRead}
-use Rattle.symbol.specs.declared.AdsSymbolInfo.{AdsSymbolInfo}
-use Rattle.walk.specs.Told.{cursorOf}
 use Rattle.walk.specs.Walk.{symbolStep}
 use Rattle.walk.specs.declared.Step.{Step}
 use Rattle.walk.specs.declared.Step.the-variants as step
@@ -25,7 +22,7 @@ use Rattle.entry.proofs.Demand3 as walking
 use Rattle.index.specs.Names.{sameName}
 use Rattle.index.specs.Steps.{byRecord, accepted, names, those}
 use Rattle.index.specs.Index.{starts, firstOf, find}
-use Rattle.index.specs.Meaning.{Ascends, done, next, StartsAscend, named, Finds, FoundIsFirst}
+use Rattle.index.specs.Meaning.{Ascends, done, next, StartsAscend, named, FoundIsFirst}
 use Rattle.index.specs.declared.FindAnswer.{FindAnswer}
 use Rattle.index.specs.declared.FindAnswer.the-variants.{Found, Refused}
 use Rattle.index.proofs.Laws.{moves}

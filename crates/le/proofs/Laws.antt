@@ -7,7 +7,7 @@ use Prim.Native.Nat.{ℕ, zero, suc, _+_, _-_, _≤_, _<_}
 use native.Mathlib.Nat.{zero-add, add-zero, add-assoc}
 use native.Mathlib.Numerals.{add-one}
 use native.Mathlib.Omega.{arith}
-use lib.ListN.{length, take, drop, set, getD, length-append, length-take, length-drop, take-append-drop, drop-of-length-le, List·getD-eq-default}
+use lib.ListN.{length, take, drop, set, getD, length-append, length-drop, take-append-drop, drop-of-length-le, List·getD-eq-default}
 use lib.Seq.{take-nil, take-suc-set, getD-drop, sets, sets-eq, take-at, drop-at, drop-drop, length-take-le, take-suc, take-all}
 use Rattle.le.specs.Le.{le2, le4, bytes2, bytes4, part, zeroAt}
 use Rattle.le.specs.Put.{put, Wrote}

@@ -23,7 +23,6 @@ use Rattle.entry.specs.Entry.{claimAt}
 use Rattle.entry.specs.Walk.{stands, stepsFrom, steps}
 use Rattle.entry.proofs.Demand3 as walking
 use Rattle.walk.specs.declared.Stepped.{Stepped}
-use Rattle.walk.specs.declared.Step.the-variants as step
 use Rattle.walk.specs.Walk.{byStep, symbolStep}
 use Rattle.walk.proofs.Kind.{kind}
 use Rattle.digits.specs.Text.{Put}

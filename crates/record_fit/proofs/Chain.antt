@@ -1,10 +1,10 @@
 -- The chain behind a count is read back, whole and record by record.
-use Prim.Native.Nat.{ℕ, zero, suc, _+_, _-_, _<_, _≤_}
+use Prim.Native.Nat.{ℕ, suc, _+_, _-_, _<_, _≤_}
 use native.Mathlib.Omega.{arith}
 use native.Mathlib.Nat.{zero-add}
-use mathlib.Core.Path.{_≡_, refl, ap, ap₂, _∙_, subst}
+use mathlib.Core.Path.{_≡_, ap, _∙_, subst}
 use mathlib.Core.Bool.{false}
-use mathlib.Core.List.{List, [], _∷_, _++_, append-nil, map}
+use mathlib.Core.List.{List, [], _++_, append-nil, map}
 use lib.Dec.{ltb}
 use lib.ListN.{length}
 use borrow.Author.Tests.{lt-ltb, le-ltb, ltb-false}
@@ -14,12 +14,12 @@ use Rattle.refusal.specs.Refusal.{limit}
 use Rattle.refusal.specs.Asked.{Given, asks}
 use Rattle.refusal.specs.Writing.{Bytes, counted, goodFrom}
 use Rattle.refusal.proofs.Asked.{asks-same}
-use Rattle.refusal.proofs.Laws.{passed, check-passed, exact, good-first}
+use Rattle.refusal.proofs.Laws.{passed, check-passed, exact}
 use Rattle.refactor.specs.Refactor.{chainFrom, chainAt, chainRead, chainNth, refactorNth}
 use Rattle.refactor.specs.Writing.{goodRefactor, refactorsChecked, blockWriting}
-use Rattle.refactor.specs.Told.{renamingOf, renamingTold, renamingsIn}
+use Rattle.refactor.specs.Told.{renamingTold, renamingsIn}
 use Rattle.refactor.proofs.Asked.{asks-read}
-use Rattle.refactor.proofs.Read.{good-record, whole, chain-read}
+use Rattle.refactor.proofs.Read.{whole, chain-read}
 use Rattle.record_fit.specs.Refactors.{Back, EntriesReadBack}
 
 -- the records of a good block, asked for by number

@@ -8,8 +8,8 @@ use mathlib.Core.Bool.{Bool, true, false}
 use mathlib.Core.List.{List, _++_}
 use lib.Dec.{ltb}
 use lib.ListN.{length, length-append}
-use borrow.Author.Tests.{le-ltb, lt-ltb, ltb-false}
-use Rattle.le.specs.Le.{if_then_else_, le2, le4, bytes2, bytes4}
+use borrow.Author.Tests.{le-ltb, ltb-false}
+use Rattle.le.specs.Le.{if_then_else_, le2, le4, bytes2}
 use Rattle.refusal.specs.Writing.{Bytes, Next, None}
 use Rattle.refusal.specs.Refusal.{limit}
 use Rattle.refusal.specs.declared.Checked.the-variants as checked

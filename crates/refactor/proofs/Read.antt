@@ -1,5 +1,5 @@
 -- A block of good refactor records that stands anywhere in an entry is a whole chain, and each is found by its number.
-use Prim.Native.Nat.{ℕ, zero, suc, _+_, _-_, _<_, _≤_}
+use Prim.Native.Nat.{ℕ, zero, suc, _+_, _-_, _≤_}
 use native.Mathlib.Omega.{arith}
 use native.Mathlib.Nat.{add-zero, zero-add}
 use mathlib.Core.Path.{_≡_, refl, sym, ap, ap₂, _∙_}
@@ -8,9 +8,8 @@ use mathlib.Core.List.{List, _++_}
 use lib.Dec.{ltb, eqb}
 use lib.ListN.{length, length-append}
 use borrow.Author.Tests.{le-ltb, lt-ltb, ltb-false}
-use Rattle.le.specs.Le.{if_then_else_, le2, le4, has, part, zeroAt}
+use Rattle.le.specs.Le.{if_then_else_, le2, le4, part}
 use Rattle.le.proofs.Inside.{le2-inside, le4-inside, part-inside}
-use Rattle.refusal.specs.declared.Refusal.{Refusal}
 use Rattle.refusal.specs.Writing.{Good, Next, None, counted, goodFrom}
 use Rattle.refusal.proofs.Laws.{good-first}
 use Rattle.refactor.specs.declared.AdsRefactorInfo.{AdsRefactorInfo}
@@ -19,7 +18,7 @@ use Rattle.refactor.specs.declared.RefactorAnswer.the-variants.{Record, 
 use Rattle.refactor.specs.declared.Chain.{Chain}
 use Rattle.refactor.specs.declared.ChainAnswer.{ChainAnswer}
 use Rattle.refactor.specs.declared.ChainAnswer.the-variants as chain
-use Rattle.refactor.specs.Refactor.{refactorAt, refactorOf, byRefactor, chainFrom, chainAt, chainSection, refactorNth, nameIn}
+use Rattle.refactor.specs.Refactor.{refactorAt, refactorOf, byRefactor, chainFrom, chainAt, chainSection}
 use Rattle.refactor.specs.Writing.{goodRecord, goodRefactor}
 use Rattle.refactor.proofs.Laws.{passed, chain-step}
 

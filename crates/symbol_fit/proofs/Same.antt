@@ -3,9 +3,7 @@ use Prim.Native.Nat.{ℕ, _+_, _-_, _<_, _≤_}
 use native.Mathlib.Omega.{arith}
 use native.Mathlib.Nat.{add-zero, zero-add}
 use mathlib.Core.Path.{_≡_, refl, sym, ap, _∙_}
-use mathlib.Core.Bool.{Bool, true, false}
 use mathlib.Core.List.{List, _++_, append-assoc, map}
-use mathlib.Core.Option.{Option, none, some}
 use lib.ListN.{length, length-append}
 use borrow.Author.Tests.{lt-ltb}
 use Rattle.le.specs.Le.{if_then_else_, part}
@@ -27,7 +25,7 @@ use Rattle.refactor.proofs.Asked.{asks-read}
 use Rattle.refactor.proofs.Read.{beq}
 use Rattle.guid.specs.Guid.{zeros16}
 use Rattle.guid.proofs.Read.{guid-told}
-use Rattle.symbol.specs.Symbol.{typeGuid, attributes, extendedFlags, infoRecord, infoOf, symbolRead}
+use Rattle.symbol.specs.Symbol.{typeGuid, attributes, infoRecord, infoOf, symbolRead}
 use Rattle.symbol.specs.Questions.{symbolName, symbolTypeName, symbolComment, symbolAttribute, symbolRefactor}
 use Rattle.symbol.specs.declared.AdsSymbolInfo.{AdsSymbolInfo}
 use Rattle.walk.specs.Walk.{entry}

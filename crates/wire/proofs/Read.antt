@@ -1,18 +1,17 @@
 -- Entries that were written, grown by any bytes, are whole; and what their checks passed.
 use Prim.Native.Nat.{ℕ, _+_, _-_, _<_, _≤_}
 use native.Mathlib.Omega.{arith}
-use mathlib.Core.Path.{_≡_, refl, sym, ap, _∙_}
+use mathlib.Core.Path.{_≡_, refl, ap, _∙_}
 use mathlib.Core.Bool.{Bool, true, false}
 use mathlib.Core.List.{List, [], _∷_, _++_, append-assoc}
 use lib.Dec.{ltb}
-use lib.ListN.{length, drop, length-append}
+use lib.ListN.{length, length-append}
 use borrow.Author.Tests.{ltb-false}
-use Rattle.le.specs.Le.{if_then_else_, le4, bytes2, bytes4, part}
+use Rattle.le.specs.Le.{if_then_else_, bytes4, part}
 use Rattle.le.proofs.Laws.{le4-bytes4}
 use Rattle.le.proofs.Inside.{part-whole}
 use Rattle.refusal.specs.Refusal.{limit}
-use Rattle.refusal.specs.Writing.{Writing, Bytes, Refuse, counted, goodFrom}
-use Rattle.refusal.specs.declared.Refusal.{Refusal}
+use Rattle.refusal.specs.Writing.{Bytes, counted, goodFrom}
 use Rattle.refusal.specs.declared.Refusal.the-variants.{TooLarge}
 use Rattle.refusal.specs.declared.Checked.{Checked}
 use Rattle.refusal.specs.declared.Checked.the-variants.{Passed, Refused}
@@ -20,7 +19,7 @@ use Rattle.refusal.proofs.Laws.{passed, exact}
 use Rattle.attr.specs.Writing.{goodAttribute, attributesChecked}
 use Rattle.entry.specs.Demand3.{grown}
 use Rattle.entry.proofs.Whole.{Whole}
-use Rattle.wire.specs.Wire.{stringOf, stringsOf, tooLong, thenCheck, blockChecked, entryOf, entryWriting}
+use Rattle.wire.specs.Wire.{stringsOf, tooLong, thenCheck, blockChecked, entryOf, entryWriting}
 
 -- an entry, and one that is grown
 pub grown-entry : (rest extra : List ℕ) → grown (entryOf rest) extra ≡ entryOf (rest ++ extra)
