@@ -1,21 +1,24 @@
--- Every attribute that is shown lies inside the bytes, and so does the place that is reached.
+-- Every attribute that is shown lies inside the bytes, and so do the place that is reached and the places of an answer's strings.
 use Prim.Native.Nat.{ℕ, zero, suc, _+_, _-_, _<_, _≤_}
 use native.Mathlib.Omega.{arith}
 use native.Mathlib.Nat.{zero-add}
 use mathlib.Core.Path.{_≡_, refl, ap}
 use mathlib.Core.Bool.{Bool, true, false}
 use mathlib.Core.List.{List}
-use lib.Dec.{leb}
+use lib.Dec.{leb, ltb}
 use lib.ListN.{length, getD}
 use borrow.Author.Tests.{leb-true}
 use Rattle.le.specs.Le.{if_then_else_, le2}
+use Rattle.refusal.specs.Refusal.{limit}
+use Rattle.refusal.specs.declared.Refusal.{Refusal}
+use Rattle.refusal.specs.declared.Refusal.the-variants.{TooLarge}
 use Rattle.attr.specs.declared.AdsAttribute.{AdsAttribute}
 use Rattle.attr.specs.declared.AttributeAnswer.{AttributeAnswer}
 use Rattle.attr.specs.declared.AttributeAnswer.the-variants.{Record, Refused}
 use Rattle.attr.specs.declared.Attributes.{Attributes}
 use Rattle.attr.specs.declared.Ending.the-variants.{Fine, Stopped}
 use Rattle.attr.specs.declared.Listed.{Listed}
-use Rattle.attr.specs.Attribute.{attributeAt, byAttribute, listed, attributesFrom, attributesAt, attributeNth}
+use Rattle.attr.specs.Attribute.{attributeAt, attributeRead, nameAt, valueAt, byAttribute, listed, attributesFrom, attributesAt, attributeNth}
 use Rattle.attr.specs.Inside.{Inside}
 use Rattle.attr.proofs.Read as read
 
@@ -93,3 +96,41 @@ module _ (s : List ℕ) (at : ℕ) where
   unfolding attributesAt
   attributes-end true h = counted-end (leb 2 (length s - at)) refl h
   attributes-end false h = (h, h)
+
+-- the strings of an answer begin inside the bytes
+abbrev pub Begun : List ℕ → AttributeAnswer → Type 0
+Begun s t = (nameAt t ≤ length s) × (valueAt t ≤ length s)
+
+begun : (s : List ℕ) (at : ℕ) (t : AttributeAnswer) → attributeAt s at ≡ t → Begun s t
+unfolding lies
+begun s at (Record a) e =
+    let i = lies s at a e in
+    let n : a .name + a .«name_len» < a .value = i .name in
+    let v : a .value + a .«value_len» < a .next = i .value in
+    let w : a .next ≤ length s = i .whole in
+    let m : a .name ≤ length s = omega arith in
+    let k : a .value ≤ length s = omega arith in
+    (m, k)
+begun s at (Refused why) e = (omega arith, omega arith)
+
+read-within : (s : List ℕ) (large : Bool) → Begun s (if large then Refused (TooLarge (length s)) else attributeAt s 0)
+read-within s true = (omega arith, omega arith)
+read-within s false = begun s 0 (attributeAt s 0) refl
+
+pub read-begun : (s : List ℕ) → Begun s (attributeRead s)
+unfolding attributeRead
+read-begun s = read-within s (ltb limit (length s))
+
+next-begun : (s : List ℕ) (k : ℕ) → ((n : ℕ) → Begun s (attributeNth s n k)) → (t : AttributeAnswer) → Begun s (byAttribute t (λ a. attributeNth s (a .next) k) Refused)
+next-begun s k rest (Record a) = rest (a .next)
+next-begun s k rest (Refused why) = (omega arith, omega arith)
+
+nth-begun : (s : List ℕ) (k at : ℕ) → Begun s (attributeNth s at k)
+unfolding attributeNth
+nth-begun s zero at = begun s at (attributeAt s at) refl
+nth-begun s (suc k) at = next-begun s k (nth-begun s k) (attributeAt s at)
+
+-- of an attribute that is asked for by its number
+pub asked-begun : (s : List ℕ) (at k : ℕ) (why : Refusal) (shown : Bool) → Begun s (if shown then attributeNth s at k else Refused why)
+asked-begun s at k why true = nth-begun s k at
+asked-begun s at k why false = (omega arith, omega arith)

@@ -39,6 +39,15 @@ abbrev pub valueIn : List ℕ → AttributeAnswer → List ℕ
 valueIn s (Record a) = part s (a .value) (a .«value_len»)
 valueIn s (Refused why) = []
 
+-- where each begins; of a refused record, at the start
+abbrev pub nameAt : AttributeAnswer → ℕ
+nameAt (Record a) = a .name
+nameAt (Refused why) = 0
+
+abbrev pub valueAt : AttributeAnswer → ℕ
+valueAt (Record a) = a .value
+valueAt (Refused why) = 0
+
 abbrev pub byAttribute : {A : Type 0} → AttributeAnswer → (AdsAttribute → A) → (Refusal → A) → A
 byAttribute (Record a) on stop = on a
 byAttribute (Refused why) on stop = stop why

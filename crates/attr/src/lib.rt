@@ -4,7 +4,8 @@ use refusal::Counted;
 use refusal::Refusal;
 ghost use mathlib.Core.Path.{_≡_};
 ghost use Prim.Native.Nat.{_+_};
-ghost use Rattle.attr.specs.Attribute.{attributeAt, nameIn, valueIn, attributesFrom, attributesAt, attributeNth};
+ghost use Rattle.le.specs.Place.{Behind, begins};
+ghost use Rattle.attr.specs.Attribute.{attributeAt, nameIn, valueIn, nameAt, valueAt, attributesFrom, attributesAt, attributeNth};
 ghost use Rattle.attr.specs.Writing.{attributesChecked, endsZero, goodAttribute};
 ghost use Rattle.refusal.specs.Writing.{goodFrom};
 
@@ -88,6 +89,7 @@ fn sum(n: u8, v: u8) -> usize
 
 pub fn name_in(s: &[u8], answer: AttributeAnswer) -> &[u8]
     ensures { λ r. ⌜ now r ≡ nameIn (now (s .entry)) answer ⌝ }
+    ensures { λ r. ⌜ Behind (s .entry) r (begins (now (s .entry)) (nameAt answer)) ⌝ }
 {
     match answer {
         AttributeAnswer::Record(a) => le::part_of(s, a.name, wide(a.name_len)),
@@ -97,6 +99,7 @@ pub fn name_in(s: &[u8], answer: AttributeAnswer) -> &[u8]
 
 pub fn value_in(s: &[u8], answer: AttributeAnswer) -> &[u8]
     ensures { λ r. ⌜ now r ≡ valueIn (now (s .entry)) answer ⌝ }
+    ensures { λ r. ⌜ Behind (s .entry) r (begins (now (s .entry)) (valueAt answer)) ⌝ }
 {
     match answer {
         AttributeAnswer::Record(a) => le::part_of(s, a.value, wide(a.value_len)),

@@ -5,7 +5,8 @@ use refusal::Refusal;
 use refusal::Written;
 ghost use mathlib.Core.Path.{_≡_};
 ghost use Prim.Native.Nat.{_+_};
-ghost use Rattle.attr.specs.Attribute.{attributeRead, nameIn, valueIn};
+ghost use Rattle.le.specs.Place.{Behind};
+ghost use Rattle.attr.specs.Attribute.{attributeRead, nameIn, valueIn, nameAt, valueAt};
 ghost use Rattle.attr.specs.Writing.{attributeWriting};
 ghost use Rattle.refusal.specs.Writing.{Writes};
 
@@ -21,12 +22,14 @@ pub fn try_from_slice(bytes: &[u8]) -> AttributeAnswer
 
 pub fn name(bytes: &[u8]) -> &[u8]
     ensures { λ r. ⌜ now r ≡ nameIn (now (bytes .entry)) (attributeRead (now (bytes .entry))) ⌝ }
+    ensures { λ r. ⌜ Behind (bytes .entry) r (nameAt (attributeRead (now (bytes .entry)))) ⌝ }
 {
     attr::name_in(bytes, try_from_slice(bytes))
 }
 
 pub fn value(bytes: &[u8]) -> &[u8]
     ensures { λ r. ⌜ now r ≡ valueIn (now (bytes .entry)) (attributeRead (now (bytes .entry))) ⌝ }
+    ensures { λ r. ⌜ Behind (bytes .entry) r (valueAt (attributeRead (now (bytes .entry)))) ⌝ }
 {
     attr::value_in(bytes, try_from_slice(bytes))
 }

@@ -3,7 +3,7 @@ use Prim.Native.Nat.{ℕ, _≤_}
 use native.Mathlib.Omega.{arith}
 use mathlib.Core.Path.{_≡_}
 use mathlib.Core.List.{List, []}
-use lib.ListN.{length}
+use lib.ListN.{length, length-take}
 use lib.Seq.{take-length}
 use borrow.Author.Tests.{le-ltb}
 use Rattle.le.specs.Le.{part}
@@ -32,6 +32,16 @@ module _ (header : ℕ) (e : List ℕ) (w : Whole e) (long : header ≤ length e
   pub own-whole : ownBytes header e ≡ e
   unfolding ownBytes
   own-whole = simp (direct-whole, part-all)
+
+own-within : (s : List ℕ) (c : Claim) → length (byClaim c (λ size. part s 0 size) (λ why. [])) ≤ length s
+unfolding part
+own-within s (claim.Entry size) = omega (arith, length-take size s)
+own-within s (claim.Refused why) = omega arith
+
+-- an entry's own bytes are no more than the bytes given
+pub own-short : (header : ℕ) (s : List ℕ) → length (ownBytes header s) ≤ length s
+unfolding ownBytes
+own-short header s = own-within s (directClaim header s)
 
 -- what is accepted by a direct parse is what the entry's own bytes give, for an answer that no refusal is
 module _ {A : Type 0} (entry : List ℕ → A) (refused : Refusal → A) (Accepted : A → Type 0) (never : (why : Refusal) → Accepted (refused why) → ⊥) where

@@ -1,6 +1,7 @@
 // Where an entry of an upload begins and ends: its first four bytes claim its length.
 use refusal::Refusal;
 ghost use mathlib.Core.Path.{_≡_};
+ghost use Rattle.le.specs.Place.{Behind};
 ghost use Rattle.entry.specs.Entry.{claimAt, directClaim, ownBytes};
 ghost use Rattle.entry.specs.Walk.{boundedWalk};
 
@@ -106,6 +107,7 @@ pub fn direct_claim(bytes: &[u8], header: usize) -> Claim
 // The entry's own bytes, none where a direct parse refuses them: what stands after the claim is invisible.
 pub fn own_bytes(bytes: &[u8], header: usize) -> &[u8]
     ensures { λ r. ⌜ now r ≡ ownBytes header (now (bytes .entry)) ⌝ }
+    ensures { λ r. ⌜ Behind (bytes .entry) r 0 ⌝ }
 {
     match direct_claim(bytes, header) {
         Claim::Entry(size) => le::part_of(bytes, 0, size),

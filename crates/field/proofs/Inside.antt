@@ -1,5 +1,5 @@
 -- Every place that an accepted field tells lies inside its entry, and what it shows comes back by number: proved.
-use Prim.Native.Nat.{ℕ, _<_, _≤_}
+use Prim.Native.Nat.{ℕ, _+_, _<_, _≤_}
 use native.Mathlib.Omega.{arith}
 use mathlib.Core.Path.{_≡_, refl, subst}
 use mathlib.Core.Bool.{Bool, true, false}
@@ -7,22 +7,25 @@ use mathlib.Core.List.{List}
 use lib.Dec.{ltb}
 use lib.ListN.{length}
 use borrow.Author.Tests.{ltb-false, lt-ltb, le-ltb}
-use Rattle.le.specs.Le.{le4, has}
+use Rattle.le.specs.Le.{if_then_else_, le4, has}
 use Rattle.refusal.specs.declared.Refusal.{Refusal}
+use Rattle.refusal.specs.declared.Refusal.the-variants.{NoSuchNumber}
 use Rattle.entry.specs.Entry.{ownBytes}
-use Rattle.entry.proofs.Direct.{own-accepted}
+use Rattle.entry.proofs.Direct.{own-accepted, own-short}
 use Rattle.guid.specs.Guid.{guidAt}
 use Rattle.guid.specs.declared.Guid.{Guid}
 use Rattle.attr.specs.Attribute.{attributeNth}
 use Rattle.attr.specs.Inside as attribute
 use Rattle.attr.specs.declared.Ending.{Ending}
 use Rattle.attr.specs.declared.Ending.the-variants.{Fine, Stopped}
-use Rattle.attr.proofs.Shown.{attributes-inside}
+use Rattle.attr.specs.declared.AttributeAnswer.the-variants as attribute-answer
+use Rattle.attr.proofs.Shown.{attributes-inside, Begun, asked-begun}
 use Rattle.field.specs.declared.AdsFieldInfo.{AdsFieldInfo}
-use Rattle.field.specs.declared.FieldAnswer.the-variants.{Record}
+use Rattle.field.specs.declared.FieldAnswer.{FieldAnswer}
+use Rattle.field.specs.declared.FieldAnswer.the-variants.{Record, Refused}
 use Rattle.field.specs.declared.FieldRead.{FieldRead}
 use Rattle.field.specs.Field.{typeGuid, copyMask, methodInfos, attributes, stringsEnd, itemsEnd, maskEnd, methodsEnd, attributesAfter, infoOf, refused, byEnding, fieldWith, fieldEntry, fieldRead}
-use Rattle.field.specs.Questions.{fieldAttribute}
+use Rattle.field.specs.Questions.{byField, fieldAttribute}
 use Rattle.field.specs.Inside.{Inside, FieldsInside, FieldsShown}
 
 -- the attributes lie inside wherever the sections before them end
@@ -74,3 +77,20 @@ fields-shown s info h =
       attributes = λ k j. simp (h, lt-ltb k (info .attributes .count) j) (i .attributes k j);
       no-attribute = λ k j. simp (h, le-ltb k (info .attributes .count) j);
     }
+
+-- the three strings stand in the bytes given
+pub strings-there : (s : List ℕ) (info : AdsFieldInfo) → fieldRead s .answer ≡ Record info → 45 + info .«name_len» + info .«type_name_len» + info .«comment_len» ≤ length s
+strings-there s info h = omega (arith, fields-shown s info h .inside .strings, own-short 42 s)
+
+-- what is asked for by number begins inside the entry
+attribute-of : (s : List ℕ) (k : ℕ) (t : FieldAnswer)
+    → Begun (ownBytes 42 s) (byField t
+    (λ r. if ltb k (r .attributes .count) then attributeNth (ownBytes 42 s) (r .attributes .first) k
+    else attribute-answer.Refused (NoSuchNumber (r .attributes .count) k))
+    attribute-answer.Refused)
+attribute-of s k (Record r) = asked-begun (ownBytes 42 s) (r .attributes .first) k (NoSuchNumber (r .attributes .count) k) (ltb k (r .attributes .count))
+attribute-of s k (Refused why) = (omega arith, omega arith)
+
+pub attribute-begun : (s : List ℕ) (k : ℕ) → Begun (ownBytes 42 s) (fieldAttribute s k)
+unfolding fieldAttribute
+attribute-begun s k = attribute-of s k (fieldRead s .answer)

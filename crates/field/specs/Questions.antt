@@ -38,6 +38,16 @@ fieldTypeName s = byField (fieldRead s .answer) (λ r. part s (typeNameAt r) (r 
 unfoldable pub fieldComment : List ℕ → List ℕ
 fieldComment s = byField (fieldRead s .answer) (λ r. part s (commentAt r) (r .«comment_len»)) (λ why. [])
 
+-- where they begin; at the start where the reader refuses
+unfoldable pub fieldNameAt : List ℕ → ℕ
+fieldNameAt s = byField (fieldRead s .answer) (λ r. nameAt) (λ why. 0)
+
+unfoldable pub fieldTypeNameAt : List ℕ → ℕ
+fieldTypeNameAt s = byField (fieldRead s .answer) typeNameAt (λ why. 0)
+
+unfoldable pub fieldCommentAt : List ℕ → ℕ
+fieldCommentAt s = byField (fieldRead s .answer) commentAt (λ why. 0)
+
 -- the reading refusals, then 14
 unfoldable pub fieldAttribute : List ℕ → ℕ → AttributeAnswer
 fieldAttribute s number =

@@ -5,9 +5,10 @@ use field::FieldAnswer;
 use field::FieldRead;
 use refusal::Refusal;
 ghost use mathlib.Core.Path.{_≡_};
+ghost use Rattle.le.specs.Place.{Behind};
 ghost use Rattle.field.specs.Field.{fieldRead};
-ghost use Rattle.field.specs.Questions.{fieldName, fieldTypeName, fieldComment, fieldAttribute};
-ghost use Rattle.attr.specs.Attribute.{nameIn, valueIn};
+ghost use Rattle.field.specs.Questions.{fieldName, fieldTypeName, fieldComment, fieldNameAt, fieldTypeNameAt, fieldCommentAt, fieldAttribute};
+ghost use Rattle.attr.specs.Attribute.{nameIn, valueIn, nameAt, valueAt};
 ghost use Rattle.entry.specs.Entry.{ownBytes};
 
 pub fn try_from_slice(bytes: &[u8]) -> FieldRead
@@ -21,6 +22,7 @@ pub fn try_from_slice(bytes: &[u8]) -> FieldRead
 
 pub fn name(bytes: &[u8]) -> &[u8]
     ensures { λ r. ⌜ now r ≡ fieldName (now (bytes .entry)) ⌝ }
+    ensures { λ r. ⌜ Behind (bytes .entry) r (fieldNameAt (now (bytes .entry))) ⌝ }
 {
     match answer_to(bytes) {
         FieldAnswer::Record(r) => le::part_of(bytes, 42, le::wide(r.name_len)),
@@ -30,6 +32,7 @@ pub fn name(bytes: &[u8]) -> &[u8]
 
 pub fn type_name(bytes: &[u8]) -> &[u8]
     ensures { λ r. ⌜ now r ≡ fieldTypeName (now (bytes .entry)) ⌝ }
+    ensures { λ r. ⌜ Behind (bytes .entry) r (fieldTypeNameAt (now (bytes .entry))) ⌝ }
 {
     match answer_to(bytes) {
         FieldAnswer::Record(r) => {
@@ -41,6 +44,7 @@ pub fn type_name(bytes: &[u8]) -> &[u8]
 
 pub fn comment(bytes: &[u8]) -> &[u8]
     ensures { λ r. ⌜ now r ≡ fieldComment (now (bytes .entry)) ⌝ }
+    ensures { λ r. ⌜ Behind (bytes .entry) r (fieldCommentAt (now (bytes .entry))) ⌝ }
 {
     match answer_to(bytes) {
         FieldAnswer::Record(r) => {
@@ -71,12 +75,14 @@ pub fn attribute(bytes: &[u8], number: usize) -> AttributeAnswer
 
 pub fn attribute_name(bytes: &[u8], number: usize) -> &[u8]
     ensures { λ r. ⌜ now r ≡ nameIn (ownBytes 42 (now (bytes .entry))) (fieldAttribute (now (bytes .entry)) number) ⌝ }
+    ensures { λ r. ⌜ Behind (bytes .entry) r (nameAt (fieldAttribute (now (bytes .entry)) number)) ⌝ }
 {
     attr::name_in(entry::own_bytes(bytes, 42), attribute(bytes, number))
 }
 
 pub fn attribute_value(bytes: &[u8], number: usize) -> &[u8]
     ensures { λ r. ⌜ now r ≡ valueIn (ownBytes 42 (now (bytes .entry))) (fieldAttribute (now (bytes .entry)) number) ⌝ }
+    ensures { λ r. ⌜ Behind (bytes .entry) r (valueAt (fieldAttribute (now (bytes .entry)) number)) ⌝ }
 {
     attr::value_in(entry::own_bytes(bytes, 42), attribute(bytes, number))
 }

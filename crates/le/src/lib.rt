@@ -4,6 +4,7 @@ ghost use mathlib.Core.List.{_∷_, []};
 ghost use Prim.Native.Nat.{_+_, _-_, _*_, _≤_};
 ghost use lib.ListN.{length, getD};
 ghost use Rattle.le.specs.Le.{le2, le4, bytes2, bytes4, part, zeroAt};
+ghost use Rattle.le.specs.Place.{Behind, begins};
 ghost use Rattle.le.specs.Put.{Wrote};
 
 fn join2(a: u8, b: u8) -> u16
@@ -65,6 +66,7 @@ pub fn room(end: usize, at: usize) -> usize
 
 pub fn part_of(s: &[u8], at: usize, n: usize) -> &[u8]
     ensures { λ r. ⌜ now r ≡ part (now (s .entry)) at n ⌝ }
+    ensures { λ r. ⌜ Behind (s .entry) r (begins (now (s .entry)) at) ⌝ }
 {
     if at <= s.len() {
         if n <= s.len() - at {

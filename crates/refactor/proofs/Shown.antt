@@ -1,4 +1,4 @@
--- Every record of a chain that is shown lies inside the bytes, and so does the place that is reached.
+-- Every record of a chain that is shown lies inside the bytes, and so do the place that is reached and the place of an answer's name.
 use Prim.Native.Nat.{ℕ, zero, suc, _+_, _-_, _<_, _≤_}
 use native.Mathlib.Omega.{arith}
 use native.Mathlib.Nat.{zero-add}
@@ -8,13 +8,16 @@ use mathlib.Core.List.{List}
 use lib.Dec.{ltb}
 use lib.ListN.{length}
 use Rattle.le.specs.Le.{if_then_else_, le2}
+use Rattle.refusal.specs.Refusal.{limit}
+use Rattle.refusal.specs.declared.Refusal.{Refusal}
+use Rattle.refusal.specs.declared.Refusal.the-variants.{TooLarge, NoSuchNumber}
 use Rattle.refactor.specs.declared.AdsRefactorInfo.{AdsRefactorInfo}
 use Rattle.refactor.specs.declared.RefactorAnswer.{RefactorAnswer}
 use Rattle.refactor.specs.declared.RefactorAnswer.the-variants.{Record, Refused}
 use Rattle.refactor.specs.declared.Chain.{Chain}
 use Rattle.refactor.specs.declared.ChainAnswer.{ChainAnswer}
 use Rattle.refactor.specs.declared.ChainAnswer.the-variants as chain
-use Rattle.refactor.specs.Refactor.{refactorAt, chainFrom, chainAt, keptChain, chainSection, refactorNth}
+use Rattle.refactor.specs.Refactor.{refactorAt, refactorRead, nameAt, byRefactor, chainFrom, chainAt, chainRead, byChain, keptChain, chainSection, refactorNth, chainNth}
 use Rattle.refactor.specs.Inside.{Inside}
 use Rattle.refactor.proofs.Laws.{chainBy, record-inside}
 use Rattle.refactor.proofs.Read as read
@@ -79,3 +82,45 @@ module _ (s : List ℕ) (at : ℕ) (h : at ≤ length s) where
 
   pub chain-end : (flagged : Bool) → (at ≤ chainSection s at flagged .next) × (chainSection s at flagged .next ≤ length s)
   chain-end flagged = let c = section flagged in (c .from, c .next)
+
+-- the name of an answer begins inside the bytes
+begun : (s : List ℕ) (at : ℕ) (t : RefactorAnswer) → refactorAt s at ≡ t → nameAt t ≤ length s
+unfolding lies
+begun s at (Record r) e =
+    let i = lies s at r e in
+    let n : r .name + r .«name_len» < r .next = i .name in
+    let w : r .next ≤ length s = i .whole in
+    let m : r .name ≤ length s = omega arith in
+    m
+begun s at (Refused why) e = omega arith
+
+read-within : (s : List ℕ) (large : Bool) → nameAt (if large then Refused (TooLarge (length s)) else refactorAt s 0) ≤ length s
+read-within s true = omega arith
+read-within s false = begun s 0 (refactorAt s 0) refl
+
+pub read-begun : (s : List ℕ) → nameAt (refactorRead s) ≤ length s
+unfolding refactorRead
+read-begun s = read-within s (ltb limit (length s))
+
+next-begun : (s : List ℕ) (k : ℕ) → ((n : ℕ) → nameAt (refactorNth s n k) ≤ length s) → (t : RefactorAnswer) → nameAt (byRefactor t (λ r. refactorNth s (r .next) k) Refused) ≤ length s
+next-begun s k rest (Record r) = rest (r .next)
+next-begun s k rest (Refused why) = omega arith
+
+nth-begun : (s : List ℕ) (k at : ℕ) → nameAt (refactorNth s at k) ≤ length s
+unfolding refactorNth
+nth-begun s zero at = begun s at (refactorAt s at) refl
+nth-begun s (suc k) at = next-begun s k (nth-begun s k) (refactorAt s at)
+
+-- of a record that is asked for by its number
+pub asked-begun : (s : List ℕ) (at k : ℕ) (why : Refusal) (shown : Bool) → nameAt (if shown then refactorNth s at k else Refused why) ≤ length s
+asked-begun s at k why true = nth-begun s k at
+asked-begun s at k why false = omega arith
+
+chained : (s : List ℕ) (k : ℕ) (t : ChainAnswer) → nameAt (byChain t (λ c. if ltb k (c .count) then refactorNth s 0 k else Refused (NoSuchNumber (c .count) k)) Refused) ≤ length s
+chained s k (chain.Whole c) = asked-begun s 0 k (NoSuchNumber (c .count) k) (ltb k (c .count))
+chained s k (chain.Refused why) = omega arith
+
+-- of a record of a chain that stands alone
+pub chain-begun : (s : List ℕ) (k : ℕ) → nameAt (chainNth s k) ≤ length s
+unfolding chainNth
+chain-begun s k = chained s k (chainRead s)

@@ -43,6 +43,11 @@ abbrev pub nameIn : List ℕ → RefactorAnswer → List ℕ
 nameIn s (Record r) = part s (r .name) (r .«name_len»)
 nameIn s (Refused why) = []
 
+-- where it begins; of a refused record, at the start
+abbrev pub nameAt : RefactorAnswer → ℕ
+nameAt (Record r) = r .name
+nameAt (Refused why) = 0
+
 abbrev pub byRefactor : {A : Type 0} → RefactorAnswer → (AdsRefactorInfo → A) → (Refusal → A) → A
 byRefactor (Record r) on stop = on r
 byRefactor (Refused why) on stop = stop why

@@ -4,7 +4,8 @@ use refusal::Counted;
 use refusal::Refusal;
 ghost use mathlib.Core.Path.{_≡_};
 ghost use Prim.Native.Nat.{_+_};
-ghost use Rattle.refactor.specs.Refactor.{refactorAt, nameIn, chainAt, chainSection, keptChain, refactorNth};
+ghost use Rattle.le.specs.Place.{Behind, begins};
+ghost use Rattle.refactor.specs.Refactor.{refactorAt, nameIn, nameAt, chainAt, chainSection, keptChain, refactorNth};
 ghost use Rattle.refactor.specs.Writing.{goodRecord, goodRefactor, refactorsChecked};
 ghost use Rattle.refusal.specs.Writing.{goodFrom};
 
@@ -72,6 +73,7 @@ pub fn refactor_at(s: &[u8], at: usize) -> RefactorAnswer
 
 pub fn name_in(s: &[u8], answer: RefactorAnswer) -> &[u8]
     ensures { λ r. ⌜ now r ≡ nameIn (now (s .entry)) answer ⌝ }
+    ensures { λ r. ⌜ Behind (s .entry) r (begins (now (s .entry)) (nameAt answer)) ⌝ }
 {
     match answer {
         RefactorAnswer::Record(r) => le::part_of(s, r.name, le::wide(r.name_len)),

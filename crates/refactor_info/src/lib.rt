@@ -7,7 +7,8 @@ use refusal::Refusal;
 use refusal::Written;
 ghost use mathlib.Core.Path.{_≡_};
 ghost use Prim.Native.Nat.{_+_};
-ghost use Rattle.refactor.specs.Refactor.{refactorRead, nameIn, chainRead, chainNth};
+ghost use Rattle.le.specs.Place.{Behind};
+ghost use Rattle.refactor.specs.Refactor.{refactorRead, nameIn, nameAt, chainRead, chainNth};
 ghost use Rattle.refactor.specs.Writing.{packedOf, refactorWriting, blockWriting};
 ghost use Rattle.refusal.specs.Writing.{Writes};
 
@@ -23,6 +24,7 @@ pub fn try_from_slice(bytes: &[u8]) -> RefactorAnswer
 
 pub fn name(bytes: &[u8]) -> &[u8]
     ensures { λ r. ⌜ now r ≡ nameIn (now (bytes .entry)) (refactorRead (now (bytes .entry))) ⌝ }
+    ensures { λ r. ⌜ Behind (bytes .entry) r (nameAt (refactorRead (now (bytes .entry)))) ⌝ }
 {
     refactor::name_in(bytes, try_from_slice(bytes))
 }
@@ -115,6 +117,7 @@ pub fn chain_record(bytes: &[u8], number: usize) -> RefactorAnswer
 
 pub fn chain_name(bytes: &[u8], number: usize) -> &[u8]
     ensures { λ r. ⌜ now r ≡ nameIn (now (bytes .entry)) (chainNth (now (bytes .entry)) number) ⌝ }
+    ensures { λ r. ⌜ Behind (bytes .entry) r (nameAt (chainNth (now (bytes .entry)) number)) ⌝ }
 {
     refactor::name_in(bytes, chain_record(bytes, number))
 }

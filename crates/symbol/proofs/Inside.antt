@@ -9,17 +9,23 @@ use lib.ListN.{length}
 use borrow.Author.Tests.{leb-true, ltb-false, lt-ltb, le-ltb}
 use Rattle.le.specs.Le.{if_then_else_, le2, le4, has, part}
 use Rattle.refusal.specs.declared.Refusal.{Refusal}
+use Rattle.refusal.specs.declared.Refusal.the-variants.{NoSuchNumber}
 use Rattle.entry.specs.Entry.{ownBytes}
-use Rattle.entry.proofs.Direct.{own-accepted}
+use Rattle.entry.proofs.Direct.{own-accepted, own-short}
 use Rattle.guid.specs.Guid.{guidAt, absent}
-use Rattle.attr.specs.Attribute.{attributesAt}
-use Rattle.attr.proofs.Shown.{attributes-inside, attributes-end}
+use Rattle.attr.specs.Attribute.{attributesAt, attributeNth}
+use Rattle.attr.specs.declared.AttributeAnswer.the-variants as attribute-answer
+use Rattle.attr.proofs.Shown.{attributes-inside, attributes-end, Begun, asked-begun}
+use Rattle.refactor.specs.Refactor as refactors
+use Rattle.refactor.specs.declared.RefactorAnswer.the-variants as refactor-answer
+use Rattle.refactor.proofs.Shown as refactors-shown
 use Rattle.refactor.proofs.Shown.{chain-inside, chain-end}
 use Rattle.symbol.specs.declared.AdsSymbolInfo.{AdsSymbolInfo}
 use Rattle.symbol.specs.declared.ExtendedFlags.{ExtendedFlags}
-use Rattle.symbol.specs.declared.SymbolAnswer.the-variants.{Record}
+use Rattle.symbol.specs.declared.SymbolAnswer.{SymbolAnswer}
+use Rattle.symbol.specs.declared.SymbolAnswer.the-variants.{Record, Refused}
 use Rattle.symbol.specs.Symbol.{typeGuid, attributes, extendedFlags, refactorInfo, extendedAt, sectionsOf, stringsEnd, infoRecord, infoOf, refused, symbolEntry, symbolRead}
-use Rattle.symbol.specs.Questions.{symbolAttribute, symbolRefactor}
+use Rattle.symbol.specs.Questions.{bySymbol, symbolAttribute, symbolRefactor}
 use Rattle.symbol.specs.Inside.{Inside, SymbolsInside, SymbolsShown}
 
 -- a section that begins inside ends inside
@@ -106,3 +112,32 @@ symbols-shown s info h =
       refactors = λ k j. simp (h, lt-ltb k (info .«refactor_infos» .count) j) (i .refactors k j);
       no-refactor = λ k j. simp (h, le-ltb k (info .«refactor_infos» .count) j);
     }
+
+-- the three strings stand in the bytes given
+pub strings-there : (s : List ℕ) (info : AdsSymbolInfo) → symbolRead s .answer ≡ Record info → 33 + info .«name_len» + info .«type_name_len» + info .«comment_len» ≤ length s
+strings-there s info h = omega (arith, symbols-shown s info h .inside .strings, own-short 30 s)
+
+-- what is asked for by number begins inside the entry
+attribute-of : (s : List ℕ) (k : ℕ) (t : SymbolAnswer)
+    → Begun (ownBytes 30 s) (bySymbol t
+    (λ r. if ltb k (r .attributes .count) then attributeNth (ownBytes 30 s) (r .attributes .first) k
+    else attribute-answer.Refused (NoSuchNumber (r .attributes .count) k))
+    attribute-answer.Refused)
+attribute-of s k (Record r) = asked-begun (ownBytes 30 s) (r .attributes .first) k (NoSuchNumber (r .attributes .count) k) (ltb k (r .attributes .count))
+attribute-of s k (Refused why) = (omega arith, omega arith)
+
+pub attribute-begun : (s : List ℕ) (k : ℕ) → Begun (ownBytes 30 s) (symbolAttribute s k)
+unfolding symbolAttribute
+attribute-begun s k = attribute-of s k (symbolRead s .answer)
+
+refactor-of : (s : List ℕ) (k : ℕ) (t : SymbolAnswer)
+    → refactors.nameAt (bySymbol t
+    (λ r. if ltb k (r .«refactor_infos» .count) then refactors.refactorNth (ownBytes 30 s) (r .«refactor_infos» .first) k
+    else refactor-answer.Refused (NoSuchNumber (r .«refactor_infos» .count) k))
+    refactor-answer.Refused) ≤ length (ownBytes 30 s)
+refactor-of s k (Record r) = refactors-shown.asked-begun (ownBytes 30 s) (r .«refactor_infos» .first) k (NoSuchNumber (r .«refactor_infos» .count) k) (ltb k (r .«refactor_infos» .count))
+refactor-of s k (Refused why) = omega arith
+
+pub refactor-begun : (s : List ℕ) (k : ℕ) → refactors.nameAt (symbolRefactor s k) ≤ length (ownBytes 30 s)
+unfolding symbolRefactor
+refactor-begun s k = refactor-of s k (symbolRead s .answer)

@@ -41,6 +41,16 @@ symbolTypeName s = bySymbol (symbolRead s .answer) (λ r. part s (typeNameAt r) 
 unfoldable pub symbolComment : List ℕ → List ℕ
 symbolComment s = bySymbol (symbolRead s .answer) (λ r. part s (commentAt r) (r .«comment_len»)) (λ why. [])
 
+-- where they begin; at the start where the reader refuses
+unfoldable pub symbolNameAt : List ℕ → ℕ
+symbolNameAt s = bySymbol (symbolRead s .answer) (λ r. nameAt) (λ why. 0)
+
+unfoldable pub symbolTypeNameAt : List ℕ → ℕ
+symbolTypeNameAt s = bySymbol (symbolRead s .answer) typeNameAt (λ why. 0)
+
+unfoldable pub symbolCommentAt : List ℕ → ℕ
+symbolCommentAt s = bySymbol (symbolRead s .answer) commentAt (λ why. 0)
+
 -- the reading refusals, then 14
 unfoldable pub symbolAttribute : List ℕ → ℕ → AttributeAnswer
 symbolAttribute s number =

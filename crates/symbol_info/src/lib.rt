@@ -6,9 +6,10 @@ use refusal::Refusal;
 use symbol::SymbolAnswer;
 use symbol::SymbolRead;
 ghost use mathlib.Core.Path.{_≡_};
+ghost use Rattle.le.specs.Place.{Behind};
 ghost use Rattle.symbol.specs.Symbol.{symbolRead};
-ghost use Rattle.symbol.specs.Questions.{symbolName, symbolTypeName, symbolComment, symbolAttribute, symbolRefactor};
-ghost use Rattle.attr.specs.Attribute.{nameIn, valueIn};
+ghost use Rattle.symbol.specs.Questions.{symbolName, symbolTypeName, symbolComment, symbolNameAt, symbolTypeNameAt, symbolCommentAt, symbolAttribute, symbolRefactor};
+ghost use Rattle.attr.specs.Attribute.{nameIn, valueIn, nameAt, valueAt};
 ghost use Rattle.refactor.specs.Refactor as refactors;
 ghost use Rattle.entry.specs.Entry.{ownBytes};
 
@@ -26,6 +27,7 @@ pub fn try_from_slice(bytes: &[u8]) -> SymbolRead
 
 pub fn name(bytes: &[u8]) -> &[u8]
     ensures { λ r. ⌜ now r ≡ symbolName (now (bytes .entry)) ⌝ }
+    ensures { λ r. ⌜ Behind (bytes .entry) r (symbolNameAt (now (bytes .entry))) ⌝ }
 {
     match answer_to(bytes) {
         SymbolAnswer::Record(r) => le::part_of(bytes, 30, le::wide(r.name_len)),
@@ -35,6 +37,7 @@ pub fn name(bytes: &[u8]) -> &[u8]
 
 pub fn type_name(bytes: &[u8]) -> &[u8]
     ensures { λ r. ⌜ now r ≡ symbolTypeName (now (bytes .entry)) ⌝ }
+    ensures { λ r. ⌜ Behind (bytes .entry) r (symbolTypeNameAt (now (bytes .entry))) ⌝ }
 {
     match answer_to(bytes) {
         SymbolAnswer::Record(r) => {
@@ -46,6 +49,7 @@ pub fn type_name(bytes: &[u8]) -> &[u8]
 
 pub fn comment(bytes: &[u8]) -> &[u8]
     ensures { λ r. ⌜ now r ≡ symbolComment (now (bytes .entry)) ⌝ }
+    ensures { λ r. ⌜ Behind (bytes .entry) r (symbolCommentAt (now (bytes .entry))) ⌝ }
 {
     match answer_to(bytes) {
         SymbolAnswer::Record(r) => {
@@ -76,12 +80,14 @@ pub fn attribute(bytes: &[u8], number: usize) -> AttributeAnswer
 
 pub fn attribute_name(bytes: &[u8], number: usize) -> &[u8]
     ensures { λ r. ⌜ now r ≡ nameIn (ownBytes 30 (now (bytes .entry))) (symbolAttribute (now (bytes .entry)) number) ⌝ }
+    ensures { λ r. ⌜ Behind (bytes .entry) r (nameAt (symbolAttribute (now (bytes .entry)) number)) ⌝ }
 {
     attr::name_in(entry::own_bytes(bytes, 30), attribute(bytes, number))
 }
 
 pub fn attribute_value(bytes: &[u8], number: usize) -> &[u8]
     ensures { λ r. ⌜ now r ≡ valueIn (ownBytes 30 (now (bytes .entry))) (symbolAttribute (now (bytes .entry)) number) ⌝ }
+    ensures { λ r. ⌜ Behind (bytes .entry) r (valueAt (symbolAttribute (now (bytes .entry)) number)) ⌝ }
 {
     attr::value_in(entry::own_bytes(bytes, 30), attribute(bytes, number))
 }
@@ -106,6 +112,7 @@ pub fn refactor_info(bytes: &[u8], number: usize) -> RefactorAnswer
 
 pub fn refactor_name(bytes: &[u8], number: usize) -> &[u8]
     ensures { λ r. ⌜ now r ≡ refactors.nameIn (ownBytes 30 (now (bytes .entry))) (symbolRefactor (now (bytes .entry)) number) ⌝ }
+    ensures { λ r. ⌜ Behind (bytes .entry) r (refactors.nameAt (symbolRefactor (now (bytes .entry)) number)) ⌝ }
 {
     refactor::name_in(entry::own_bytes(bytes, 30), refactor_info(bytes, number))
 }

@@ -1,3 +1,6 @@
+use native.Mathlib.Omega.{arith}
+use mathlib.Core.Path.{refl}
+use Rattle.le.proofs.Place.{at-place}
 use Rattle.entry.specs.Entry.{ownBytes}
 use borrow.Author.Tests.{lt-ltb, le-ltb, le-leb, lt-leb, eq-eqb, ne-eqb}
 use borrow.Author.Needs.{needs}
@@ -25,11 +28,11 @@ slice-aggregate-result c = search needs
 
 returns : tie.Need-returns
 unfolding ownBytes
-returns c = simp (← c .part-of .ensures, c .before .before .size .given .1, ← c .before .before .before .before .direct-claim .ensures)
+returns c = (simp (← c .part-of .ensures .0, c .before .before .size .given .1, ← c .before .before .before .before .direct-claim .ensures), at-place (c .part-of .ensures .1) refl (omega arith))
 
 returns-2 : tie.Need-returns-2
 unfolding ownBytes
-returns-2 c = simp (c .before .enum-told .given .1, ← c .before .before .before .direct-claim .ensures)
+returns-2 c = (simp (c .before .enum-told .given .1, ← c .before .before .before .direct-claim .ensures), record { block = refl; offset = omega arith })
 
 pub own-bytes-spec : {M : Type 1} → statement M
 own-bytes-spec =

@@ -23,7 +23,7 @@ refused-requires c κs = search needs
 
 returns : tie.Need-returns
 unfolding fieldRead
-returns c = simp (← c .read-entry .ensures, ← c .before .part-of .ensures, c .before .before .before .size .given .1, ← c .before .before .before .before .before .direct-claim .ensures)
+returns c = simp (← c .read-entry .ensures, ← c .before .part-of .ensures .0, c .before .before .before .size .given .1, ← c .before .before .before .before .before .direct-claim .ensures)
 
 returns-2 : tie.Need-returns-2
 unfolding fieldRead

@@ -24,7 +24,7 @@ enum-told-2 c = search needs
 
 returns : tie.Need-returns
 unfolding lookAt symbolStep
-returns c = simp (← c .head-of .ensures, ← c .before .part-of .ensures, c .before .before .before .met .given .1, ← c .before .before .before .before .before .claim-at .ensures)
+returns c = simp (← c .head-of .ensures, ← c .before .part-of .ensures .0, c .before .before .before .met .given .1, ← c .before .before .before .before .before .claim-at .ensures)
 
 returns-2 : tie.Need-returns-2
 unfolding lookAt symbolStep

@@ -20,7 +20,7 @@ enum-told : tie.Need-enum-told
 enum-told c = search needs
 
 returns : tie.Need-returns
-returns c = sym (entry-names _ _ _ _ _ (sym (c .before .before .before .before .before .before .before .before .pre) ∙ c .before .before .before .before .head .given .1) ∙ simp (← c .same-name .ensures, ← c .before .part-of2 .ensures, ← c .before .before .part-of .ensures))
+returns c = sym (entry-names _ _ _ _ _ (sym (c .before .before .before .before .before .before .before .before .pre) ∙ c .before .before .before .before .head .given .1) ∙ simp (← c .same-name .ensures, ← c .before .part-of2 .ensures .0, ← c .before .before .part-of .ensures .0))
 
 returns-2 : tie.Need-returns-2
 returns-2 c = sym (other-nameless _ _ _ (sym (c .before .before .before .before .pre) ∙ c .enum-told .given .1))

@@ -26,7 +26,7 @@ part-of-requires-2 : tie.Need-part-of-requires-2
 part-of-requires-2 c κs = search needs
 
 put-bytes-requires : tie.Need-put-bytes-requires
-put-bytes-requires c κs = omega (arith, short-by _ _ _ _ (c .part-of2 .ensures))
+put-bytes-requires c κs = omega (arith, short-by _ _ _ _ (c .part-of2 .ensures .0))
 
 hold-requires-2 : tie.Need-hold-requires-2
 hold-requires-2 c κs = search needs
@@ -35,7 +35,7 @@ same-length : tie.Need-same-length
 same-length c = search needs
 
 returns-2 : tie.Need-returns-2
-returns-2 c = takes-some (c .before .before .before .before .before .before .before .before .before .line-end .ensures) (c .before .before .before .before .before .before .before .room .ensures) (c .before .before .before .before .before .before .part-of .ensures) (c .before .before .before .before .part-of2 .ensures) (c .before .before .before .put-bytes .ensures) (c .hold2 .ensures)
+returns-2 c = takes-some (c .before .before .before .before .before .before .before .before .before .line-end .ensures) (c .before .before .before .before .before .before .before .room .ensures) (c .before .before .before .before .before .before .part-of .ensures .0) (c .before .before .before .before .part-of2 .ensures .0) (c .before .before .before .put-bytes .ensures) (c .hold2 .ensures)
 
 pub take-line-spec : {M : Type 1} → statement M
 take-line-spec =

@@ -15,7 +15,7 @@ part-of-requires : tie.Need-part-of-requires
 part-of-requires c κs = search needs
 
 put-frame-requires : tie.Need-put-frame-requires
-put-frame-requires c κs = omega (arith, spells (c .before .before .before .before .before .before .before .before .before .before .before .args .line .now) (c .before .before .before .before .before .before .before .read-frame .ensures) (omega arith) (c .before .before .before .before .before .n .given .1), short-by _ _ _ _ (c .part-of .ensures))
+put-frame-requires c κs = omega (arith, spells (c .before .before .before .before .before .before .before .before .before .before .before .args .line .now) (c .before .before .before .before .before .before .before .read-frame .ensures) (omega arith) (c .before .before .before .before .before .n .given .1), short-by _ _ _ _ (c .part-of .ensures .0))
 
 enum-known-why : tie.Need-enum-known-why
 enum-known-why c = search needs
@@ -27,7 +27,7 @@ same-length : tie.Need-same-length
 same-length c = search needs
 
 returns : tie.Need-returns
-returns c = lists-done (c .before .before .before .before .before .before .before .before .before .before .before .before .before .before .args .line .now) (c .before .before .before .before .before .before .before .before .before .before .read-frame .ensures) (omega arith) (c .before .before .before .before .before .before .before .before .n .given .1) (c .before .before .before .part-of .ensures) (short-by _ _ _ _ (c .before .before .before .part-of .ensures)) (c .before .before .put-frame .ensures)
+returns c = lists-done (c .before .before .before .before .before .before .before .before .before .before .before .before .before .before .args .line .now) (c .before .before .before .before .before .before .before .before .before .before .read-frame .ensures) (omega arith) (c .before .before .before .before .before .before .before .before .n .given .1) (c .before .before .before .part-of .ensures .0) (short-by _ _ _ _ (c .before .before .before .part-of .ensures .0)) (c .before .before .put-frame .ensures)
 
 same-length-2 : tie.Need-same-length-2
 same-length-2 c = search needs

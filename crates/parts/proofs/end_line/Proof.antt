@@ -12,7 +12,7 @@ part-of-requires c κs = search needs
 
 list-line-requires : tie.Need-list-line-requires
 unfolding part
-list-line-requires c κs = omega (arith, ap length (c .before .before .part-of .ensures))
+list-line-requires c κs = omega (arith, ap length (c .before .before .part-of .ensures .0))
 
 next-number-requires : tie.Need-next-number-requires
 next-number-requires c κs = search needs
@@ -22,7 +22,7 @@ same-length c = search needs
 
 returns : tie.Need-returns
 unfolding part
-returns c = ends-so (c .before .before .before .before .before .before .before .if1 .taken) (c .before .before .before .before .before .before .part-of .ensures) (c .before .before .before .list-line .ensures) (c .next-number .ensures)
+returns c = ends-so (c .before .before .before .before .before .before .before .if1 .taken) (c .before .before .before .before .before .before .part-of .ensures .0) (c .before .before .before .list-line .ensures) (c .next-number .ensures)
 
 returns-2 : tie.Need-returns-2
 returns-2 c = ends-not (c .if1 .left) (omega arith) refl

@@ -10,14 +10,14 @@ part-of-requires : tie.Need-part-of-requires
 part-of-requires c κs = search needs
 
 list-line-requires : tie.Need-list-line-requires
-list-line-requires c κs = omega (arith, short-of _ _ _ _ (c .before .before .part-of .ensures))
+list-line-requires c κs = omega (arith, short-of _ _ _ _ (c .before .before .part-of .ensures .0))
 
 same-length : tie.Need-same-length
 same-length c = search needs
 
 returns : tie.Need-returns
 unfolding part
-returns c = same-line (c .before .before .before .before .before .part-of .ensures) (c .before .before .list-line .ensures)
+returns c = same-line (c .before .before .before .before .before .part-of .ensures .0) (c .before .before .list-line .ensures)
 
 pub list-rest-spec : {M : Type 1} → statement M
 list-rest-spec =

@@ -1,3 +1,6 @@
+use native.Mathlib.Omega.{arith}
+use mathlib.Core.Path.{refl}
+use Rattle.le.proofs.Place.{begins-there}
 use borrow.Author.Tests.{lt-ltb, le-ltb, le-leb, lt-leb, eq-eqb, ne-eqb}
 use borrow.Author.Needs.{needs}
 use Rattle.refactor.proofs.name_in.Statement.{statement}
@@ -23,10 +26,10 @@ slice-aggregate-result : tie.Need-slice-aggregate-result
 slice-aggregate-result c = search needs
 
 returns : tie.Need-returns
-returns c = simp (← c .part-of .ensures, ← c .before .wide .ensures, c .before .before .before .answer .given .1)
+returns c = (simp (← c .part-of .ensures .0, ← c .before .wide .ensures, c .before .before .before .answer .given .1), simp (c .before .before .before .answer .given .1) (c .part-of .ensures .1))
 
 returns-2 : tie.Need-returns-2
-returns-2 c = simp (c .before .enum-told .given .1)
+returns-2 c = (simp (c .before .enum-told .given .1), record { block = refl; offset = simp (c .before .enum-told .given .1, begins-there (c .before .before .before .before .args .s .now) 0 (omega arith)) (omega arith) })
 
 pub name-in-spec : {M : Type 1} → statement M
 name-in-spec =

@@ -1,3 +1,7 @@
+use mathlib.Core.Path.{ap}
+use Rattle.le.proofs.Place.{at-place, at-start}
+use Rattle.attr.specs.Attribute.{nameAt}
+use Rattle.symbol.proofs.Inside.{attribute-begun}
 use borrow.Author.Needs.{needs}
 use Rattle.symbol_info.proofs.attribute_name.Statement.{statement}
 use Rattle.symbol_info.proofs.attribute_name.Tie as tie
@@ -12,7 +16,7 @@ name-in-requires : tie.Need-name-in-requires
 name-in-requires c κs = search needs
 
 returns : tie.Need-returns
-returns c = simp (← c .name-in .ensures, ← c .before .attribute .ensures, ← c .before .before .own-bytes .ensures)
+returns c = let a = c .before .before .before .before .args in let o = c .before .before .own-bytes .ensures in (simp (← c .name-in .ensures .0, ← c .before .attribute .ensures, ← o .0), at-start (o .1) (at-place (c .name-in .ensures .1) (ap nameAt (c .before .attribute .ensures)) (simp (o .0) (attribute-begun (a .bytes .now) (a .number) .0))))
 
 pub attribute-name-spec : {M : Type 1} → statement M
 attribute-name-spec =

@@ -18,7 +18,7 @@ refactor-nth-requires c κs = search needs
 
 returns : tie.Need-returns
 unfolding symbolRefactor
-returns c = simp (← c .refactor-nth .ensures, ← c .before .own-bytes .ensures, lt-ltb _ _ (c .before .before .if1 .taken), c .before .before .before .before .before .before .r .given .1, ← c .before .before .before .before .before .before .before .before .answer-to .ensures)
+returns c = simp (← c .refactor-nth .ensures, ← c .before .own-bytes .ensures .0, lt-ltb _ _ (c .before .before .if1 .taken), c .before .before .before .before .before .before .r .given .1, ← c .before .before .before .before .before .before .before .before .answer-to .ensures)
 
 enum-known-why : tie.Need-enum-known-why
 enum-known-why c = search needs

@@ -20,7 +20,7 @@ enum-known-why c = search needs
 
 returns : tie.Need-returns
 unfolding symbolRead
-returns c = simp (← c .read-entry .ensures, ← c .before .part-of .ensures, c .before .before .before .size .given .1, ← c .before .before .before .before .before .direct-claim .ensures)
+returns c = simp (← c .read-entry .ensures, ← c .before .part-of .ensures .0, c .before .before .before .size .given .1, ← c .before .before .before .before .before .direct-claim .ensures)
 
 returns-2 : tie.Need-returns-2
 unfolding symbolRead

@@ -37,7 +37,7 @@ returns c = simp (c .enum-told .given .1, ← c .before .before .claim-at .ensur
 
 returns-2 : tie.Need-returns-2
 unfolding symbolStep
-returns-2 c = simp (← c .step-of .ensures, ← c .before .read-entry .ensures, ← c .before .before .part-of .ensures, c .before .before .before .before .met .given .1, ← c .before .before .before .before .before .before .claim-at .ensures)
+returns-2 c = simp (← c .step-of .ensures, ← c .before .read-entry .ensures, ← c .before .before .part-of .ensures .0, c .before .before .before .before .met .given .1, ← c .before .before .before .before .before .before .claim-at .ensures)
 
 returns-3 : tie.Need-returns-3
 unfolding symbolStep
