@@ -1,4 +1,4 @@
--- What is known where a step meets an entry.
+-- What is known where a step meets an entry, and that no step goes back.
 use Prim.Native.Nat.{ℕ, _+_, _-_, _<_, _≤_}
 use native.Mathlib.Omega.{arith}
 use native.Mathlib.Nat.{add-zero}
@@ -12,6 +12,7 @@ use borrow.Author.Tests.{leb-false, ltb-false}
 use Rattle.le.specs.Le.{if_then_else_, le4, part}
 use Rattle.refusal.specs.Refusal.{limit}
 use Rattle.refusal.specs.declared.Refusal.{Refusal}
+use Rattle.entry.specs.declared.Met.{Met}
 use Rattle.entry.specs.declared.Met.the-variants as met
 use Rattle.entry.specs.declared.Claimed.{Claimed}
 use Rattle.entry.specs.Entry.{claimed, claimAt}
@@ -59,3 +60,16 @@ pub own-whole : (s : List ℕ) (at size : ℕ) → Meets s at size → 4 ≤ siz
 own-whole s at size m h =
     let l = own-length s at size (m .room) in
     record { claims = own-claim s at size h ∙ m .claim ∙ sym l; long = omega arith }
+
+module _ (x y z u w : Met) (at n c : ℕ) (h : at < n) where
+  moves-by : (p q r t : Bool) → at ≤ (if p then claimed x at else if q then claimed y n else if r then claimed z n else if t then claimed u n else claimed w (at + c)) .next
+  moves-by true q r t = omega arith
+  moves-by false true r t = omega arith
+  moves-by false false true t = omega arith
+  moves-by false false false true = omega arith
+  moves-by false false false false = omega arith
+
+-- a step before the end never goes back
+pub moves-on : (s : List ℕ) (at : ℕ) → at < length s → at ≤ claimAt s at .next
+unfolding claimAt
+moves-on s at h = moves-by _ _ _ _ _ at (length s) (le4 s at) h (leb (length s) at) (ltb limit (length s)) (ltb (length s - at) 4) (ltb (length s - at) (le4 s at))

@@ -62,6 +62,11 @@ boundedWalk s at allowed =
     let made : List ℕ = stepsFrom s at allowed in
     walked (endAfter s at made) (length made) (cursorAfter s at made)
 
+-- the walk leaves out no step: it is out of steps only where it made all that were allowed, and the whole walk never is
+pub record AllSteps : Type 0 where
+  pub allowed : (s : List ℕ) (at allowed : ℕ) → endAfter s at (stepsFrom s at allowed) ≡ OutOfSteps → length (stepsFrom s at allowed) ≡ allowed
+  pub whole : (s : List ℕ) → endAfter s 0 (steps s) ≡ OutOfSteps → ⊥
+
 -- The walk of a step: `step s at` is what it gives at a place, `cursor` the place where that leaves the cursor
 module _ {T : Type 0} (step : List ℕ → ℕ → T) (cursor : T → ℕ) where
   -- the step iterated by its own cursor, at most so many times; nothing follows the step at the end

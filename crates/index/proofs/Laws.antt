@@ -17,6 +17,7 @@ use Rattle.refusal.specs.Refusal.{limit}
 use Rattle.refusal.specs.Writing.{Bytes, Refuse}
 use Rattle.entry.specs.Entry.{claimed, claimAt}
 use Rattle.entry.specs.declared.Met.{Met}
+use Rattle.entry.proofs.Claims.{moves-on}
 use Rattle.symbol.specs.Symbol.{symbolEntry, sectionsOf, infoOf, infoRecord, stringsEnd, refused}
 use Rattle.refusal.specs.declared.Refusal.the-variants.{TooShort, EntryLengthMismatch, TooLarge, ZeroEntryLength, NameNotFound}
 use Rattle.walk.specs.Walk.{symbolStep, stepIs}
@@ -34,19 +35,6 @@ use Rattle.index.specs.declared.Tally.{Tally}
 use Rattle.index.specs.declared.Tally.the-variants.{Accepted, ZeroClaim}
 use Rattle.index.specs.declared.Head.the-variants.{Entry, Other}
 
-module _ (x y z u w : Met) (at n c : ℕ) (h : at < n) where
-  moves-by : (p q r t : Bool) → at ≤ (if p then claimed x at else if q then claimed y n else if r then claimed z n else if t then claimed u n else claimed w (at + c)) .next
-  moves-by true q r t = omega arith
-  moves-by false true r t = omega arith
-  moves-by false false true t = omega arith
-  moves-by false false false true = omega arith
-  moves-by false false false false = omega arith
-
--- a step before the end never goes back
-pub moves : (s : List ℕ) (at : ℕ) → at < length s → at ≤ claimAt s at .next
-unfolding claimAt
-moves s at h = moves-by _ _ _ _ _ at (length s) (le4 s at) h (leb (length s) at) (ltb limit (length s)) (ltb (length s - at) 4) (ltb (length s - at) (le4 s at))
-
 branch : (p q : Bool) (at : ℕ) (x y : List ℕ) → (p ≡ false → q ≡ false → x ≡ y)
     → (if p then [] else at ∷ (if q then [] else x)) ≡ (if p then [] else at ∷ (if q then [] else y))
 branch true q at x y h = refl
@@ -62,7 +50,7 @@ same-steps s (suc m) zero at h k = simp (le-leb (length s) at (omega arith))
 same-steps s (suc m) (suc n) at h k =
     branch (leb (length s) at) (stands s at) at _ _ (λ p q.
     let a : at < length s = leb-false (length s) at p in
-    let b : at < claimAt s at .next = omega (arith, moves s at a, eqb-false (claimAt s at .next) at q) in
+    let b : at < claimAt s at .next = omega (arith, moves-on s at a, eqb-false (claimAt s at .next) at q) in
     same-steps s m n (claimAt s at .next) (omega arith) (omega arith))
 
 -- the steps from a place on
@@ -82,7 +70,7 @@ unfolding stepsFrom
 rest-from s at zero h k = absurd (omega arith)
 rest-from s at (suc n) h k =
     simp (lt-leb (length s) at h) (branch false (stands s at) at _ _ (λ p q.
-    let b : at < claimAt s at .next = omega (arith, moves s at h, eqb-false (claimAt s at .next) at q) in
+    let b : at < claimAt s at .next = omega (arith, moves-on s at h, eqb-false (claimAt s at .next) at q) in
     same-steps s n (length s - claimAt s at .next) (claimAt s at .next) (omega arith) (omega arith)))
 
 pub rest-step : (s : List ℕ) (at : ℕ) → at < length s → rest s at ≡ at ∷ (if stands s at then [] else rest s (claimAt s at .next))
@@ -198,7 +186,7 @@ module _ (s : List ℕ) (at : ℕ) (h : at < length s) (k : Looked) (e : k ≡ l
   -- any other step
   module _ (z : k .next ≡ at → ⊥) where
     pub ahead : at < k .next
-    ahead = omega (arith, moves s at h, next-is, z)
+    ahead = omega (arith, moves-on s at h, next-is, z)
 
     going : stands s at ≡ false
     going = ne-eqb (claimAt s at .next) at (λ x. z (next-is ∙ x))

@@ -6,7 +6,7 @@ use mathlib.Core.Bool.{Bool, true, false}
 use mathlib.Core.List.{List, [], _∷_, _++_}
 use lib.Dec.{ltb, leb}
 use lib.ListN.{length}
-use borrow.Author.Tests.{leb-false, eqb-false}
+use borrow.Author.Tests.{leb-false, eqb-false, le-ltb}
 use Rattle.le.specs.Le.{if_then_else_, part}
 use Rattle.refusal.specs.Refusal.{limit}
 use Rattle.refusal.specs.declared.Refusal.{Refusal}
@@ -18,14 +18,14 @@ use Rattle.walk.specs.declared.Step.{Step}
 use Rattle.walk.specs.declared.Step.the-variants as step
 use Rattle.walk.proofs.Kind.{kind}
 use Rattle.walk.proofs.Whole.{steps-read}
+use Rattle.entry.proofs.Claims.{moves-on}
 use Rattle.entry.proofs.Demand3 as walking
 use Rattle.index.specs.Names.{sameName}
 use Rattle.index.specs.Steps.{byRecord, accepted, names, those}
 use Rattle.index.specs.Index.{starts, firstOf, find}
-use Rattle.index.specs.Meaning.{Ascends, done, next, StartsAscend, named, FoundIsFirst}
+use Rattle.index.specs.Meaning.{Ascends, done, next, StartsAscend, named, FoundIsFirst, RefusedIsNowhere}
 use Rattle.index.specs.declared.FindAnswer.{FindAnswer}
 use Rattle.index.specs.declared.FindAnswer.the-variants.{Found, Refused}
-use Rattle.index.proofs.Laws.{moves}
 
 weaker : (least less : ℕ) {l : List ℕ} → less ≤ least → Ascends least l → Ascends less l
 weaker least less h done = done
@@ -40,7 +40,7 @@ steps-ascend s at (suc left) = turn (steps-ascend s (claimAt s at .next) left) (
     turn on true stand p q = done
     turn on false true p q = let l : at ≤ at = omega arith in next l done
     turn on false false p q =
-        let b : at < claimAt s at .next = omega (arith, moves s at (leb-false (length s) at p), eqb-false (claimAt s at .next) at q) in
+        let b : at < claimAt s at .next = omega (arith, moves-on s at (leb-false (length s) at p), eqb-false (claimAt s at .next) at q) in
         let l : at ≤ at = omega arith in
         next l (weaker (claimAt s at .next) (suc at) (omega arith) on)
 
@@ -106,3 +106,20 @@ found-is-first s name at h =
     let f = small (ltb limit (length s)) _ _ at h in
     let r = first-is (names s name) (steps s) _ at (refused (any (stands s) (steps s)) _ _ at) f in
     record { before = r .0; after = r .1; among = r .2; has = sym (names-told s name at) ∙ r .3; first = sym (any-same (names s name) (named s name) (names-told s name) (r .0)) ∙ r .4 }
+
+-- what is not found stands nowhere
+none-is : (test : ℕ → Bool) (l : List ℕ) (other : FindAnswer) (why : Refusal) → firstOf test l other ≡ Refused why → (any test l ≡ false) × (other ≡ Refused why)
+unfolding firstOf any
+none-is test [] other why h = (refl, h)
+none-is test (x ∷ l) other why h = turn (none-is test l other why) (test x) h
+  where
+    turn : (firstOf test l other ≡ Refused why → (any test l ≡ false) × (other ≡ Refused why)) → (t : Bool) → (if t then Found x else firstOf test l other) ≡ Refused why
+        → ((if t then true else any test l) ≡ false) × (other ≡ Refused why)
+    turn on true k = absurd (let u : _≡_ {A = ℕ} 0 1 = cc in omega arith)
+    turn on false k = on k
+
+pub refused-is-nowhere : RefusedIsNowhere
+unfolding find
+refused-is-nowhere s name why small h =
+    let r = none-is (names s name) (steps s) _ why (simp (le-ltb limit (length s) small) at h) in
+    sym (any-same (names s name) (named s name) (names-told s name) (steps s)) ∙ r .0

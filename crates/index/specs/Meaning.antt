@@ -3,14 +3,17 @@ use Prim.Native.Nat.{ℕ, suc, _-_, _≤_}
 use mathlib.Core.Path.{_≡_}
 use mathlib.Core.Bool.{Bool, true, false}
 use mathlib.Core.List.{List, [], _∷_, _++_}
+use lib.ListN.{length}
 use Rattle.le.specs.Le.{if_then_else_, part}
+use Rattle.refusal.specs.Refusal.{limit}
+use Rattle.refusal.specs.declared.Refusal.{Refusal}
 use Rattle.entry.specs.Entry.{claimAt}
 use Rattle.entry.specs.Walk.{steps, any}
 use Rattle.symbol.specs.Questions.{symbolName}
 use Rattle.index.specs.Names.{sameName}
 use Rattle.index.specs.Steps.{accepted}
 use Rattle.index.specs.Index.{starts, find}
-use Rattle.index.specs.declared.FindAnswer.the-variants.{Found}
+use Rattle.index.specs.declared.FindAnswer.the-variants.{Found, Refused}
 
 -- each place is above the one before it, and the first is at least so large
 pub data Ascends : ℕ → List ℕ → Type 0 where
@@ -35,3 +38,7 @@ pub record Finds (s name : List ℕ) (at : ℕ) : Type 0 where
 
 abbrev pub FoundIsFirst : Type 0
 FoundIsFirst = (s name : List ℕ) (at : ℕ) → find s name ≡ Found at → Finds s name at
+
+-- where an upload within the limit is refused, with 13 or with 10, no step of its walk has the name
+abbrev pub RefusedIsNowhere : Type 0
+RefusedIsNowhere = (s name : List ℕ) (why : Refusal) → length s ≤ limit → find s name ≡ Refused why → any (named s name) (steps s) ≡ false

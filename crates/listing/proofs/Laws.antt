@@ -28,7 +28,8 @@ use Rattle.walk.proofs.Kind.{kind}
 use Rattle.digits.specs.Text.{Put}
 use Rattle.digits.specs.Frame.{allDigits, frameOf}
 use Rattle.digits.proofs.Laws.{spelt-length, one-put}
-use Rattle.listing.specs.Listing.{stepText, stepsText, textOf, frameText, ListsLine, stepNext, walkText}
+use Rattle.listing.specs.Listing.{stepText, stepsText, textOf, frameText, ListsLine}
+use Rattle.listing.specs.Inside.{stepNext, walkText}
 use Rattle.rows.specs.Rows.{refusalLine, entryLine}
 
 -- a step inside a frame moves on and stays in it

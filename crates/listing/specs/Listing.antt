@@ -1,8 +1,8 @@
 -- 01, "Listing": the text that `list` prints.
-use Prim.Native.Nat.{ℕ, zero, suc, _+_, _-_, _*_, _/_}
+use Prim.Native.Nat.{ℕ, _+_, _-_, _*_, _/_}
 use mathlib.Core.Path.{_≡_}
 use mathlib.Core.List.{List, [], _∷_, _++_}
-use lib.Dec.{leb, eqb}
+use lib.Dec.{eqb}
 use lib.ListN.{length}
 use Rattle.le.specs.Le.{if_then_else_, part}
 use Rattle.refusal.specs.declared.Refusal.the-variants.{ZeroEntryLength}
@@ -68,11 +68,3 @@ listing s = header ++ inputText 1 [] s
 pub record ListsLine (number : ℕ) (line oldFrame newFrame old : List ℕ) (at : ℕ) (new : List ℕ) (r : ℕ) : Type 0 where
   pub text : Put (length line * 239 / 2) old at (frameText number line) new r
   pub frame : newFrame ≡ leaves (frameOf line) oldFrame
-
--- what the loop over a frame prints from a place on, in at most so many turns: after a zero claim it goes on at the end
-unfoldable pub stepNext : List ℕ → ℕ → ℕ
-stepNext s at = if eqb (symbolStep s at .cursor .at) at then length s else symbolStep s at .cursor .at
-
-unfoldable pub walkText : ℕ → List ℕ → ℕ → ℕ → List ℕ
-walkText number s at zero = []
-walkText number s at (suc left) = if leb (length s) at then [] else stepText number s at ++ walkText number s (stepNext s at) left

@@ -8,7 +8,8 @@ ghost use Prim.Native.Nat.{_+_, _-_, _*_, _/_, _≤_, _<_};
 ghost use lib.ListN.{length};
 ghost use Rattle.refusal.specs.Writing.{Writes, Bytes};
 ghost use Rattle.digits.specs.Text.{Put};
-ghost use Rattle.listing.specs.Listing.{header, stepText, stepNext, walkText, ListsLine};
+ghost use Rattle.listing.specs.Listing.{header, stepText, ListsLine};
+ghost use Rattle.listing.specs.Inside.{stepNext, walkText};
 
 // Bytes of a frame.
 pub const FRAME: usize = 16384;

@@ -16,7 +16,7 @@ use Rattle.symbol.specs.declared.SymbolAnswer.the-variants.{Record}
 use Rattle.symbol.specs.Symbol.{symbolEntry, symbolRead}
 use Rattle.symbol.specs.Questions.{symbolAttribute, symbolRefactor}
 
--- the header of 30 bytes, three strings and their three end bytes; the sections; every attribute and refactor record that is shown; the unread bytes after them
+-- the header of 30 bytes, three strings and their three end bytes; the sections; every attribute and refactor record that is shown; the unread bytes, none of which stands before the end of the extended flags
 pub record Inside (e : List ℕ) (info : AdsSymbolInfo) : Type 0 where
   pub long : info .length ≡ length e
   pub strings : 33 + info .«name_len» + info .«type_name_len» + info .«comment_len» ≤ length e

@@ -62,9 +62,10 @@ stepTold s t =
     (λ info. Entry (symbolTold info (t .guid) (part s (t .cursor .at - info .length) (info .length))) (info .length) (t .cursor .at))
     (λ why. Refused (figuresOf why) (t .cursor .at))
 
--- the walk is the step that the code promises, iterated by the cursor beside its answer
+-- the cursor beside an answer
 abbrev pub cursorOf : Stepped → ℕ
 cursorOf t = t .cursor .at
 
+-- the step that the code promises, iterated by that cursor, is the one walk
 abbrev pub OneSymbolWalk : Type 0
 OneSymbolWalk = OneWalk symbolStep cursorOf
