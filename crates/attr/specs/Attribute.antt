@@ -39,7 +39,7 @@ abbrev pub valueIn : List ℕ → AttributeAnswer → List ℕ
 valueIn s (Record a) = part s (a .value) (a .«value_len»)
 valueIn s (Refused why) = []
 
--- where each begins; of a refused record, at the start
+-- the places where they begin, 0 where it was refused
 abbrev pub nameAt : AttributeAnswer → ℕ
 nameAt (Record a) = a .name
 nameAt (Refused why) = 0

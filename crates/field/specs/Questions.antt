@@ -38,7 +38,7 @@ fieldTypeName s = byField (fieldRead s .answer) (λ r. part s (typeNameAt r) (r 
 unfoldable pub fieldComment : List ℕ → List ℕ
 fieldComment s = byField (fieldRead s .answer) (λ r. part s (commentAt r) (r .«comment_len»)) (λ why. [])
 
--- where they begin; at the start where the reader refuses
+-- the places where they begin, 0 where the reader refuses
 unfoldable pub fieldNameAt : List ℕ → ℕ
 fieldNameAt s = byField (fieldRead s .answer) (λ r. nameAt) (λ why. 0)
 

@@ -1,11 +1,11 @@
 -- Laws of the place of a part: it is one, and a place inside is where the part begins.
-use Prim.Native.Nat.{ℕ, _≤_}
+use Prim.Native.Nat.{ℕ, _<_, _≤_}
 use native.Mathlib.Omega.{arith}
 use mathlib.Core.Path.{_≡_, sym, ap₂, _∙_}
 use mathlib.Core.List.{List}
 use lib.ListN.{length}
 use denote.Ref.{RefT}
-use borrow.Author.Tests.{le-leb}
+use borrow.Author.Tests.{le-leb, lt-leb}
 use Rattle.le.specs.Place.{Behind, begins}
 
 -- two parts that one contract allows are the same bytes at the same place
@@ -16,6 +16,10 @@ one-part e p f q = (e ∙ sym f, ap₂ (λ b o. (b, o)) (p .block ∙ sym (q .bl
 pub begins-there : (s : List ℕ) (at : ℕ) → at ≤ length s → begins s at ≡ at
 unfolding begins
 begins-there s at h = simp (le-leb at (length s) h)
+
+pub begins-past : (s : List ℕ) (at : ℕ) → length s < at → begins s at ≡ 0
+unfolding begins
+begins-past s at h = simp (lt-leb at (length s) h)
 
 pub at-place : {whole piece : RefT (List ℕ)} {at place : ℕ} → Behind whole piece (begins (whole .now) at) → at ≡ place → place ≤ length (whole .now) → Behind whole piece place
 at-place {whole} {piece} {at} {place} b e h = simp (e, begins-there (whole .now) place h) at b

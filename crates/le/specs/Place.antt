@@ -12,6 +12,6 @@ pub record Behind (whole piece : RefT (List ℕ)) (at : ℕ) : Type 0 where
   pub block : piece .ptr .0 ≡ whole .ptr .0
   pub offset : piece .ptr .1 ≡ whole .ptr .1 + at
 
--- where a part from a place on begins: no byte is past the end, so that such a place counts as 0
+-- where a part from a place on begins: a place past the end counts as 0
 unfoldable pub begins : List ℕ → ℕ → ℕ
 begins s at = if leb at (length s) then at else 0

@@ -43,7 +43,7 @@ abbrev pub nameIn : List ℕ → RefactorAnswer → List ℕ
 nameIn s (Record r) = part s (r .name) (r .«name_len»)
 nameIn s (Refused why) = []
 
--- where it begins; of a refused record, at the start
+-- the place where it begins, 0 where it was refused
 abbrev pub nameAt : RefactorAnswer → ℕ
 nameAt (Record r) = r .name
 nameAt (Refused why) = 0

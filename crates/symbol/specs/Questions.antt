@@ -41,7 +41,7 @@ symbolTypeName s = bySymbol (symbolRead s .answer) (λ r. part s (typeNameAt r) 
 unfoldable pub symbolComment : List ℕ → List ℕ
 symbolComment s = bySymbol (symbolRead s .answer) (λ r. part s (commentAt r) (r .«comment_len»)) (λ why. [])
 
--- where they begin; at the start where the reader refuses
+-- the places where they begin, 0 where the reader refuses
 unfoldable pub symbolNameAt : List ℕ → ℕ
 symbolNameAt s = bySymbol (symbolRead s .answer) (λ r. nameAt) (λ why. 0)
 

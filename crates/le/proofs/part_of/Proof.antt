@@ -1,14 +1,12 @@
-use mathlib.Core.Path.{refl, _∙_}
+use mathlib.Core.Path.{refl, sym, _∙_}
 use Prim.Native.Nat.{_-_, _≤_}
 use lib.Seq.{take-all}
 use lib.ListN.{length, drop, length-drop}
 use Rattle.le.proofs.Laws.{part-rest, part-past}
+use Rattle.le.proofs.Place.{begins-there, begins-past}
 use native.Mathlib.Omega.{arith}
-use mathlib.Core.Path.{sym}
 use native.Mathlib.Nat.{add-sub-cancel-left}
-use borrow.Author.Tests.{le-leb, lt-leb}
 use Rattle.le.specs.Le.{part}
-use Rattle.le.specs.Place.{begins}
 use borrow.Author.Needs.{needs}
 use Rattle.le.proofs.part_of.Statement.{statement}
 use Rattle.le.proofs.part_of.Tie as tie
@@ -53,18 +51,18 @@ slice-aggregate-result c = search needs
 
 -- src/lib.rt:42:1
 returns : tie.Need-returns
-unfolding part begins
-returns c = (simp add-sub-cancel-left, record { block = refl; offset = simp (le-leb _ _ (c .before .before .if1 .taken)) (omega arith) })
+unfolding part
+returns c = let a = c .before .before .before .args in (simp add-sub-cancel-left, record { block = refl; offset = simp (begins-there (a .s .now) (a .at) (omega arith)) (omega arith) })
 
 -- src/lib.rt:42:1
 returns-2 : tie.Need-returns-2
-unfolding part begins
-returns-2 c = let a = c .before .before .before .args in let h : length (a .s .now) - a .at ≤ a .n = omega arith in (take-all (length (a .s .now) - a .at) (drop (a .at) (a .s .now)) (simp length-drop (omega arith)) ∙ sym (part-rest (a .s .now) (a .at) (a .n) h), record { block = refl; offset = simp (le-leb _ _ (c .before .before .if1 .taken)) (omega arith) })
+unfolding part
+returns-2 c = let a = c .before .before .before .args in let h : length (a .s .now) - a .at ≤ a .n = omega arith in (take-all (length (a .s .now) - a .at) (drop (a .at) (a .s .now)) (simp length-drop (omega arith)) ∙ sym (part-rest (a .s .now) (a .at) (a .n) h), record { block = refl; offset = simp (begins-there (a .s .now) (a .at) (omega arith)) (omega arith) })
 
 -- src/lib.rt:42:1
 returns-3 : tie.Need-returns-3
-unfolding part begins
-returns-3 c = let a = c .before .before .args in let h : length (a .s .now) ≤ a .at = omega arith in (sym (part-past (a .s .now) (a .at) (a .n) h), record { block = refl; offset = simp (lt-leb _ _ (c .before .if1 .left)) (omega arith) })
+unfolding part
+returns-3 c = let a = c .before .before .args in let h : length (a .s .now) ≤ a .at = omega arith in (sym (part-past (a .s .now) (a .at) (a .n) h), record { block = refl; offset = simp (begins-past (a .s .now) (a .at) (omega arith)) (omega arith) })
 
 pub part-of-spec : {M : Type 1} → statement M
 part-of-spec =
