@@ -22,7 +22,7 @@ pub fn check(upload: &Upload, out: &mut impl Write) -> Result<bool, Failure> {
             }
             Err(why) => {
                 refused += 1;
-                writeln!(out, "at {}: {}", grouped(at), words::refusal(&why))?;
+                writeln!(out, "at {at}: {}", words::refusal(&why))?;
             }
         }
     }

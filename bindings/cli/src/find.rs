@@ -52,7 +52,9 @@ fn windows_1252(argument: &OsStr) -> Result<Vec<u8>, Failure> {
     encode_to_vec(argument.as_bytes()).map_err(|why| {
         let argument = argument.to_string_lossy();
         let why = words::refusal(&why);
-        Failure::Refused(format!("{argument}: {why}, so no upload has that name"))
+        Failure::Refused(format!(
+            "{argument}: {why}; a name is asked for in UTF-8 and looked up in Windows-1252"
+        ))
     })
 }
 

@@ -36,6 +36,15 @@ impl Upload {
         format!("{} ({form}, {length})", self.path)
     }
 
+    /// How a list ends: entries that were refused stand in it, and one of many is easily overlooked.
+    pub fn unless_refused(&self, refused: usize, all: usize) -> Result<bool, Failure> {
+        if refused == 0 {
+            return Ok(true);
+        }
+        let (refused, all) = (grouped(refused), grouped(all));
+        Err(self.refused(format!("refused entries: {refused} of {all}")))
+    }
+
     /// A failure about this upload, with what it was read as: a wrong guess is the first thing to rule out.
     pub fn refused(&self, why: impl std::fmt::Display) -> Failure {
         Failure::Refused(format!("{}: {why}", self.told()))
@@ -89,9 +98,12 @@ fn is_space(byte: u8) -> bool {
 }
 
 /// Told by the first four bytes: those of a binary upload are the length of its first entry, and four characters of text
-/// are a length of 0x09090909 or more, above the limit. So no upload that has an entry is taken for text.
+/// are a length of 0x09090909 or more, above the limit. So no upload that has an entry is taken for text. Fewer bytes
+/// hold no entry either way, and are text where they are digits.
 fn form_of(start: &[u8]) -> Form {
-    let text = |byte: &u8| byte.is_ascii_graphic() || is_space(*byte);
+    let few = start.len() < 4;
+    let text =
+        |byte: &u8| byte.is_ascii_hexdigit() || is_space(*byte) || !few && byte.is_ascii_graphic();
     let unmarked = start.strip_prefix(MARK).unwrap_or(start);
     if !start.is_empty() && unmarked.iter().all(text) {
         Form::Hexadecimal
@@ -136,9 +148,9 @@ fn hexadecimal(source: impl BufRead) -> io::Result<Result<Vec<u8>, String>> {
         }
     }
     Ok(if half.is_some() {
-        let whole = grouped(bytes.len());
+        let whole = many(bytes.len(), "byte", "bytes");
         Err(format!(
-            "refusal 12, bad hexadecimal text: an odd number of digits, since after {whole} bytes a digit is left alone"
+            "refusal 12, bad hexadecimal text: an odd number of digits, so after {whole} one digit is left alone"
         ))
     } else {
         Ok(bytes)

@@ -11,17 +11,18 @@ use crate::text::{exact, guid};
 use crate::words;
 
 pub fn list(upload: &Upload, out: &mut impl Write) -> Result<bool, Failure> {
-    let mut all_accepted = true;
+    let (mut all, mut failed) = (0, 0);
     for (at, entry) in entries(&upload.bytes) {
+        all += 1;
         match entry {
             Ok(symbol) => accepted(at, &symbol, out)?,
             Err(why) => {
-                all_accepted = false;
+                failed += 1;
                 refused(at, &why, out)?;
             }
         }
     }
-    Ok(all_accepted)
+    upload.unless_refused(failed, all)
 }
 
 fn refused(at: usize, why: &Refusal, out: &mut impl Write) -> io::Result<()> {

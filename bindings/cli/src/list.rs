@@ -7,7 +7,7 @@ use vindaskot::{AdsSymbolInfo, Refusal};
 use crate::entries::entries;
 use crate::failure::Failure;
 use crate::input::Upload;
-use crate::text::{grouped, shown, width};
+use crate::text::{shown, width};
 use crate::words;
 
 const HEADINGS: [&str; 8] = [
@@ -61,12 +61,7 @@ pub fn list(upload: &Upload, out: &mut impl Write) -> Result<bool, Failure> {
             }
         }
     }
-    if refused > 0 {
-        out.flush()?;
-        let (refused, all) = (grouped(refused), grouped(lines.len()));
-        return Err(upload.refused(format!("of {all} entries {refused} refused")));
-    }
-    Ok(true)
+    upload.unless_refused(refused, lines.len())
 }
 
 fn widths(lines: &[Line]) -> [usize; 8] {

@@ -24,18 +24,12 @@ use failure::Failure;
 
 fn main() -> ExitCode {
     let mut out = BufWriter::new(io::stdout().lock());
-    let end = run(&mut out).and_then(|all_accepted| {
-        out.flush()?;
-        Ok(all_accepted)
-    });
-    match end {
+    let end = run(&mut out);
+    // What was printed before a refusal belongs to it; that it can't be written goes before.
+    match out.flush().map_err(Failure::Output).and(end) {
         Ok(true) => ExitCode::SUCCESS,
         Ok(false) => ExitCode::from(1),
-        Err(failure) => {
-            // What was printed before the failure belongs to it. If it can't be written, the failure says more.
-            let _ = out.flush();
-            failure.tell()
-        }
+        Err(failure) => failure.tell(),
     }
 }
 

@@ -10,7 +10,7 @@ use crate::find::named;
 use crate::flags;
 use crate::input::Upload;
 use crate::picture;
-use crate::text::{grouped, guid, many, shown};
+use crate::text::{guid, many, shown};
 
 pub fn show(
     upload: &Upload,
@@ -36,13 +36,20 @@ fn facts(at: usize, symbol: &AdsSymbolInfo<'_>) -> [(&'static str, String); 10] 
     let (group, offset) = (symbol.index_group(), symbol.index_offset());
     let length = symbol.as_bytes().len();
     let absent = || "none".to_string();
+    let string = |bytes: &[u8]| {
+        if bytes.is_empty() {
+            absent()
+        } else {
+            shown(bytes)
+        }
+    };
     [
-        ("name", shown(symbol.name())),
-        ("type", shown(symbol.type_name())),
-        ("comment", shown(symbol.comment())),
+        ("name", string(symbol.name())),
+        ("type", string(symbol.type_name())),
+        ("comment", string(symbol.comment())),
         (
             "place",
-            format!("{}, {} long", grouped(at), many(length, "byte", "bytes")),
+            format!("at {at}, {}", many(length, "byte", "bytes")),
         ),
         ("size", many(symbol.size() as usize, "byte", "bytes")),
         (

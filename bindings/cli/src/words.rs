@@ -15,7 +15,7 @@ fn section(number: usize) -> &'static str {
 
 fn fault(number: usize) -> &'static str {
     match number {
-        1 => "what is not UTF-8",
+        1 => "bytes that are not UTF-8",
         _ => "a character that Windows-1252 lacks",
     }
 }
