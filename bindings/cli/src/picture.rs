@@ -20,8 +20,8 @@ const HEADER: [(&str, usize, &str); 8] = [
     ("string lengths", 6, "96"),
 ];
 /// Records that stand side by side get these by turns.
-const ATTRIBUTE: [&str; 2] = ["33", "93"];
-const FORMER: [&str; 2] = ["35", "95"];
+const ATTRIBUTE: [&str; 2] = ["33", "96"];
+const FORMER: [&str; 2] = ["35", "92"];
 /// Reversed, since nothing else says that these bytes mean nothing here.
 const UNREAD: &str = "7;31";
 

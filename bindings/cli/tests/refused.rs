@@ -86,6 +86,22 @@ fn an_attribute_that_is_refused() {
     session.hold("attribute-refused.txt");
 }
 
+/// Of two attributes of one name the first is meant, and of two symbols likewise.
+#[test]
+fn the_first_of_two() {
+    let first: [(&[u8], &[u8]); 3] = [(b"unit", b"mm"), (b"End", b"1"), (b"End", b"2")];
+    let second: [(&[u8], &[u8]); 1] = [(b"End", b"3")];
+    let entries = [
+        symbol(b"MAIN.a", b"LREAL", 0, &first),
+        symbol(b"MAIN.a", b"REAL", 8, &second),
+    ];
+    let mut session = Session::new(repository());
+    session.run_on(&["find", "-", "MAIN.a"], &entries.concat());
+    let output = session.run_on(&["find", "-", "MAIN.a", "End"], &entries.concat());
+    assert_eq!(output.stdout, b"1\n");
+    session.hold("two.txt");
+}
+
 /// Columns stay in line beside umlauts, a euro and controls, which must not reach a terminal.
 #[test]
 fn widths_of_names() {
