@@ -70,21 +70,22 @@ fn no_symbol(bytes: &[u8], asked: &[u8]) -> String {
     }
 }
 
-/// The value of the first attribute of a name.
+/// The value of the first attribute of a name. The question is asked of the crate here and nowhere else.
+fn attribute_named<'a>(symbol: &AdsSymbolInfo<'a>, name: &[u8]) -> Option<&'a [u8]> {
+    let one = symbol.attributes().find(|one| one.name() == name)?;
+    Some(one.value())
+}
+
 fn value_of<'a>(
     upload: &Upload,
     symbol: &AdsSymbolInfo<'a>,
     attribute: &OsStr,
 ) -> Result<&'a [u8], Failure> {
     let asked = windows_1252(attribute)?;
-    let mut all = symbol.attributes();
-    match all.find(|one| one.name() == asked) {
-        Some(one) => Ok(one.value()),
-        None => {
-            let why = no_attribute(symbol, &asked);
-            Err(upload.refused(format!("refusal 13, name not found: {why}")))
-        }
-    }
+    attribute_named(symbol, &asked).ok_or_else(|| {
+        let why = no_attribute(symbol, &asked);
+        upload.refused(format!("refusal 13, name not found: {why}"))
+    })
 }
 
 fn no_attribute(symbol: &AdsSymbolInfo<'_>, asked: &[u8]) -> String {

@@ -60,3 +60,31 @@ pub fn extended(flags: AdsSymbol2Flags) -> String {
     let word = flags.as_raw();
     told(format!("0x{word:08X}"), &names(word, &EXTENDED))
 }
+
+#[cfg(test)]
+mod tests {
+    use super::*;
+
+    /// The names and bits are those of the proved crate: each constant of its source stands here, and nothing else does.
+    #[test]
+    fn the_names_are_those_of_the_proved_crate() {
+        let source = concat!(
+            env!("CARGO_MANIFEST_DIR"),
+            "/../../crates/flags/src/symbol_flags.rt"
+        );
+        let source = std::fs::read_to_string(source).unwrap();
+        let constants = source.lines().filter_map(|line| {
+            let (name, rest) = line.trim().strip_prefix("pub const ")?.split_once(": ")?;
+            let (width, bits) = rest.strip_suffix(';')?.split_once(" = 0x")?;
+            Some((width, u32::from_str_radix(bits, 16).unwrap(), name))
+        });
+        let context = ("u16", CONTEXT, "CONTEXT_MASK");
+        let symbol = SYMBOL.map(|(bit, name)| ("u16", bit, name));
+        let extended = EXTENDED.map(|(bit, name)| ("u32", bit, name));
+        let mut here = [&symbol[..], &[context], &extended].concat();
+        here.sort();
+        let mut there: Vec<_> = constants.collect();
+        there.sort();
+        assert_eq!(here, there);
+    }
+}
