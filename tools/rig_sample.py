@@ -1,7 +1,7 @@
 #!/usr/bin/env python3
 """A sample upload: the symbols of a camera rig, a pedestal, a jib and a box lens.
 
-    tools/rig_sample.py        writes samples/rig.hex, one hexadecimal line
+    tools/rig_sample.py        writes samples/rig.bin, and samples/rig.hex, the same as one hexadecimal line
 
 The entries are those that a controller would send: GUIDs beside structured types, attributes, extended flags, the former
 names of renamed symbols, comments in German.
@@ -83,6 +83,7 @@ def main():
     assert len(out) <= 16384
     folder = Path(__file__).resolve().parent.parent / "samples"
     folder.mkdir(exist_ok=True)
+    (folder / "rig.bin").write_bytes(out)
     (folder / "rig.hex").write_bytes(out.hex().upper().encode() + b"\n")
 
 

@@ -1,0 +1,17 @@
+//! The walk over an upload.
+
+use vindaskot::{AdsSymbolInfo, AdsSymbolInfoIterator, Refusal, WalkEnd, walk};
+
+/// Each entry with the place where it starts. A zero length is refused by 10, as the bounded walk and `list` refuse it:
+/// the step's own refusal, 2 (30, 0), does not say that the walk ends there.
+pub fn entries(upload: &[u8]) -> impl Iterator<Item = (usize, Result<AdsSymbolInfo<'_>, Refusal>)> {
+    let steps = AdsSymbolInfoIterator::new(upload).with_starts();
+    steps.map(|(at, entry)| (at, entry.map_err(|why| last_word(upload, at, why))))
+}
+
+fn last_word(upload: &[u8], at: usize, why: Refusal) -> Refusal {
+    match walk(upload, at, 1).end {
+        WalkEnd::Refused(stop) => stop,
+        _ => why,
+    }
+}

@@ -1,0 +1,60 @@
+//! How the program ends where it does not do what was asked.
+
+use std::io::{self, ErrorKind};
+use std::process::ExitCode;
+
+/// A message in a sentence, by the status that it ends with.
+pub enum Failure {
+    /// Refused or not found: 1.
+    Refused(String),
+    /// The arguments: 2.
+    Usage(String),
+    /// The file, or the archive: 2.
+    File(String),
+    /// Standard output can't be written: 2, but 0 where its reader has gone, since it has read what it wanted.
+    Output(io::Error),
+}
+
+impl Failure {
+    /// Says it on standard error; the status.
+    pub fn tell(self) -> ExitCode {
+        match self {
+            Self::Refused(why) => {
+                eprintln!("vindaskot: {why}.");
+                ExitCode::from(1)
+            }
+            Self::Usage(why) => {
+                eprintln!("vindaskot: {why}. `vindaskot --help` says what there is.");
+                ExitCode::from(2)
+            }
+            Self::File(why) => {
+                eprintln!("vindaskot: {why}.");
+                ExitCode::from(2)
+            }
+            Self::Output(why) if why.kind() == ErrorKind::BrokenPipe => ExitCode::SUCCESS,
+            Self::Output(why) => {
+                let why = in_words(&why);
+                eprintln!("vindaskot: standard output can't be written: {why}.");
+                ExitCode::from(2)
+            }
+        }
+    }
+}
+
+/// Only writing gives a bare error: reading says which file.
+impl From<io::Error> for Failure {
+    fn from(why: io::Error) -> Self {
+        Self::Output(why)
+    }
+}
+
+/// An error of the system, with no number.
+pub fn in_words(why: &io::Error) -> String {
+    match why.kind() {
+        ErrorKind::NotFound => "there is no such file".into(),
+        ErrorKind::PermissionDenied => "there is no permission to read it".into(),
+        ErrorKind::IsADirectory => "it is a directory".into(),
+        ErrorKind::StorageFull => "no space is left".into(),
+        _ => why.to_string(),
+    }
+}

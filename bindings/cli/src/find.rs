@@ -1,0 +1,100 @@
+//! `find`: a symbol by its name, an attribute by its name.
+
+use std::ffi::OsStr;
+use std::io::Write;
+use std::os::unix::ffi::OsStrExt;
+
+use vindaskot::text::encode_to_vec;
+use vindaskot::{AdsSymbolInfo, RefusalKind};
+
+use crate::entries::entries;
+use crate::failure::Failure;
+use crate::input::Upload;
+use crate::text::{exact, shown};
+use crate::words;
+
+pub fn find(
+    upload: &Upload,
+    name: &OsStr,
+    attribute: Option<&OsStr>,
+    out: &mut impl Write,
+) -> Result<bool, Failure> {
+    let (at, symbol) = named(upload, name)?;
+    match attribute {
+        None => writeln!(out, "{at} {}", exact(symbol.type_name()))?,
+        Some(attribute) => {
+            let value = value_of(upload, &symbol, attribute)?;
+            writeln!(out, "{}", exact(value))?;
+        }
+    }
+    Ok(true)
+}
+
+/// The first symbol of a name, and where it starts.
+pub fn named<'a>(upload: &'a Upload, name: &OsStr) -> Result<(usize, AdsSymbolInfo<'a>), Failure> {
+    let asked = windows_1252(name)?;
+    let bytes = &upload.bytes;
+    let at = vindaskot::find(bytes, &asked).map_err(|why| {
+        let said = words::refusal(&why);
+        if why.is(RefusalKind::NameNotFound) {
+            upload.refused(format!("{said}: {}", no_symbol(bytes, &asked)))
+        } else {
+            upload.refused(said)
+        }
+    })?;
+    let symbol = AdsSymbolInfo::try_from_slice(&bytes[at..]);
+    let symbol = symbol.map_err(|why| upload.refused(words::refusal(&why)))?;
+    Ok((at, symbol))
+}
+
+/// An argument as an upload would have it.
+fn windows_1252(argument: &OsStr) -> Result<Vec<u8>, Failure> {
+    encode_to_vec(argument.as_bytes()).map_err(|why| {
+        let argument = argument.to_string_lossy();
+        let why = words::refusal(&why);
+        Failure::Refused(format!(
+            "{argument}: {why}; a name is asked for in UTF-8 and looked up in Windows-1252"
+        ))
+    })
+}
+
+/// That no symbol has a name, and which one differs in case alone: a controller's own tools do not tell cases apart.
+fn no_symbol(bytes: &[u8], asked: &[u8]) -> String {
+    let accepted = entries(bytes).filter_map(|(_, entry)| entry.ok());
+    let mut names = accepted.map(|symbol| symbol.name());
+    let alike = names.find(|name| name.eq_ignore_ascii_case(asked));
+    let asked = shown(asked);
+    match alike {
+        Some(name) => format!("no symbol is {asked}, but one is {}", shown(name)),
+        None => format!("no symbol is {asked}"),
+    }
+}
+
+/// The value of the first attribute of a name. The question is asked of the crate here and nowhere else.
+fn attribute_named<'a>(symbol: &AdsSymbolInfo<'a>, name: &[u8]) -> Option<&'a [u8]> {
+    let one = symbol.attributes().find(|one| one.name() == name)?;
+    Some(one.value())
+}
+
+fn value_of<'a>(
+    upload: &Upload,
+    symbol: &AdsSymbolInfo<'a>,
+    attribute: &OsStr,
+) -> Result<&'a [u8], Failure> {
+    let asked = windows_1252(attribute)?;
+    attribute_named(symbol, &asked).ok_or_else(|| {
+        let why = no_attribute(symbol, &asked);
+        upload.refused(format!("refusal 13, name not found: {why}"))
+    })
+}
+
+fn no_attribute(symbol: &AdsSymbolInfo<'_>, asked: &[u8]) -> String {
+    let (name, asked) = (shown(symbol.name()), shown(asked));
+    let there: Vec<String> = symbol.attributes().map(|one| shown(one.name())).collect();
+    let there = if there.is_empty() {
+        "none".to_string()
+    } else {
+        there.join(", ")
+    };
+    format!("{name} has no attribute {asked}; it has {there}")
+}

@@ -1,0 +1,86 @@
+//! Every subcommand on the sample upload, in both forms.
+
+mod common;
+
+use common::{Session, repository};
+
+const FORMS: [&str; 2] = ["samples/rig.bin", "samples/rig.hex"];
+
+fn both(expected: &str, words: &[&str], after: &[&str]) {
+    let mut session = Session::new(repository());
+    let printed = FORMS.map(|file| {
+        let words = [words, &[file], after].concat();
+        let output = session.run(&words);
+        let text = String::from_utf8(output.stdout).unwrap();
+        text.lines()
+            .filter(|line| !line.starts_with("samples/"))
+            .collect::<Vec<_>>()
+            .join("\n")
+    });
+    assert_eq!(printed[0], printed[1], "both forms are the same upload");
+    session.hold(expected);
+}
+
+#[test]
+fn an_attribute() {
+    both(
+        "find-attribute.txt",
+        &["find"],
+        &["MAIN.stLens", "ZoomCurveEnd"],
+    );
+}
+
+#[test]
+fn a_symbol() {
+    both("find.txt", &["find"], &["MAIN.stLens.aTable"]);
+}
+
+#[test]
+fn everything_of_a_symbol() {
+    both("show.txt", &["show"], &["MAIN.stLens"]);
+}
+
+#[test]
+fn a_table() {
+    both("list.txt", &["list"], &[]);
+}
+
+#[test]
+fn lines_of_json() {
+    both("json.txt", &["list", "--json"], &[]);
+}
+
+#[test]
+fn a_check() {
+    both("check.txt", &["check"], &[]);
+}
+
+#[test]
+fn names_that_are_not_there() {
+    let mut session = Session::new(repository());
+    for words in [
+        &["find", "samples/rig.bin", "MAIN.stLenz"][..],
+        &["find", "samples/rig.bin", "main.stlens"],
+        &["find", "samples/rig.bin", "MAIN.stLens", "zoomcurveend"],
+        &["find", "samples/rig.bin", "MAIN.stLens", "ZoomCurve"],
+        &["find", "samples/rig.bin", "MAIN.nState", "unit"],
+        &["find", "samples/rig.bin", "MAIN.Ωmega"],
+        &["show", "samples/rig.hex", "MAIN"],
+    ] {
+        let output = session.run(words);
+        assert!(
+            output.stdout.is_empty(),
+            "a script must not take a message for an answer"
+        );
+    }
+    session.hold("not-there.txt");
+}
+
+/// The degree sign is a byte in the upload and two in UTF-8, on the way out and on the way in.
+#[test]
+fn text_is_utf_8() {
+    let mut session = Session::new(repository());
+    let output = session.run(&["find", "samples/rig.bin", "MAIN.stJib.fSwing", "unit"]);
+    assert_eq!(output.stdout, "°\n".as_bytes());
+    session.hold("degree.txt");
+}
