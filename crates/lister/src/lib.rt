@@ -1,7 +1,6 @@
 // Lists standard input on standard output, part by part. `parts` says what is printed of each part and of the line that is held at the end, and
 // `AddsUp` (crates/parts/specs) that this, after the header, is the listing of the whole input. Here the parts are read, handed on and written: a file
-// descriptor is no value of the program, so no contract speaks of this loop. That it hands on what the part before left, and that LINE is the length
-// for which `AddsUp` is stated, list_odd shows by running.
+// descriptor is no value of the program, so no contract speaks of this loop. That it hands on what the part before left, list_odd shows by running.
 use listing::FRAME;
 use parts::Listed;
 use refusal::Written;

@@ -1,5 +1,5 @@
 -- The parts of an input, listed one after another, add up to the listing of it.
-use Prim.Native.Nat.{ℕ, suc, _+_, _≤_}
+use Prim.Native.Nat.{ℕ, suc, _+_, _<_, _≤_}
 use native.Mathlib.Omega.{arith}
 use mathlib.Core.Path.{_≡_, refl, sym, ap, _∙_}
 use mathlib.Core.Bool.{Bool, true, false}
@@ -18,8 +18,8 @@ use Rattle.parts.specs.Parts.{joined, Reading, reading, largest, nextNum
 
 -- the line's buffer has its length, what is held is in it, and the numbers of so many more lines fit 64 bits
 record Fits (r : Reading) (k : ℕ) : Type 0 where
-  long : length (r .line) ≡ 32769
-  some : r .held ≤ 32769
+  long : 32768 < length (r .line)
+  some : r .held ≤ length (r .line)
   few : r .number + k ≤ largest
 
 next-is : (n k : ℕ) → n + suc k ≤ largest → nextNumber n ≡ n + 1
@@ -37,7 +37,8 @@ unfolding put
 held-by true r c k t e f =
     let h : length (take (r .held) (r .line)) ≡ r .held = length-take-le (r .held) (r .line) (omega (arith, f .some, f .long)) in
     let p = ltb-true (r .held) (length (r .line)) e in (
-      record { long = length-put (r .line) (r .held) (c ∷ []) (omega arith) ∙ f .long; some = omega (arith, f .long); few = omega (arith, f .few) },
+      let l = length-put (r .line) (r .held) (c ∷ []) (omega arith) in
+          record { long = omega (arith, l, f .long); some = omega (arith, l, f .long); few = omega (arith, f .few) },
       ap (λ (x : List ℕ). inputText (r .number) x t) (sym (take-at (heldOf r ++ (c ∷ [])) (drop (r .held + 1) (r .line)) (r .held + 1) (length-append (heldOf r) (c ∷ []) ∙ omega arith))),
     )
 held-by false r c k t e f =

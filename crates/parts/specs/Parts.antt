@@ -83,6 +83,6 @@ abbrev pub joined : List (List ℕ) → List ℕ
 joined [] = []
 joined (s ∷ parts) = s ++ joined parts
 
--- however the input is divided into parts, the whole listing of it is printed; line numbers need an input of fewer than 2^64 - 1 characters
+-- however the input is divided into parts, the whole listing of it is printed, by a buffer for more than the longest good line; line numbers need an input of fewer than 2^64 - 1 characters
 abbrev pub AddsUp : Type 0
-AddsUp = (line frame : List ℕ) (parts : List (List ℕ)) → length line ≡ 32769 → length (joined parts) < largest → printed line frame parts ≡ listing (joined parts)
+AddsUp = (line frame : List ℕ) (parts : List (List ℕ)) → 32768 < length line → length (joined parts) < largest → printed line frame parts ≡ listing (joined parts)

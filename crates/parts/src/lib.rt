@@ -1,7 +1,7 @@
 // The lines of an input that comes in parts, listed part by part. 01, "Listing".
 use listing::FRAME;
 ghost use mathlib.Core.Path.{_≡_};
-ghost use Prim.Native.Nat.{_+_, _*_, _/_, _≤_};
+ghost use Prim.Native.Nat.{_+_, _*_, _/_, _<_, _≤_};
 ghost use lib.ListN.{length, take};
 ghost use Rattle.listing.specs.Listing.{ListsLine};
 ghost use Rattle.parts.specs.Parts.{reading, nextNumber, EndsLine, ListsPart};
@@ -39,7 +39,8 @@ fn end_line(ended: bool, at: Listed, line: &[u8], frame: &mut [u8; FRAME], out: 
     at
 }
 
-// The lines that end in a part of the input. The characters after the last of them are held.
+// The lines that end in a part of the input. The characters after the last of them are held: a buffer for more than the longest good line knows a longer
+// one by what is held of it.
 pub fn list_part(
     s: &[u8],
     number: usize,
@@ -48,6 +49,7 @@ pub fn list_part(
     frame: &mut [u8; FRAME],
     out: &mut [u8],
 ) -> Listed
+    requires { ⌜ 32768 < length (now line) ⌝ }
     requires { ⌜ (length (now line) + length (now s)) * 239 / 2 ≤ length (now out) ⌝ }
     ensures { λ r. ⌜ ListsPart (reading number held (now (line .entry)) (now (frame .entry))) (now (s .entry)) (now (out .entry)) (now (out .exit)) (now (line .exit)) (now (frame .exit)) r ⌝ }
 {
@@ -78,6 +80,7 @@ pub fn list_rest(
     frame: &mut [u8; FRAME],
     out: &mut [u8],
 ) -> usize
+    requires { ⌜ 32768 < length (now line) ⌝ }
     requires { ⌜ length (now line) * 239 / 2 ≤ length (now out) ⌝ }
     ensures { λ r. ⌜ ListsLine number (take held (now (line .entry))) (now (frame .entry)) (now (frame .exit)) (now (out .entry)) 0 (now (out .exit)) r ⌝ }
 {

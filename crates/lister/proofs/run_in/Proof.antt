@@ -32,7 +32,7 @@ read-full-requires : tie.Need-read-full-requires Inv-loop μ-loop
 read-full-requires c κs = search needs
 
 list-rest-requires : tie.Need-list-rest-requires Inv-loop μ-loop
-list-rest-requires c κs = omega arith
+list-rest-requires c κs = (omega arith, omega arith)
 
 say-requires-2 : tie.Need-say-requires-2 Inv-loop μ-loop
 say-requires-2 c κs = search needs
@@ -44,7 +44,7 @@ part-of-requires : tie.Need-part-of-requires Inv-loop μ-loop
 part-of-requires c κs = search needs
 
 list-part-requires : tie.Need-list-part-requires Inv-loop μ-loop
-list-part-requires c κs = omega (arith, short-of _ _ _ _ (c .before .before .before .part-of .ensures .0))
+list-part-requires c κs = (omega arith, omega (arith, short-of _ _ _ _ (c .before .before .before .part-of .ensures .0)))
 
 say-requires-3 : tie.Need-say-requires-3 Inv-loop μ-loop
 say-requires-3 c κs = search needs
