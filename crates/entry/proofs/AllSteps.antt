@@ -1,15 +1,14 @@
 -- The walk leaves out no step.
 use Prim.Native.Nat.{ℕ, zero, suc, _+_, _<_, _≤_}
 use native.Mathlib.Omega.{arith}
-use mathlib.Core.Path.{_≡_, refl, sym, ap, _∙_}
+use mathlib.Core.Path.{_≡_, refl, ap}
 use mathlib.Core.Bool.{Bool, true, false}
 use mathlib.Core.List.{List, [], _∷_}
 use lib.Dec.{leb}
 use lib.ListN.{length}
-use borrow.Author.Tests.{leb-true, leb-false, le-leb, eqb-false}
+use borrow.Author.Tests.{leb-true, leb-false, eqb-false}
 use Rattle.le.specs.Le.{if_then_else_}
 use Rattle.refusal.specs.declared.Refusal.the-variants.{ZeroEntryLength}
-use Rattle.entry.specs.declared.WalkEnd.{WalkEnd}
 use Rattle.entry.specs.declared.WalkEnd.the-variants.{Finished, OutOfSteps, Refused}
 use Rattle.entry.specs.Entry.{claimAt}
 use Rattle.entry.specs.Walk.{stands, stepsFrom, steps, cursorAfter, any, endAfter, AllSteps}

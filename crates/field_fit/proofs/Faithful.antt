@@ -1,6 +1,6 @@
 -- Two fit fields that mean the same are written as the same bytes.
 use Prim.Native.Nat.{ℕ}
-use mathlib.Core.Path.{_≡_, refl, sym, ap, _∙_}
+use mathlib.Core.Path.{_≡_, refl, ap, _∙_}
 use mathlib.Core.Bool.{Bool, true, false}
 use mathlib.Core.List.{List}
 use mathlib.Core.Option.{none, some}
@@ -9,13 +9,12 @@ use Rattle.le.specs.Le.{if_then_else_}
 use Rattle.refusal.specs.Writing.{counted, goodFrom}
 use Rattle.attr.specs.Writing.{goodAttribute}
 use Rattle.attr.specs.Told.{attributesIn}
-use Rattle.field.specs.Field.{typeGuid, copyMask, attributes}
+use Rattle.field.specs.Field.{typeGuid, attributes}
 use Rattle.field_walk.specs.Told.{Field}
 use Rattle.record_fit.proofs.Given.{same-given}
 use Rattle.record_fit.proofs.Same.{same-attributes}
 use Rattle.wire.specs.Wire.{attributesOf}
 use Rattle.field_writer.specs.Writing.{flagged, numbersOf, headerOf, guidOf, sectionsOf, fieldBytes}
-use Rattle.field_fit.specs.Demand3.{Parts}
 use Rattle.field_fit.specs.Faithful.{FieldsFaithful}
 use Rattle.field_fit.proofs.Accepted.{accepted}
 

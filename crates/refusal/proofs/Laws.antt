@@ -18,7 +18,7 @@ use Rattle.refusal.specs.declared.Written.the-variants.{Done, Refused}
 use Rattle.refusal.specs.declared.Counted.{Counted}
 use Rattle.refusal.specs.declared.Checked.{Checked}
 use Rattle.refusal.specs.declared.Checked.the-variants as checked
-use Rattle.refusal.specs.Writing.{Writing, Bytes, Refuse, answer, leaves, Writes, counted, Good, Next, None, byGood, goodFrom, exactly, afterCheck}
+use Rattle.refusal.specs.Writing.{Writing, Bytes, Refuse, Writes, counted, Good, Next, None, byGood, goodFrom, exactly, afterCheck}
 
 pub refuses : {w : Writing} {why : Refusal} {old : List ℕ} → w ≡ Refuse why → Writes w old old (Refused why)
 refuses e = record { said = simp e; left = simp e }

@@ -17,7 +17,6 @@ use Rattle.refactor.specs.declared.Chain.{Chain}
 use Rattle.symbol.specs.declared.ExtendedFlags.{ExtendedFlags}
 use Rattle.symbol.specs.declared.Sections.{Sections}
 use Rattle.symbol.specs.declared.AdsSymbolInfo.{AdsSymbolInfo}
-use Rattle.symbol.specs.declared.SymbolAnswer.{SymbolAnswer}
 use Rattle.symbol.specs.declared.SymbolAnswer.the-variants.{Record, Refused}
 use Rattle.symbol.specs.declared.SymbolRead.{SymbolRead}
 

@@ -1,13 +1,11 @@
 -- A written entry, grown by any bytes, is read as the symbol that was written.
-use Prim.Native.Nat.{ℕ, zero, suc, _+_, _-_, _<_, _≤_}
+use Prim.Native.Nat.{ℕ, _+_, _<_}
 use native.Mathlib.Omega.{arith}
 use mathlib.Core.Path.{_≡_, refl, sym, ap, _∙_}
-use mathlib.Core.Bool.{Bool, true, false, Bool·beq}
-use mathlib.Core.List.{List, [], _∷_, _++_, append-assoc}
-use lib.Dec.{ltb}
+use mathlib.Core.List.{List, _++_}
 use lib.ListN.{length, length-append}
 use borrow.Author.Tests.{le-ltb}
-use Rattle.le.specs.Le.{if_then_else_, le2, le4, has, part}
+use Rattle.le.specs.Le.{has}
 use Rattle.symbol.specs.Symbol.{typeGuid, attributes, extendedFlags, refactorInfo, sectionsOf, infoOf, symbolEntry}
 use Rattle.symbol.specs.declared.Sections.{Sections}
 use Rattle.wire.specs.Wire.{attributesOf, entryOf}

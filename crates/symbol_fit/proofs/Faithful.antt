@@ -1,23 +1,17 @@
 -- Two fit symbols that mean the same are written as the same bytes.
 use Prim.Native.Nat.{ℕ}
-use mathlib.Core.Path.{_≡_, refl, sym, ap, _∙_}
+use mathlib.Core.Path.{_≡_, refl, ap, _∙_}
 use mathlib.Core.Bool.{Bool, true, false}
-use mathlib.Core.List.{List, _++_}
+use mathlib.Core.List.{List}
 use mathlib.Core.Option.{none, some}
 use Rattle.le.specs.Le.{if_then_else_}
-use Rattle.refusal.specs.Asked.{Given}
-use Rattle.flags.specs.declared.symbol_flags.AdsSymbolFlags.{AdsSymbolFlags}
 use Rattle.flags.specs.declared.symbol_flags.AdsSymbol2Flags.{AdsSymbol2Flags}
-use Rattle.attr.specs.Told.{attributesIn}
-use Rattle.refactor.specs.Told.{renamingsIn}
 use Rattle.refactor.proofs.Read.{beq}
 use Rattle.symbol.specs.Symbol.{typeGuid, extendedFlags}
 use Rattle.walk.specs.Told.{Symbol}
 use Rattle.record_fit.proofs.Given.{same-given}
 use Rattle.record_fit.proofs.Same.{same-attributes, same-refactors}
-use Rattle.wire.specs.Wire.{lengthsOf, stringsOf}
-use Rattle.symbol_writer.specs.Writing.{Parts, flagged, extended, numbersOf, headerOf, guidOf, extendedOf, sectionsOf, symbolBytes}
-use Rattle.symbol_fit.specs.Demand3.{symbolMeant}
+use Rattle.symbol_writer.specs.Writing.{flagged, extended, numbersOf, headerOf, guidOf, extendedOf, sectionsOf, symbolBytes}
 use Rattle.symbol_fit.specs.Faithful.{SymbolsFaithful}
 use Rattle.symbol_fit.proofs.Accepted.{accepted}
 

@@ -1,10 +1,9 @@
 -- The sections of a symbol that was written are read back.
-use Prim.Native.Nat.{ℕ, zero, suc, _+_, _-_, _<_, _≤_}
-use native.Mathlib.Omega.{arith}
+use Prim.Native.Nat.{ℕ, _+_, _<_}
 use native.Mathlib.Nat.{add-assoc}
-use mathlib.Core.Path.{_≡_, refl, sym, ap, _∙_}
-use mathlib.Core.Bool.{Bool, true, false, Bool·beq}
-use mathlib.Core.List.{List, [], _∷_, _++_, append-assoc}
+use mathlib.Core.Path.{_≡_}
+use mathlib.Core.Bool.{Bool, true, Bool·beq}
+use mathlib.Core.List.{List, [], _++_, append-assoc}
 use lib.Dec.{ltb}
 use lib.ListN.{length, length-append}
 use Rattle.le.specs.Le.{if_then_else_, bytes2, bytes4, has}

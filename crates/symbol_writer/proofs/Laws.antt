@@ -1,17 +1,16 @@
 -- The length of an entry, and what a passed check tells.
-use Prim.Native.Nat.{ℕ, _+_, _*_, _<_, _≤_}
+use Prim.Native.Nat.{ℕ, _+_, _<_, _≤_}
 use native.Mathlib.Omega.{arith}
 use native.Mathlib.Nat.{zero-add}
-use mathlib.Core.Path.{_≡_, refl, ap, _∙_}
+use mathlib.Core.Path.{_≡_, refl, _∙_}
 use mathlib.Core.Bool.{Bool, true, false}
-use mathlib.Core.List.{List, [], _++_}
+use mathlib.Core.List.{List}
 use lib.ListN.{length, getD, length-append}
-use Rattle.le.specs.Le.{if_then_else_}
 use Rattle.refusal.specs.declared.Checked.the-variants.{Passed}
 use Rattle.refusal.specs.Writing.{counted, goodFrom}
 use Rattle.attr.specs.Writing.{goodAttribute}
 use Rattle.attr.proofs.Read.{good-bound}
-use Rattle.symbol.specs.Symbol.{typeGuid, attributes, extendedFlags}
+use Rattle.symbol.specs.Symbol.{typeGuid}
 use Rattle.wire.specs.Wire.{lengthsOf, thenCheck, stringsChecked, blockChecked, entryWriting, Fit}
 use Rattle.refactor.specs.Writing.{refactorsChecked}
 use Rattle.wire.proofs.Laws.{fit, count-fits, length-strings, length-attributes, length-entry}

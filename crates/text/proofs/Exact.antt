@@ -3,7 +3,7 @@ use mathlib.Core.Path.{_≡_, refl, sym, ap, _∙_, subst}
 use mathlib.Core.Logic.{_⊎_, inl, inr, ⊎-elim}
 use mathlib.Core.List.{List, [], _∷_, _++_}
 use mathlib.Core.Bool.{Bool, true, false}
-use Prim.Native.Nat.{ℕ, suc, _+_, _-_, _*_, _/_, _%_, _≤_, _<_}
+use Prim.Native.Nat.{ℕ, suc, _+_, _*_, _/_, _%_, _≤_, _<_}
 use native.Mathlib.Nat.{div-div-eq-div-mul}
 use native.Mathlib.Omega.{arith}
 use lib.Dec.{leb, eqb}
@@ -11,7 +11,7 @@ use lib.ListN.{length, drop}
 use borrow.Author.Tests.{le-leb, leb-true, eqb-true, eqb-false}
 use Rattle.le.specs.Le.{if_then_else_}
 use Rattle.text.proofs.Utf8.{le-or-lt, utf8-1, utf8-2, utf8-3, utf8-4, lead-1, lead-2, lead-3, lead-4, lead-low, lead-over}
-use Rattle.text.specs.Utf8.{utf8, within, following, scalarOf}
+use Rattle.text.specs.Utf8.{utf8, following, scalarOf}
 use Rattle.text.specs.declared.Scalar.the-variants.{Point, Bad}
 
 -- a Unicode scalar value: below 110000 and no surrogate

@@ -1,7 +1,7 @@
 use borrow.Author.Needs.{needs}
 use mathlib.Core.Path.{_≡_}
 use lib.ListN.{length}
-use Prim.Native.Nat.{ℕ, _+_, _-_, _≤_}
+use Prim.Native.Nat.{_-_, _≤_}
 use Rattle.answers.proofs.whole_lines.Statement.{statement}
 use Rattle.answers.proofs.whole_lines.Tie as tie
 

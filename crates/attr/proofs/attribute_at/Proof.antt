@@ -1,13 +1,8 @@
 use Rattle.attr.specs.Attribute.{attributeAt}
-use borrow.Author.Tests.{lt-ltb, le-ltb, le-leb, lt-leb, eq-eqb, ne-eqb}
+use borrow.Author.Tests.{lt-ltb, le-ltb}
 use borrow.Author.Needs.{needs}
 use Rattle.attr.proofs.attribute_at.Statement.{statement}
 use Rattle.attr.proofs.attribute_at.Tie as tie
-use Rattle.attr.proofs.attribute_at.Reads as reads
-use Rattle.attr.proofs.attribute_at.Lts as lts
-use Rattle.attr.proofs.sum.Reads as sum-reads
-use Rattle.attr.proofs.wide.Reads as wide-reads
-use Rattle.le.proofs.room.Reads as room-reads
 
 room-requires : tie.Need-room-requires
 room-requires c κs = search needs

@@ -4,9 +4,6 @@ use Rattle.attr.specs.Attribute.{attributeNth}
 use mathlib.Core.Path.{_≡_, _∙_, sym}
 use Rattle.attr.proofs.attribute_nth.Statement.{statement}
 use Rattle.attr.proofs.attribute_nth.Tie as tie
-use Rattle.attr.proofs.attribute_nth.Reads as reads
-use Rattle.attr.proofs.attribute_nth.Lts as lts
-use Rattle.attr.proofs.attribute_at.Reads as attribute-at-reads
 
 abbrev Inv-loop : tie.InvT-loop
 Inv-loop s from number at₀ left₀ at left = attributeNth s at left ≡ attributeNth s from number

@@ -1,13 +1,8 @@
 use Rattle.attr.specs.Attribute.{attributesAt}
-use borrow.Author.Tests.{lt-ltb, le-ltb, le-leb, lt-leb, eq-eqb, ne-eqb}
+use borrow.Author.Tests.{le-leb, lt-leb}
 use borrow.Author.Needs.{needs}
 use Rattle.attr.proofs.attributes_at.Statement.{statement}
 use Rattle.attr.proofs.attributes_at.Tie as tie
-use Rattle.attr.proofs.attributes_at.Reads as reads
-use Rattle.attr.proofs.attributes_at.Lts as lts
-use Rattle.attr.proofs.attributes_from.Reads as attributes-from-reads
-use Rattle.le.proofs.room.Reads as room-reads
-use Rattle.le.proofs.u16_at.Reads as u16-at-reads
 
 room-requires : tie.Need-room-requires
 room-requires c κs = search needs

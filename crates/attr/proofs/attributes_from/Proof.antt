@@ -7,9 +7,6 @@ use Prim.Native.Nat.{_+_}
 use mathlib.Core.Path.{_≡_, _∙_, sym}
 use Rattle.attr.proofs.attributes_from.Statement.{statement}
 use Rattle.attr.proofs.attributes_from.Tie as tie
-use Rattle.attr.proofs.attributes_from.Reads as reads
-use Rattle.attr.proofs.attributes_from.Lts as lts
-use Rattle.attr.proofs.attribute_at.Reads as attribute-at-reads
 
 abbrev Inv-loop : tie.InvT-loop
 Inv-loop s from count at₀ shown₀ left₀ at shown left = (attributesFrom s at shown left ≡ attributesFrom s from 0 count) × (shown + left ≡ count)

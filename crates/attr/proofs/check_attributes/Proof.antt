@@ -1,12 +1,7 @@
 use Rattle.attr.specs.Writing.{attributesChecked}
-use borrow.Author.Tests.{lt-ltb, le-ltb, le-leb, lt-leb, eq-eqb, ne-eqb}
 use borrow.Author.Needs.{needs}
 use Rattle.attr.proofs.check_attributes.Statement.{statement}
 use Rattle.attr.proofs.check_attributes.Tie as tie
-use Rattle.attr.proofs.check_attributes.Reads as reads
-use Rattle.attr.proofs.check_attributes.Lts as lts
-use Rattle.attr.proofs.good_from.Reads as good-from-reads
-use Rattle.refusal.proofs.check_exact.Reads as check-exact-reads
 
 good-from-requires : tie.Need-good-from-requires
 good-from-requires c κs = search needs

@@ -1,12 +1,7 @@
 use Rattle.attr.specs.Writing.{endsZero}
-use borrow.Author.Tests.{lt-ltb, le-ltb, le-leb, lt-leb, eq-eqb, ne-eqb}
 use borrow.Author.Needs.{needs}
 use Rattle.attr.proofs.ends_zero.Statement.{statement}
 use Rattle.attr.proofs.ends_zero.Tie as tie
-use Rattle.attr.proofs.ends_zero.Reads as reads
-use Rattle.attr.proofs.ends_zero.Lts as lts
-use Rattle.attr.proofs.wide.Reads as wide-reads
-use Rattle.le.proofs.zero_at.Reads as zero-at-reads
 
 wide-requires : tie.Need-wide-requires
 wide-requires c κs = search needs

@@ -8,10 +8,6 @@ use Prim.Native.Nat.{_+_}
 use mathlib.Core.Path.{_≡_, _∙_, sym}
 use Rattle.attr.proofs.good_from.Statement.{statement}
 use Rattle.attr.proofs.good_from.Tie as tie
-use Rattle.attr.proofs.good_from.Reads as reads
-use Rattle.attr.proofs.good_from.Lts as lts
-use Rattle.attr.proofs.attribute_at.Reads as attribute-at-reads
-use Rattle.attr.proofs.ends_zero.Reads as ends-zero-reads
 
 abbrev Inv-loop : tie.InvT-loop
 Inv-loop s count at₀ good₀ left₀ at good left = (goodFrom (goodAttribute s) at good left ≡ goodFrom (goodAttribute s) 0 0 count) × (good + left ≡ count)

@@ -3,12 +3,9 @@ use borrow.Author.Needs.{needs}
 use borrow.Author.Tests.{le-leb, lt-leb, eq-eqb, ne-eqb}
 use Rattle.entry.proofs.Laws.{boundedFrom, bounded-step, bounded-none, bounded-is}
 use Prim.Native.Nat.{_+_}
-use mathlib.Core.Path.{_≡_, _∙_, sym, ap}
+use mathlib.Core.Path.{_≡_, _∙_, sym}
 use Rattle.entry.proofs.bounded_walk.Statement.{statement}
 use Rattle.entry.proofs.bounded_walk.Tie as tie
-use Rattle.entry.proofs.bounded_walk.Reads as reads
-use Rattle.entry.proofs.bounded_walk.Lts as lts
-use Rattle.entry.proofs.claim_at.Reads as claim-at-reads
 
 abbrev Inv-loop : tie.InvT-loop
 Inv-loop bytes from allowed at₀ left₀ steps₀ at left steps = (boundedFrom bytes at steps left ≡ boundedFrom bytes from 0 allowed) × (steps + left ≡ allowed)

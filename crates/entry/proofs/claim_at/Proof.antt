@@ -1,11 +1,8 @@
 use Rattle.entry.specs.Entry.{claimAt}
-use borrow.Author.Tests.{lt-ltb, le-ltb, le-leb, lt-leb, eq-eqb, ne-eqb}
+use borrow.Author.Tests.{lt-ltb, le-ltb, le-leb, lt-leb}
 use borrow.Author.Needs.{needs}
 use Rattle.entry.proofs.claim_at.Statement.{statement}
 use Rattle.entry.proofs.claim_at.Tie as tie
-use Rattle.entry.proofs.claim_at.Reads as reads
-use Rattle.entry.proofs.claim_at.Lts as lts
-use Rattle.le.proofs.u32_at.Reads as u32-at-reads
 
 returns : tie.Need-returns
 unfolding claimAt

@@ -1,11 +1,8 @@
 use Rattle.entry.specs.Entry.{directClaim}
-use borrow.Author.Tests.{lt-ltb, le-ltb, le-leb, lt-leb, eq-eqb, ne-eqb}
+use borrow.Author.Tests.{lt-ltb, le-ltb}
 use borrow.Author.Needs.{needs}
 use Rattle.entry.proofs.direct_claim.Statement.{statement}
 use Rattle.entry.proofs.direct_claim.Tie as tie
-use Rattle.entry.proofs.direct_claim.Reads as reads
-use Rattle.entry.proofs.direct_claim.Lts as lts
-use Rattle.le.proofs.first_u32.Reads as first-u32-reads
 
 returns : tie.Need-returns
 unfolding directClaim

@@ -2,14 +2,9 @@ use native.Mathlib.Omega.{arith}
 use mathlib.Core.Path.{refl}
 use Rattle.le.proofs.Place.{at-place}
 use Rattle.entry.specs.Entry.{ownBytes}
-use borrow.Author.Tests.{lt-ltb, le-ltb, le-leb, lt-leb, eq-eqb, ne-eqb}
 use borrow.Author.Needs.{needs}
 use Rattle.entry.proofs.own_bytes.Statement.{statement}
 use Rattle.entry.proofs.own_bytes.Tie as tie
-use Rattle.entry.proofs.own_bytes.Reads as reads
-use Rattle.entry.proofs.own_bytes.Lts as lts
-use Rattle.entry.proofs.direct_claim.Reads as direct-claim-reads
-use Rattle.le.proofs.part_of.Reads as part-of-reads
 
 direct-claim-requires : tie.Need-direct-claim-requires
 direct-claim-requires c κs = search needs

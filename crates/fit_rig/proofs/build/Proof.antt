@@ -4,9 +4,6 @@ use mathlib.Core.Path.{_≡_}
 use Prim.Native.Nat.{_≤_, _-_}
 use Rattle.fit_rig.proofs.build.Statement.{statement}
 use Rattle.fit_rig.proofs.build.Tie as tie
-use Rattle.fit_rig.proofs.build.Reads as reads
-use Rattle.fit_rig.proofs.build.Lts as lts
-use Rattle.fit_rig.proofs.put_one.Reads as put-one-reads
 
 abbrev Inv-loop : tie.InvT-loop
 Inv-loop out₀ at₀ i₀ out at i = (at ≤ length out) × (length out ≡ length out₀)

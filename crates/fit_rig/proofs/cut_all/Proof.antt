@@ -3,10 +3,6 @@ use lib.ListN.{length}
 use Prim.Native.Nat.{_≤_, _-_}
 use Rattle.fit_rig.proofs.cut_all.Statement.{statement}
 use Rattle.fit_rig.proofs.cut_all.Tie as tie
-use Rattle.fit_rig.proofs.cut_all.Reads as reads
-use Rattle.fit_rig.proofs.cut_all.Lts as lts
-use Rattle.fit_rig.proofs.show_cut.Reads as show-cut-reads
-use Rattle.fit_rig.proofs.walk_all.Reads as walk-all-reads
 
 abbrev Inv-loop : tie.InvT-loop
 Inv-loop bytes k₀ k = k ≤ length bytes

@@ -4,9 +4,6 @@ use mathlib.Core.Path.{_≡_}
 use Prim.Native.Nat.{_≤_, _-_}
 use Rattle.fit_rig.proofs.grow.Statement.{statement}
 use Rattle.fit_rig.proofs.grow.Tie as tie
-use Rattle.fit_rig.proofs.grow.Reads as reads
-use Rattle.fit_rig.proofs.grow.Lts as lts
-use Rattle.le.proofs.put_u32.Reads as put-u32-reads
 
 abbrev Inv-loop : tie.InvT-loop
 Inv-loop out₀ n extra whole i₀ out i = (i ≤ whole) × (length out ≡ length out₀)

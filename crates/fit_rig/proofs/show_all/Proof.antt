@@ -2,12 +2,6 @@ use borrow.Author.Needs.{needs}
 use Prim.Native.Nat.{_≤_}
 use Rattle.fit_rig.proofs.show_all.Statement.{statement}
 use Rattle.fit_rig.proofs.show_all.Tie as tie
-use Rattle.fit_rig.proofs.show_all.Reads as reads
-use Rattle.fit_rig.proofs.show_all.Lts as lts
-use Rattle.fit_rig.proofs.show_record.Reads as show-record-reads
-use Rattle.fit_rig.proofs.text.Reads as text-reads
-use Rattle.walk.proofs.Cursor.new.Reads as new-reads
-use Rattle.walk.proofs.Cursor.step.Reads as step-reads
 
 abbrev Inv-loop : tie.InvT-loop
 Inv-loop bytes cursor₀ left₀ t8 cursor left = left ≤ 1000

@@ -2,11 +2,6 @@ use borrow.Author.Needs.{needs}
 use Prim.Native.Nat.{_≤_, _+_}
 use Rattle.fit_rig.proofs.walk_all.Statement.{statement}
 use Rattle.fit_rig.proofs.walk_all.Tie as tie
-use Rattle.fit_rig.proofs.walk_all.Reads as reads
-use Rattle.fit_rig.proofs.walk_all.Lts as lts
-use Rattle.refusal.proofs.Refusal.figures.Reads as figures-reads
-use Rattle.walk.proofs.Cursor.new.Reads as new-reads
-use Rattle.walk.proofs.Cursor.step.Reads as step-reads
 
 abbrev Inv-loop : tie.InvT-loop
 Inv-loop bytes records₀ refusals₀ number₀ expected₀ got₀ cursor₀ left₀ records refusals number expected got cursor left = records + refusals + left ≤ 1000

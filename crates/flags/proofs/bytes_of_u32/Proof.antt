@@ -1,6 +1,5 @@
 -- `flags::bytes_of_u32` meets its contract. Assumes nothing.
 use borrow.Author.Needs.{needs}
-use Rattle.le.specs.Le.{bytes4}
 use Rattle.flags.proofs.bytes_of_u32.Statement.{statement}
 use Rattle.flags.proofs.bytes_of_u32.Tie as tie
 

@@ -1,12 +1,8 @@
 use Rattle.guid.specs.Guid.{guidAt}
-use borrow.Author.Tests.{lt-ltb, le-ltb, le-leb, lt-leb, eq-eqb, ne-eqb}
+use borrow.Author.Tests.{le-leb, lt-leb}
 use borrow.Author.Needs.{needs}
 use Rattle.guid.proofs.guid_at.Statement.{statement}
 use Rattle.guid.proofs.guid_at.Tie as tie
-use Rattle.guid.proofs.guid_at.Reads as reads
-use Rattle.guid.proofs.guid_at.Lts as lts
-use Rattle.guid.proofs.sixteen.Reads as sixteen-reads
-use Rattle.le.proofs.room.Reads as room-reads
 
 room-requires : tie.Need-room-requires
 room-requires c κs = search needs

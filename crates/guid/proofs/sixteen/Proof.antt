@@ -8,8 +8,6 @@ use Prim.Native.Nat.{_≤_, _-_}
 use mathlib.Core.Path.{_≡_, refl, sym, _∙_}
 use Rattle.guid.proofs.sixteen.Statement.{statement}
 use Rattle.guid.proofs.sixteen.Tie as tie
-use Rattle.guid.proofs.sixteen.Reads as reads
-use Rattle.guid.proofs.sixteen.Lts as lts
 
 abbrev Inv-loop : tie.InvT-loop
 Inv-loop s at bytes₀ i₀ bytes i = (i ≤ 16) × (length bytes ≡ 16) × (take i bytes ≡ part s at i)

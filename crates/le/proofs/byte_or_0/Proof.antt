@@ -3,8 +3,6 @@ use lib.ListN.{List·getD-eq-default}
 use borrow.Author.Needs.{needs}
 use Rattle.le.proofs.byte_or_0.Statement.{statement}
 use Rattle.le.proofs.byte_or_0.Tie as tie
-use Rattle.le.proofs.byte_or_0.Reads as reads
-use Rattle.le.proofs.byte_or_0.Lts as lts
 
 shared-slice-read-result : tie.Need-shared-slice-read-result
 shared-slice-read-result c = search needs

@@ -2,10 +2,6 @@ use Rattle.le.specs.Le.{le4}
 use borrow.Author.Needs.{needs}
 use Rattle.le.proofs.first_u32.Statement.{statement}
 use Rattle.le.proofs.first_u32.Tie as tie
-use Rattle.le.proofs.first_u32.Reads as reads
-use Rattle.le.proofs.first_u32.Lts as lts
-use Rattle.le.proofs.byte_or_0.Reads as byte-or-0-reads
-use Rattle.le.proofs.join4.Reads as join4-reads
 
 byte-or-0-requires : tie.Need-byte-or-0-requires
 byte-or-0-requires c κs = search needs

@@ -10,8 +10,6 @@ use Rattle.le.specs.Le.{part}
 use borrow.Author.Needs.{needs}
 use Rattle.le.proofs.part_of.Statement.{statement}
 use Rattle.le.proofs.part_of.Tie as tie
-use Rattle.le.proofs.part_of.Reads as reads
-use Rattle.le.proofs.part_of.Lts as lts
 
 -- src/lib.rt:46:17
 sub-if2 : tie.Need-sub-if2

@@ -2,9 +2,6 @@ use borrow.Author.Needs.{needs}
 use Rattle.le.specs.Le.{le2}
 use Rattle.le.proofs.u16_at.Statement.{statement}
 use Rattle.le.proofs.u16_at.Tie as tie
-use Rattle.le.proofs.u16_at.Reads as reads
-use Rattle.le.proofs.u16_at.Lts as lts
-use Rattle.le.proofs.join2.Reads as join2-reads
 
 -- src/lib.rt:36:11
 shared-slice-read-join2 : tie.Need-shared-slice-read-join2

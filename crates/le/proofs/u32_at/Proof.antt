@@ -2,9 +2,6 @@ use borrow.Author.Needs.{needs}
 use Rattle.le.specs.Le.{le4}
 use Rattle.le.proofs.u32_at.Statement.{statement}
 use Rattle.le.proofs.u32_at.Tie as tie
-use Rattle.le.proofs.u32_at.Reads as reads
-use Rattle.le.proofs.u32_at.Lts as lts
-use Rattle.le.proofs.join4.Reads as join4-reads
 
 -- src/lib.rt:43:11
 shared-slice-read-join4 : tie.Need-shared-slice-read-join4

@@ -4,8 +4,6 @@ use Rattle.le.proofs.Laws.{zero-here, zero-past}
 use borrow.Author.Needs.{needs}
 use Rattle.le.proofs.zero_at.Statement.{statement}
 use Rattle.le.proofs.zero_at.Tie as tie
-use Rattle.le.proofs.zero_at.Reads as reads
-use Rattle.le.proofs.zero_at.Lts as lts
 
 -- src/lib.rt:62:16
 sub-if2 : tie.Need-sub-if2

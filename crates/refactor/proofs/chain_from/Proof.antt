@@ -3,13 +3,10 @@ use borrow.Author.Needs.{needs}
 use Rattle.refactor.proofs.Laws.{chain-step, record-inside}
 use Rattle.refactor.specs.Refactor.{chainFrom, chainAt}
 use lib.ListN.{length}
-use Prim.Native.Nat.{_+_, _-_, _≤_}
+use Prim.Native.Nat.{_-_, _≤_}
 use mathlib.Core.Path.{_≡_, _∙_, sym}
 use Rattle.refactor.proofs.chain_from.Statement.{statement}
 use Rattle.refactor.proofs.chain_from.Tie as tie
-use Rattle.refactor.proofs.chain_from.Reads as reads
-use Rattle.refactor.proofs.chain_from.Lts as lts
-use Rattle.refactor.proofs.refactor_at.Reads as refactor-at-reads
 
 abbrev Inv-loop : tie.InvT-loop
 Inv-loop s from at₀ count₀ at count = (chainFrom s at count (length s - at) ≡ chainAt s from) × (count ≤ at)

@@ -1,12 +1,8 @@
 use Rattle.refactor.specs.Refactor.{chainSection}
-use borrow.Author.Tests.{lt-ltb, le-ltb, le-leb, lt-leb, eq-eqb, ne-eqb}
+use borrow.Author.Tests.{lt-ltb, le-ltb}
 use borrow.Author.Needs.{needs}
 use Rattle.refactor.proofs.chain_section.Statement.{statement}
 use Rattle.refactor.proofs.chain_section.Tie as tie
-use Rattle.refactor.proofs.chain_section.Reads as reads
-use Rattle.refactor.proofs.chain_section.Lts as lts
-use Rattle.refactor.proofs.chain_from.Reads as chain-from-reads
-use Rattle.refactor.proofs.kept.Reads as kept-reads
 
 chain-from-requires : tie.Need-chain-from-requires
 chain-from-requires c κs = search needs

@@ -1,12 +1,7 @@
 use Rattle.refactor.specs.Writing.{refactorsChecked}
-use borrow.Author.Tests.{lt-ltb, le-ltb, le-leb, lt-leb, eq-eqb, ne-eqb}
 use borrow.Author.Needs.{needs}
 use Rattle.refactor.proofs.check_refactors.Statement.{statement}
 use Rattle.refactor.proofs.check_refactors.Tie as tie
-use Rattle.refactor.proofs.check_refactors.Reads as reads
-use Rattle.refactor.proofs.check_refactors.Lts as lts
-use Rattle.refactor.proofs.good_from.Reads as good-from-reads
-use Rattle.refusal.proofs.check_exact.Reads as check-exact-reads
 
 good-from-requires : tie.Need-good-from-requires
 good-from-requires c κs = search needs

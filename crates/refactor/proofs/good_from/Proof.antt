@@ -8,11 +8,6 @@ use Prim.Native.Nat.{_+_}
 use mathlib.Core.Path.{_≡_, _∙_, sym}
 use Rattle.refactor.proofs.good_from.Statement.{statement}
 use Rattle.refactor.proofs.good_from.Tie as tie
-use Rattle.refactor.proofs.good_from.Reads as reads
-use Rattle.refactor.proofs.good_from.Lts as lts
-use Rattle.le.proofs.u32_at.Reads as u32-at-reads
-use Rattle.refactor.proofs.is_good.Reads as is-good-reads
-use Rattle.refactor.proofs.refactor_at.Reads as refactor-at-reads
 
 abbrev Inv-loop : tie.InvT-loop
 Inv-loop s count at₀ good₀ left₀ at good left = (goodFrom (goodRefactor s) at good left ≡ goodFrom (goodRefactor s) 0 0 count) × (good + left ≡ count)

@@ -3,10 +3,6 @@ use Rattle.refactor.specs.Writing.{goodRecord}
 use borrow.Author.Needs.{needs}
 use Rattle.refactor.proofs.is_good.Statement.{statement}
 use Rattle.refactor.proofs.is_good.Tie as tie
-use Rattle.refactor.proofs.is_good.Reads as reads
-use Rattle.refactor.proofs.is_good.Lts as lts
-use Rattle.le.proofs.zero_at.Reads as zero-at-reads
-use Rattle.le.proofs.wide.Reads as wide-reads
 
 wide-requires : tie.Need-wide-requires
 wide-requires c κs = search needs

@@ -1,9 +1,6 @@
-use borrow.Author.Tests.{lt-ltb, le-ltb, le-leb, lt-leb, eq-eqb, ne-eqb}
 use borrow.Author.Needs.{needs}
 use Rattle.refactor.proofs.kept.Statement.{statement}
 use Rattle.refactor.proofs.kept.Tie as tie
-use Rattle.refactor.proofs.kept.Reads as reads
-use Rattle.refactor.proofs.kept.Lts as lts
 
 enum-known-answer : tie.Need-enum-known-answer
 enum-known-answer c = search needs

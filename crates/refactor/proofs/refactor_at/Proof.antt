@@ -1,14 +1,8 @@
 use Rattle.refactor.specs.Refactor.{refactorAt}
-use borrow.Author.Tests.{lt-ltb, le-ltb, le-leb, lt-leb, eq-eqb, ne-eqb}
+use borrow.Author.Tests.{lt-ltb, le-ltb}
 use borrow.Author.Needs.{needs}
 use Rattle.refactor.proofs.refactor_at.Statement.{statement}
 use Rattle.refactor.proofs.refactor_at.Tie as tie
-use Rattle.refactor.proofs.refactor_at.Reads as reads
-use Rattle.refactor.proofs.refactor_at.Lts as lts
-use Rattle.le.proofs.room.Reads as room-reads
-use Rattle.le.proofs.u16_at.Reads as u16-at-reads
-use Rattle.le.proofs.u32_at.Reads as u32-at-reads
-use Rattle.le.proofs.wide.Reads as wide-reads
 
 room-requires : tie.Need-room-requires
 room-requires c κs = search needs

@@ -4,9 +4,6 @@ use Rattle.refactor.specs.Refactor.{refactorNth}
 use mathlib.Core.Path.{_≡_, _∙_, sym}
 use Rattle.refactor.proofs.refactor_nth.Statement.{statement}
 use Rattle.refactor.proofs.refactor_nth.Tie as tie
-use Rattle.refactor.proofs.refactor_nth.Reads as reads
-use Rattle.refactor.proofs.refactor_nth.Lts as lts
-use Rattle.refactor.proofs.refactor_at.Reads as refactor-at-reads
 
 abbrev Inv-loop : tie.InvT-loop
 Inv-loop s from number at₀ left₀ at left = refactorNth s at left ≡ refactorNth s from number

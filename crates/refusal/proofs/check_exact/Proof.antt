@@ -1,9 +1,7 @@
 use Rattle.refusal.specs.Writing.{exactly}
-use borrow.Author.Tests.{lt-ltb, le-ltb, le-leb, lt-leb, eq-eqb, ne-eqb}
+use borrow.Author.Tests.{eq-eqb, ne-eqb}
 use Rattle.refusal.proofs.check_exact.Statement.{statement}
 use Rattle.refusal.proofs.check_exact.Tie as tie
-use Rattle.refusal.proofs.check_exact.Reads as reads
-use Rattle.refusal.proofs.check_exact.Lts as lts
 
 returns : tie.Need-returns
 unfolding exactly

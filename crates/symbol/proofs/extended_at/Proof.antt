@@ -1,12 +1,8 @@
 use Rattle.symbol.specs.Symbol.{extendedAt}
-use borrow.Author.Tests.{lt-ltb, le-ltb, le-leb, lt-leb, eq-eqb, ne-eqb}
+use borrow.Author.Tests.{le-leb, lt-leb}
 use borrow.Author.Needs.{needs}
 use Rattle.symbol.proofs.extended_at.Statement.{statement}
 use Rattle.symbol.proofs.extended_at.Tie as tie
-use Rattle.symbol.proofs.extended_at.Reads as reads
-use Rattle.symbol.proofs.extended_at.Lts as lts
-use Rattle.le.proofs.room.Reads as room-reads
-use Rattle.le.proofs.u32_at.Reads as u32-at-reads
 
 room-requires : tie.Need-room-requires
 room-requires c κs = search needs

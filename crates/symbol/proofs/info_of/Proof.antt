@@ -1,12 +1,7 @@
 use Rattle.symbol.specs.Symbol.{infoOf, infoRecord}
-use borrow.Author.Tests.{lt-ltb, le-ltb, le-leb, lt-leb, eq-eqb, ne-eqb}
 use borrow.Author.Needs.{needs}
 use Rattle.symbol.proofs.info_of.Statement.{statement}
 use Rattle.symbol.proofs.info_of.Tie as tie
-use Rattle.symbol.proofs.info_of.Reads as reads
-use Rattle.symbol.proofs.info_of.Lts as lts
-use Rattle.le.proofs.room.Reads as room-reads
-use Rattle.le.proofs.u32_at.Reads as u32-at-reads
 
 u32-at-requires : tie.Need-u32-at-requires
 u32-at-requires c κs = search needs

@@ -1,14 +1,8 @@
 use Rattle.symbol.specs.Symbol.{symbolEntry}
-use borrow.Author.Tests.{lt-ltb, le-ltb, le-leb, lt-leb, eq-eqb, ne-eqb}
+use borrow.Author.Tests.{lt-ltb, le-ltb}
 use borrow.Author.Needs.{needs}
 use Rattle.symbol.proofs.read_entry.Statement.{statement}
 use Rattle.symbol.proofs.read_entry.Tie as tie
-use Rattle.symbol.proofs.read_entry.Reads as reads
-use Rattle.symbol.proofs.read_entry.Lts as lts
-use Rattle.le.proofs.u16_at.Reads as u16-at-reads
-use Rattle.symbol.proofs.info_of.Reads as info-of-reads
-use Rattle.symbol.proofs.sections_of.Reads as sections-of-reads
-use Rattle.le.proofs.wide.Reads as wide-reads
 
 returns : tie.Need-returns
 unfolding symbolEntry

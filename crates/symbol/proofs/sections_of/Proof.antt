@@ -1,18 +1,7 @@
 use Rattle.symbol.specs.Symbol.{sectionsOf}
-use borrow.Author.Tests.{lt-ltb, le-ltb, le-leb, lt-leb, eq-eqb, ne-eqb}
 use borrow.Author.Needs.{needs}
 use Rattle.symbol.proofs.sections_of.Statement.{statement}
 use Rattle.symbol.proofs.sections_of.Tie as tie
-use Rattle.symbol.proofs.sections_of.Reads as reads
-use Rattle.symbol.proofs.sections_of.Lts as lts
-use Rattle.attr.proofs.attributes_at.Reads as attributes-at-reads
-use Rattle.flags.proofs.symbol_flags.AdsSymbol2Flags.has_refactor_info.Reads as has-refactor-info-reads
-use Rattle.flags.proofs.symbol_flags.AdsSymbolFlags.has_attributes.Reads as has-attributes-reads
-use Rattle.flags.proofs.symbol_flags.AdsSymbolFlags.has_extended_flags.Reads as has-extended-flags-reads
-use Rattle.flags.proofs.symbol_flags.AdsSymbolFlags.has_type_guid.Reads as has-type-guid-reads
-use Rattle.guid.proofs.guid_at.Reads as guid-at-reads
-use Rattle.refactor.proofs.chain_section.Reads as chain-section-reads
-use Rattle.symbol.proofs.extended_at.Reads as extended-at-reads
 
 has-type-guid-requires : tie.Need-has-type-guid-requires
 has-type-guid-requires c κs = search needs

@@ -1,14 +1,7 @@
 use Rattle.symbol_writer.specs.Writing.{symbolChecked}
-use borrow.Author.Tests.{lt-ltb, le-ltb, le-leb, lt-leb, eq-eqb, ne-eqb}
 use borrow.Author.Needs.{needs}
 use Rattle.symbol_writer.proofs.check.Statement.{statement}
 use Rattle.symbol_writer.proofs.check.Tie as tie
-use Rattle.symbol_writer.proofs.check.Reads as reads
-use Rattle.symbol_writer.proofs.check.Lts as lts
-use Rattle.refactor.proofs.check_refactors.Reads as check-refactors-reads
-use Rattle.symbol_writer.proofs.check_agreeing.Reads as check-agreeing-reads
-use Rattle.wire.proofs.check_block.Reads as check-block-reads
-use Rattle.wire.proofs.check_strings.Reads as check-strings-reads
 
 check-strings-requires : tie.Need-check-strings-requires
 check-strings-requires c κs = search needs

@@ -1,9 +1,5 @@
-use borrow.Author.Tests.{lt-ltb, le-ltb, le-leb, lt-leb, eq-eqb, ne-eqb}
-use borrow.Author.Needs.{needs}
 use Rattle.symbol_writer.proofs.check_agree.Statement.{statement}
 use Rattle.symbol_writer.proofs.check_agree.Tie as tie
-use Rattle.symbol_writer.proofs.check_agree.Reads as reads
-use Rattle.symbol_writer.proofs.check_agree.Lts as lts
 
 returns : tie.Need-returns
 returns c = simp (c .if1 .taken)

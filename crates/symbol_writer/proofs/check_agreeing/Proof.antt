@@ -1,16 +1,7 @@
 use Rattle.symbol_writer.specs.Writing.{agreeing}
-use borrow.Author.Tests.{lt-ltb, le-ltb, le-leb, lt-leb, eq-eqb, ne-eqb}
 use borrow.Author.Needs.{needs}
 use Rattle.symbol_writer.proofs.check_agreeing.Statement.{statement}
 use Rattle.symbol_writer.proofs.check_agreeing.Tie as tie
-use Rattle.symbol_writer.proofs.check_agreeing.Reads as reads
-use Rattle.symbol_writer.proofs.check_agreeing.Lts as lts
-use Rattle.flags.proofs.symbol_flags.AdsSymbol2Flags.has_refactor_info.Reads as has-refactor-info-reads
-use Rattle.flags.proofs.symbol_flags.AdsSymbolFlags.has_attributes.Reads as has-attributes-reads
-use Rattle.flags.proofs.symbol_flags.AdsSymbolFlags.has_extended_flags.Reads as has-extended-flags-reads
-use Rattle.flags.proofs.symbol_flags.AdsSymbolFlags.has_type_guid.Reads as has-type-guid-reads
-use Rattle.symbol_writer.proofs.check_agree.Reads as check-agree-reads
-use Rattle.symbol_writer.proofs.or_flagged.Reads as or-flagged-reads
 
 has-type-guid-requires : tie.Need-has-type-guid-requires
 has-type-guid-requires c κs = search needs

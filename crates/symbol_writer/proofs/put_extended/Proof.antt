@@ -4,9 +4,6 @@ use Rattle.symbol_writer.specs.Writing.{extendedOf}
 use borrow.Author.Needs.{needs}
 use Rattle.symbol_writer.proofs.put_extended.Statement.{statement}
 use Rattle.symbol_writer.proofs.put_extended.Tie as tie
-use Rattle.symbol_writer.proofs.put_extended.Reads as reads
-use Rattle.symbol_writer.proofs.put_extended.Lts as lts
-use Rattle.le.proofs.put_u32.Reads as put-u32-reads
 
 put-u32-requires : tie.Need-put-u32-requires
 unfolding extendedOf

@@ -4,9 +4,6 @@ use Rattle.symbol_writer.specs.Writing.{guidOf}
 use borrow.Author.Needs.{needs}
 use Rattle.symbol_writer.proofs.put_guid.Statement.{statement}
 use Rattle.symbol_writer.proofs.put_guid.Tie as tie
-use Rattle.symbol_writer.proofs.put_guid.Reads as reads
-use Rattle.symbol_writer.proofs.put_guid.Lts as lts
-use Rattle.le.proofs.put_bytes.Reads as put-bytes-reads
 
 slice-aggregate-put-bytes : tie.Need-slice-aggregate-put-bytes
 slice-aggregate-put-bytes c = search needs

@@ -4,10 +4,6 @@ use Rattle.symbol_writer.specs.Writing.{numbersOf, headerOf}
 use borrow.Author.Needs.{needs}
 use Rattle.symbol_writer.proofs.put_header.Statement.{statement}
 use Rattle.symbol_writer.proofs.put_header.Tie as tie
-use Rattle.symbol_writer.proofs.put_header.Reads as reads
-use Rattle.symbol_writer.proofs.put_header.Lts as lts
-use Rattle.symbol_writer.proofs.put_numbers.Reads as put-numbers-reads
-use Rattle.wire.proofs.put_lengths.Reads as put-lengths-reads
 
 put-numbers-requires : tie.Need-put-numbers-requires
 put-numbers-requires c κs = search needs

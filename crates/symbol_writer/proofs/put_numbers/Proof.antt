@@ -3,10 +3,6 @@ use Rattle.symbol_writer.specs.Writing.{numbersOf}
 use borrow.Author.Needs.{needs}
 use Rattle.symbol_writer.proofs.put_numbers.Statement.{statement}
 use Rattle.symbol_writer.proofs.put_numbers.Tie as tie
-use Rattle.symbol_writer.proofs.put_numbers.Reads as reads
-use Rattle.symbol_writer.proofs.put_numbers.Lts as lts
-use Rattle.le.proofs.put_u16.Reads as put-u16-reads
-use Rattle.le.proofs.put_u32.Reads as put-u32-reads
 
 put-u32-requires : tie.Need-put-u32-requires
 put-u32-requires c κs = search needs

@@ -6,15 +6,6 @@ use Rattle.symbol_writer.specs.Writing.{sectionsOf}
 use borrow.Author.Needs.{needs}
 use Rattle.symbol_writer.proofs.put_sections.Statement.{statement}
 use Rattle.symbol_writer.proofs.put_sections.Tie as tie
-use Rattle.symbol_writer.proofs.put_sections.Reads as reads
-use Rattle.symbol_writer.proofs.put_sections.Lts as lts
-use Rattle.flags.proofs.symbol_flags.AdsSymbolFlags.has_attributes.Reads as has-attributes-reads
-use Rattle.flags.proofs.symbol_flags.AdsSymbolFlags.has_extended_flags.Reads as has-extended-flags-reads
-use Rattle.flags.proofs.symbol_flags.AdsSymbolFlags.has_type_guid.Reads as has-type-guid-reads
-use Rattle.le.proofs.put_bytes.Reads as put-bytes-reads
-use Rattle.symbol_writer.proofs.put_extended.Reads as put-extended-reads
-use Rattle.symbol_writer.proofs.put_guid.Reads as put-guid-reads
-use Rattle.wire.proofs.put_attributes.Reads as put-attributes-reads
 
 has-type-guid-requires : tie.Need-has-type-guid-requires
 has-type-guid-requires c κs = search needs

@@ -6,12 +6,6 @@ use Rattle.symbol_writer.specs.Writing.{partsOf, symbolBytes}
 use borrow.Author.Needs.{needs}
 use Rattle.symbol_writer.proofs.put_symbol.Statement.{statement}
 use Rattle.symbol_writer.proofs.put_symbol.Tie as tie
-use Rattle.symbol_writer.proofs.put_symbol.Reads as reads
-use Rattle.symbol_writer.proofs.put_symbol.Lts as lts
-use Rattle.le.proofs.put_u32.Reads as put-u32-reads
-use Rattle.symbol_writer.proofs.put_header.Reads as put-header-reads
-use Rattle.symbol_writer.proofs.put_sections.Reads as put-sections-reads
-use Rattle.wire.proofs.put_strings.Reads as put-strings-reads
 
 put-u32-requires : tie.Need-put-u32-requires
 put-u32-requires c κs = let st = c .before .before .before .before .before .before .before in let a = st .args in omega (arith, st .pre, length-parts (partsOf (a .n) (a .guid) (a .name .now) (a .type-name .now) (a .comment .now) (a .count) (a .block .now) (a .links) (a .chain .now)))

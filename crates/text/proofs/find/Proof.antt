@@ -9,9 +9,6 @@ use Rattle.text.proofs.Byte.{sumTo, sumIs, sum-step, sum-is, sum-some, 
 use Rattle.text.specs.Text.{points}
 use Rattle.text.proofs.find.Statement.{statement}
 use Rattle.text.proofs.find.Tie as tie
-use Rattle.text.proofs.find.Reads as reads
-use Rattle.text.proofs.find.Lts as lts
-use Rattle.text.proofs.if_here.Reads as if-here-reads
 
 abbrev Inv-loop : tie.InvT-loop
 Inv-loop table p q sum₀ byte₀ i₀ sum byte i = (i ≤ 32) × (byte ≡ 128 + i) × (sum ≡ sumTo i p) × (sum ≤ i * 160)

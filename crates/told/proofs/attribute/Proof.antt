@@ -1,10 +1,6 @@
 use borrow.Author.Needs.{needs}
 use Rattle.told.proofs.attribute.Statement.{statement}
 use Rattle.told.proofs.attribute.Tie as tie
-use Rattle.told.proofs.attribute.Reads as reads
-use Rattle.told.proofs.attribute.Lts as lts
-use Rattle.told.proofs.refused.Reads as refused-reads
-use Rattle.told.proofs.tell.Reads as tell-reads
 
 enum-known-a : tie.Need-enum-known-a
 enum-known-a c = search needs

@@ -1,10 +1,6 @@
 use borrow.Author.Needs.{needs}
 use Rattle.told.proofs.chain.Statement.{statement}
 use Rattle.told.proofs.chain.Tie as tie
-use Rattle.told.proofs.chain.Reads as reads
-use Rattle.told.proofs.chain.Lts as lts
-use Rattle.told.proofs.refused.Reads as refused-reads
-use Rattle.told.proofs.tell.Reads as tell-reads
 
 enum-known-c : tie.Need-enum-known-c
 enum-known-c c = search needs

@@ -1,11 +1,6 @@
 use borrow.Author.Needs.{needs}
 use Rattle.told.proofs.field.Statement.{statement}
 use Rattle.told.proofs.field.Tie as tie
-use Rattle.told.proofs.field.Reads as reads
-use Rattle.told.proofs.field.Lts as lts
-use Rattle.told.proofs.field_slots.Reads as field-slots-reads
-use Rattle.told.proofs.refused.Reads as refused-reads
-use Rattle.told.proofs.tell.Reads as tell-reads
 
 enum-told : tie.Need-enum-told
 enum-told c = search needs

@@ -1,10 +1,6 @@
 use borrow.Author.Needs.{needs}
 use Rattle.told.proofs.field_read.Statement.{statement}
 use Rattle.told.proofs.field_read.Tie as tie
-use Rattle.told.proofs.field_read.Reads as reads
-use Rattle.told.proofs.field_read.Lts as lts
-use Rattle.told.proofs.field.Reads as field-reads
-use Rattle.told.proofs.refused.Reads as refused-reads
 
 enum-known-what : tie.Need-enum-known-what
 enum-known-what c = search needs

@@ -3,11 +3,6 @@ use Rattle.told.specs.Slots.{fieldSlots}
 use borrow.Author.Needs.{needs}
 use Rattle.told.proofs.field_slots.Statement.{statement}
 use Rattle.told.proofs.field_slots.Tie as tie
-use Rattle.told.proofs.field_slots.Reads as reads
-use Rattle.told.proofs.field_slots.Lts as lts
-use Rattle.told.proofs.second_at.Reads as second-at-reads
-use Rattle.told.proofs.third_at.Reads as third-at-reads
-use Rattle.told.proofs.wide.Reads as wide-reads
 
 cast-t7 : tie.Need-cast-t7
 cast-t7 c = search needs

@@ -2,9 +2,6 @@ use mathlib.Core.Path.{refl}
 use borrow.Author.Needs.{needs}
 use Rattle.told.proofs.field_step.Statement.{statement}
 use Rattle.told.proofs.field_step.Tie as tie
-use Rattle.told.proofs.field_step.Reads as reads
-use Rattle.told.proofs.field_step.Lts as lts
-use Rattle.told.proofs.field.Reads as field-reads
 
 field-requires : tie.Need-field-requires
 field-requires c κs = search needs

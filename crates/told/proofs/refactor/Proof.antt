@@ -2,10 +2,6 @@ use Rattle.told.proofs.Laws.{as-bit}
 use borrow.Author.Needs.{needs}
 use Rattle.told.proofs.refactor.Statement.{statement}
 use Rattle.told.proofs.refactor.Tie as tie
-use Rattle.told.proofs.refactor.Reads as reads
-use Rattle.told.proofs.refactor.Lts as lts
-use Rattle.told.proofs.refused.Reads as refused-reads
-use Rattle.told.proofs.tell.Reads as tell-reads
 
 enum-known-a : tie.Need-enum-known-a
 enum-known-a c = search needs

@@ -1,10 +1,6 @@
 use borrow.Author.Needs.{needs}
 use Rattle.told.proofs.refused.Statement.{statement}
 use Rattle.told.proofs.refused.Tie as tie
-use Rattle.told.proofs.refused.Reads as reads
-use Rattle.told.proofs.refused.Lts as lts
-use Rattle.refusal.proofs.Refusal.figures.Reads as figures-reads
-use Rattle.told.proofs.tell.Reads as tell-reads
 
 figures-requires : tie.Need-figures-requires
 figures-requires c κs = search needs

@@ -1,11 +1,6 @@
 use borrow.Author.Needs.{needs}
 use Rattle.told.proofs.symbol.Statement.{statement}
 use Rattle.told.proofs.symbol.Tie as tie
-use Rattle.told.proofs.symbol.Reads as reads
-use Rattle.told.proofs.symbol.Lts as lts
-use Rattle.told.proofs.refused.Reads as refused-reads
-use Rattle.told.proofs.symbol_slots.Reads as symbol-slots-reads
-use Rattle.told.proofs.tell.Reads as tell-reads
 
 enum-told : tie.Need-enum-told
 enum-told c = search needs

@@ -1,10 +1,6 @@
 use borrow.Author.Needs.{needs}
 use Rattle.told.proofs.symbol_read.Statement.{statement}
 use Rattle.told.proofs.symbol_read.Tie as tie
-use Rattle.told.proofs.symbol_read.Reads as reads
-use Rattle.told.proofs.symbol_read.Lts as lts
-use Rattle.told.proofs.refused.Reads as refused-reads
-use Rattle.told.proofs.symbol.Reads as symbol-reads
 
 enum-known-what : tie.Need-enum-known-what
 enum-known-what c = search needs

@@ -3,11 +3,6 @@ use Rattle.told.specs.Slots.{symbolSlots}
 use borrow.Author.Needs.{needs}
 use Rattle.told.proofs.symbol_slots.Statement.{statement}
 use Rattle.told.proofs.symbol_slots.Tie as tie
-use Rattle.told.proofs.symbol_slots.Reads as reads
-use Rattle.told.proofs.symbol_slots.Lts as lts
-use Rattle.told.proofs.second_at.Reads as second-at-reads
-use Rattle.told.proofs.third_at.Reads as third-at-reads
-use Rattle.told.proofs.wide.Reads as wide-reads
 
 cast-t12 : tie.Need-cast-t12
 cast-t12 c = search needs

@@ -2,9 +2,6 @@ use mathlib.Core.Path.{refl}
 use borrow.Author.Needs.{needs}
 use Rattle.told.proofs.symbol_step.Statement.{statement}
 use Rattle.told.proofs.symbol_step.Tie as tie
-use Rattle.told.proofs.symbol_step.Reads as reads
-use Rattle.told.proofs.symbol_step.Lts as lts
-use Rattle.told.proofs.symbol.Reads as symbol-reads
 
 symbol-requires : tie.Need-symbol-requires
 symbol-requires c κs = search needs

@@ -1,10 +1,6 @@
 use borrow.Author.Needs.{needs}
 use Rattle.told.proofs.walked.Statement.{statement}
 use Rattle.told.proofs.walked.Tie as tie
-use Rattle.told.proofs.walked.Reads as reads
-use Rattle.told.proofs.walked.Lts as lts
-use Rattle.told.proofs.refused.Reads as refused-reads
-use Rattle.told.proofs.tell.Reads as tell-reads
 
 enum-told : tie.Need-enum-told
 enum-told c = search needs

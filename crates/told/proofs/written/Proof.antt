@@ -1,10 +1,6 @@
 use borrow.Author.Needs.{needs}
 use Rattle.told.proofs.written.Statement.{statement}
 use Rattle.told.proofs.written.Tie as tie
-use Rattle.told.proofs.written.Reads as reads
-use Rattle.told.proofs.written.Lts as lts
-use Rattle.told.proofs.refused.Reads as refused-reads
-use Rattle.told.proofs.tell.Reads as tell-reads
 
 enum-known-w : tie.Need-enum-known-w
 enum-known-w c = search needs

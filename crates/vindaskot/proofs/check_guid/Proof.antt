@@ -2,8 +2,6 @@ use Rattle.vindaskot.specs.Lent.{guidChecked}
 use borrow.Author.Tests.{eq-eqb, ne-eqb}
 use Rattle.vindaskot.proofs.check_guid.Statement.{statement}
 use Rattle.vindaskot.proofs.check_guid.Tie as tie
-use Rattle.vindaskot.proofs.check_guid.Reads as reads
-use Rattle.vindaskot.proofs.check_guid.Lts as lts
 
 returns : tie.Need-returns
 unfolding guidChecked

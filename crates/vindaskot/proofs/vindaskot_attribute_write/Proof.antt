@@ -2,10 +2,6 @@ use Rattle.told.proofs.Laws.{told-written}
 use borrow.Author.Needs.{needs}
 use Rattle.vindaskot.proofs.vindaskot_attribute_write.Statement.{statement}
 use Rattle.vindaskot.proofs.vindaskot_attribute_write.Tie as tie
-use Rattle.vindaskot.proofs.vindaskot_attribute_write.Reads as reads
-use Rattle.vindaskot.proofs.vindaskot_attribute_write.Lts as lts
-use Rattle.attributes.proofs.to_vec.Reads as to-vec-reads
-use Rattle.told.proofs.written.Reads as written-reads
 
 to-vec-requires : tie.Need-to-vec-requires
 to-vec-requires c κs = search needs

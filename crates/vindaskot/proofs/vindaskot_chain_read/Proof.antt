@@ -1,10 +1,6 @@
 use borrow.Author.Needs.{needs}
 use Rattle.vindaskot.proofs.vindaskot_chain_read.Statement.{statement}
 use Rattle.vindaskot.proofs.vindaskot_chain_read.Tie as tie
-use Rattle.vindaskot.proofs.vindaskot_chain_read.Reads as reads
-use Rattle.vindaskot.proofs.vindaskot_chain_read.Lts as lts
-use Rattle.refactor_info.proofs.parse_chain.Reads as parse-chain-reads
-use Rattle.told.proofs.chain.Reads as chain-reads
 
 parse-chain-requires : tie.Need-parse-chain-requires
 parse-chain-requires c κs = search needs

@@ -1,10 +1,6 @@
 use borrow.Author.Needs.{needs}
 use Rattle.vindaskot.proofs.vindaskot_chain_record.Statement.{statement}
 use Rattle.vindaskot.proofs.vindaskot_chain_record.Tie as tie
-use Rattle.vindaskot.proofs.vindaskot_chain_record.Reads as reads
-use Rattle.vindaskot.proofs.vindaskot_chain_record.Lts as lts
-use Rattle.refactor_info.proofs.chain_record.Reads as chain-record-reads
-use Rattle.told.proofs.refactor.Reads as refactor-reads
 
 chain-record-requires : tie.Need-chain-record-requires
 chain-record-requires c κs = search needs

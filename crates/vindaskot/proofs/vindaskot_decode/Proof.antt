@@ -2,10 +2,6 @@ use Rattle.told.proofs.Laws.{told-written}
 use borrow.Author.Needs.{needs}
 use Rattle.vindaskot.proofs.vindaskot_decode.Statement.{statement}
 use Rattle.vindaskot.proofs.vindaskot_decode.Tie as tie
-use Rattle.vindaskot.proofs.vindaskot_decode.Reads as reads
-use Rattle.vindaskot.proofs.vindaskot_decode.Lts as lts
-use Rattle.text.proofs.decode.Reads as decode-reads
-use Rattle.told.proofs.written.Reads as written-reads
 
 decode-requires : tie.Need-decode-requires
 decode-requires c κs = search needs

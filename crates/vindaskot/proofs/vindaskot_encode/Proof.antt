@@ -2,10 +2,6 @@ use Rattle.told.proofs.Laws.{told-written}
 use borrow.Author.Needs.{needs}
 use Rattle.vindaskot.proofs.vindaskot_encode.Statement.{statement}
 use Rattle.vindaskot.proofs.vindaskot_encode.Tie as tie
-use Rattle.vindaskot.proofs.vindaskot_encode.Reads as reads
-use Rattle.vindaskot.proofs.vindaskot_encode.Lts as lts
-use Rattle.text.proofs.encode.Reads as encode-reads
-use Rattle.told.proofs.written.Reads as written-reads
 
 encode-requires : tie.Need-encode-requires
 encode-requires c κs = search needs

@@ -1,10 +1,6 @@
 use borrow.Author.Needs.{needs}
 use Rattle.vindaskot.proofs.vindaskot_field_attribute.Statement.{statement}
 use Rattle.vindaskot.proofs.vindaskot_field_attribute.Tie as tie
-use Rattle.vindaskot.proofs.vindaskot_field_attribute.Reads as reads
-use Rattle.vindaskot.proofs.vindaskot_field_attribute.Lts as lts
-use Rattle.field_info.proofs.attribute.Reads as field-info-attribute-reads
-use Rattle.told.proofs.attribute.Reads as attribute-reads
 
 attribute-requires : tie.Need-attribute-requires
 attribute-requires c κs = search needs

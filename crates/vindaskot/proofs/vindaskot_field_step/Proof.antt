@@ -1,10 +1,6 @@
 use borrow.Author.Needs.{needs}
 use Rattle.vindaskot.proofs.vindaskot_field_step.Statement.{statement}
 use Rattle.vindaskot.proofs.vindaskot_field_step.Tie as tie
-use Rattle.vindaskot.proofs.vindaskot_field_step.Reads as reads
-use Rattle.vindaskot.proofs.vindaskot_field_step.Lts as lts
-use Rattle.field_walk.proofs.Cursor.step.Reads as step-reads
-use Rattle.told.proofs.field_step.Reads as field-step-reads
 
 step-requires : tie.Need-step-requires
 step-requires c κs = search needs

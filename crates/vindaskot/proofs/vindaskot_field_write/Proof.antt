@@ -2,13 +2,6 @@ use Rattle.told.proofs.Laws.{told-written, told-refused}
 use borrow.Author.Needs.{needs}
 use Rattle.vindaskot.proofs.vindaskot_field_write.Statement.{statement}
 use Rattle.vindaskot.proofs.vindaskot_field_write.Tie as tie
-use Rattle.vindaskot.proofs.vindaskot_field_write.Reads as reads
-use Rattle.vindaskot.proofs.vindaskot_field_write.Lts as lts
-use Rattle.field_writer.proofs.FieldNumbers.to_vec.Reads as to-vec-reads
-use Rattle.guid.proofs.guid_at.Reads as guid-at-reads
-use Rattle.told.proofs.refused.Reads as refused-reads
-use Rattle.told.proofs.written.Reads as written-reads
-use Rattle.vindaskot.proofs.check_guid.Reads as check-guid-reads
 
 check-guid-requires : tie.Need-check-guid-requires
 check-guid-requires c κs = search needs

@@ -1,10 +1,6 @@
 use borrow.Author.Needs.{needs}
 use Rattle.vindaskot.proofs.vindaskot_find.Statement.{statement}
 use Rattle.vindaskot.proofs.vindaskot_find.Tie as tie
-use Rattle.vindaskot.proofs.vindaskot_find.Reads as reads
-use Rattle.vindaskot.proofs.vindaskot_find.Lts as lts
-use Rattle.index.proofs.find.Reads as find-reads
-use Rattle.told.proofs.found.Reads as found-reads
 
 find-requires : tie.Need-find-requires
 find-requires c κs = search needs

@@ -1,10 +1,6 @@
 use borrow.Author.Needs.{needs}
 use Rattle.vindaskot.proofs.vindaskot_find_indexed.Statement.{statement}
 use Rattle.vindaskot.proofs.vindaskot_find_indexed.Tie as tie
-use Rattle.vindaskot.proofs.vindaskot_find_indexed.Reads as reads
-use Rattle.vindaskot.proofs.vindaskot_find_indexed.Lts as lts
-use Rattle.index.proofs.find_indexed.Reads as find-indexed-reads
-use Rattle.told.proofs.found.Reads as found-reads
 
 find-indexed-requires : tie.Need-find-indexed-requires
 find-indexed-requires c κs = search needs

@@ -2,10 +2,6 @@ use Rattle.told.proofs.Laws.{told-written}
 use borrow.Author.Needs.{needs}
 use Rattle.vindaskot.proofs.vindaskot_index_build.Statement.{statement}
 use Rattle.vindaskot.proofs.vindaskot_index_build.Tie as tie
-use Rattle.vindaskot.proofs.vindaskot_index_build.Reads as reads
-use Rattle.vindaskot.proofs.vindaskot_index_build.Lts as lts
-use Rattle.index.proofs.build.Reads as build-reads
-use Rattle.told.proofs.written.Reads as written-reads
 
 build-requires : tie.Need-build-requires
 build-requires c κs = search needs

@@ -2,10 +2,6 @@ use Rattle.told.proofs.Laws.{told-written}
 use borrow.Author.Needs.{needs}
 use Rattle.vindaskot.proofs.vindaskot_refactor_block_write.Statement.{statement}
 use Rattle.vindaskot.proofs.vindaskot_refactor_block_write.Tie as tie
-use Rattle.vindaskot.proofs.vindaskot_refactor_block_write.Reads as reads
-use Rattle.vindaskot.proofs.vindaskot_refactor_block_write.Lts as lts
-use Rattle.refactor_info.proofs.entries_to_vec.Reads as entries-to-vec-reads
-use Rattle.told.proofs.written.Reads as written-reads
 
 entries-to-vec-requires : tie.Need-entries-to-vec-requires
 entries-to-vec-requires c κs = search needs

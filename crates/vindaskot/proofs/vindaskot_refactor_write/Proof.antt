@@ -2,10 +2,6 @@ use Rattle.told.proofs.Laws.{told-written}
 use borrow.Author.Needs.{needs}
 use Rattle.vindaskot.proofs.vindaskot_refactor_write.Statement.{statement}
 use Rattle.vindaskot.proofs.vindaskot_refactor_write.Tie as tie
-use Rattle.vindaskot.proofs.vindaskot_refactor_write.Reads as reads
-use Rattle.vindaskot.proofs.vindaskot_refactor_write.Lts as lts
-use Rattle.refactor_info.proofs.to_vec_with_next.Reads as to-vec-with-next-reads
-use Rattle.told.proofs.written.Reads as written-reads
 
 to-vec-with-next-requires : tie.Need-to-vec-with-next-requires
 to-vec-with-next-requires c κs = search needs

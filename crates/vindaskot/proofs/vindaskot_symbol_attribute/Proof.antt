@@ -1,10 +1,6 @@
 use borrow.Author.Needs.{needs}
 use Rattle.vindaskot.proofs.vindaskot_symbol_attribute.Statement.{statement}
 use Rattle.vindaskot.proofs.vindaskot_symbol_attribute.Tie as tie
-use Rattle.vindaskot.proofs.vindaskot_symbol_attribute.Reads as reads
-use Rattle.vindaskot.proofs.vindaskot_symbol_attribute.Lts as lts
-use Rattle.symbol_info.proofs.attribute.Reads as symbol-info-attribute-reads
-use Rattle.told.proofs.attribute.Reads as attribute-reads
 
 attribute-requires : tie.Need-attribute-requires
 attribute-requires c κs = search needs

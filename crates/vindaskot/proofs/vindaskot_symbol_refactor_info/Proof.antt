@@ -1,10 +1,6 @@
 use borrow.Author.Needs.{needs}
 use Rattle.vindaskot.proofs.vindaskot_symbol_refactor_info.Statement.{statement}
 use Rattle.vindaskot.proofs.vindaskot_symbol_refactor_info.Tie as tie
-use Rattle.vindaskot.proofs.vindaskot_symbol_refactor_info.Reads as reads
-use Rattle.vindaskot.proofs.vindaskot_symbol_refactor_info.Lts as lts
-use Rattle.symbol_info.proofs.refactor_info.Reads as refactor-info-reads
-use Rattle.told.proofs.refactor.Reads as refactor-reads
 
 refactor-info-requires : tie.Need-refactor-info-requires
 refactor-info-requires c κs = search needs

@@ -1,10 +1,6 @@
 use borrow.Author.Needs.{needs}
 use Rattle.vindaskot.proofs.vindaskot_symbol_step.Statement.{statement}
 use Rattle.vindaskot.proofs.vindaskot_symbol_step.Tie as tie
-use Rattle.vindaskot.proofs.vindaskot_symbol_step.Reads as reads
-use Rattle.vindaskot.proofs.vindaskot_symbol_step.Lts as lts
-use Rattle.told.proofs.symbol_step.Reads as symbol-step-reads
-use Rattle.walk.proofs.Cursor.step.Reads as step-reads
 
 step-requires : tie.Need-step-requires
 step-requires c κs = search needs

@@ -1,9 +1,6 @@
-use borrow.Author.Tests.{lt-ltb, le-ltb, le-leb, lt-leb, eq-eqb, ne-eqb}
 use borrow.Author.Needs.{needs}
 use Rattle.walk.proofs.step_of.Statement.{statement}
 use Rattle.walk.proofs.step_of.Tie as tie
-use Rattle.walk.proofs.step_of.Reads as reads
-use Rattle.walk.proofs.step_of.Lts as lts
 
 enum-known-answer : tie.Need-enum-known-answer
 enum-known-answer c = search needs

@@ -1,10 +1,6 @@
-use borrow.Author.Tests.{lt-ltb, le-ltb, le-leb, lt-leb, eq-eqb, ne-eqb}
 use borrow.Author.Needs.{needs}
 use Rattle.refusal.proofs.Refusal.figures.Statement.{statement}
 use Rattle.refusal.proofs.Refusal.figures.Tie as tie
-use Rattle.refusal.proofs.Refusal.figures.Reads as reads
-use Rattle.refusal.proofs.Refusal.figures.Lts as lts
-use Rattle.refusal.proofs.numbered.Reads as numbered-reads
 
 -- src/lib.rt:43:41
 enum-known-self : tie.Need-enum-known-self

@@ -7,12 +7,6 @@ use Rattle.symbol_writer.specs.Writing.{partsOf, symbolWriting}
 use borrow.Author.Needs.{needs}
 use Rattle.symbol_writer.proofs.SymbolNumbers.to_vec.Statement.{statement}
 use Rattle.symbol_writer.proofs.SymbolNumbers.to_vec.Tie as tie
-use Rattle.symbol_writer.proofs.SymbolNumbers.to_vec.Reads as reads
-use Rattle.symbol_writer.proofs.SymbolNumbers.to_vec.Lts as lts
-use Rattle.symbol_writer.proofs.SymbolNumbers.wire_size.Reads as wire-size-reads
-use Rattle.symbol_writer.proofs.check.Reads as check-reads
-use Rattle.symbol_writer.proofs.put_symbol.Reads as put-symbol-reads
-use Rattle.wire.proofs.check_room.Reads as check-room-reads
 
 check-requires : tie.Need-check-requires
 check-requires c κs = search needs

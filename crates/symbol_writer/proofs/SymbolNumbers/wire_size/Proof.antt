@@ -1,14 +1,7 @@
 use Rattle.symbol_writer.specs.Writing.{symbolSize}
-use borrow.Author.Tests.{lt-ltb, le-ltb, le-leb, lt-leb, eq-eqb, ne-eqb}
 use borrow.Author.Needs.{needs}
 use Rattle.symbol_writer.proofs.SymbolNumbers.wire_size.Statement.{statement}
 use Rattle.symbol_writer.proofs.SymbolNumbers.wire_size.Tie as tie
-use Rattle.symbol_writer.proofs.SymbolNumbers.wire_size.Reads as reads
-use Rattle.symbol_writer.proofs.SymbolNumbers.wire_size.Lts as lts
-use Rattle.flags.proofs.symbol_flags.AdsSymbolFlags.has_attributes.Reads as has-attributes-reads
-use Rattle.flags.proofs.symbol_flags.AdsSymbolFlags.has_extended_flags.Reads as has-extended-flags-reads
-use Rattle.flags.proofs.symbol_flags.AdsSymbolFlags.has_type_guid.Reads as has-type-guid-reads
-use Rattle.symbol_writer.proofs.size_if.Reads as size-if-reads
 
 has-type-guid-requires : tie.Need-has-type-guid-requires
 has-type-guid-requires c κs = search needs

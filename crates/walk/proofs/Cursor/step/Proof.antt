@@ -1,14 +1,7 @@
 use Rattle.walk.specs.Walk.{symbolStep}
-use borrow.Author.Tests.{lt-ltb, le-ltb, le-leb, lt-leb, eq-eqb, ne-eqb}
 use borrow.Author.Needs.{needs}
 use Rattle.walk.proofs.Cursor.step.Statement.{statement}
 use Rattle.walk.proofs.Cursor.step.Tie as tie
-use Rattle.walk.proofs.Cursor.step.Reads as reads
-use Rattle.walk.proofs.Cursor.step.Lts as lts
-use Rattle.entry.proofs.claim_at.Reads as claim-at-reads
-use Rattle.le.proofs.part_of.Reads as part-of-reads
-use Rattle.symbol.proofs.read_entry.Reads as read-entry-reads
-use Rattle.walk.proofs.step_of.Reads as step-of-reads
 
 claim-at-requires : tie.Need-claim-at-requires
 claim-at-requires c κs = search needs

@@ -1,6 +1,5 @@
 -- `flags::symbol_flags::AdsSymbolFlags::to_bytes` meets its contract. Assumes nothing.
 use borrow.Author.Needs.{needs}
-use Rattle.le.specs.Le.{bytes2}
 use Rattle.flags.proofs.symbol_flags.AdsSymbolFlags.to_bytes.Statement.{statement}
 use Rattle.flags.proofs.symbol_flags.AdsSymbolFlags.to_bytes.Tie as tie
 
