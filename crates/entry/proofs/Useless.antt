@@ -7,6 +7,7 @@ use mathlib.Core.List.{List, [], _∷_, append-nil}
 use lib.Dec.{leb}
 use lib.ListN.{length}
 use borrow.Author.Tests.{lt-leb}
+use Rattle.le.proofs.Laws.{not-both}
 use Rattle.refusal.specs.Refusal.{limit}
 use Rattle.entry.specs.Tells.{Tells}
 use Rattle.entry.specs.Walk.{walk}
@@ -33,9 +34,6 @@ module _ {R S T : Type 0} (Fit : R → Type 0) (written : R → List ℕ) (meant
   unfolding grown
   begins = lt-leb (length u) 0 (omega arith)
 
-  differ : (b : Bool) → b ≡ true → b ≡ false → ⊥
-  differ b p q = let z : _≡_ {A = ℕ} 0 1 = cc in omega arith
-
   module _ (step : List ℕ → ℕ → T) (d : Demand3 Fit written meant step cursor told) where
     first-told : isEntry (told u (step u 0)) ≡ true
     unfolding walk first
@@ -49,6 +47,6 @@ module _ {R S T : Type 0} (Fit : R → Type 0) (written : R → List ℕ) (meant
   shuts-out =
       record {
         some = g;
-        never = λ step h d. differ (isEntry (told u (step u 0))) (first-told step d) (h u 0);
-        again = λ step h d. differ (isEntry (told u (step u 0))) (first-told step d) (rw (h u (cursor (step u 0))) at (second-told step d));
+        never = λ step h d. not-both (first-told step d) (h u 0);
+        again = λ step h d. not-both (first-told step d) (rw (h u (cursor (step u 0))) at (second-told step d));
       }

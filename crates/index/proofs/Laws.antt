@@ -10,13 +10,12 @@ use lib.Dec.{ltb, leb}
 use lib.ListN.{length, drop, set, getD, drop-of-length-le}
 use lib.Seq.{drop-cons}
 use borrow.Author.Tests.{le-leb, lt-leb, lt-ltb, le-ltb, leb-false, eqb-false, eq-eqb, ne-eqb}
-use Rattle.le.specs.Le.{if_then_else_, le2, le4, part}
+use Rattle.le.specs.Le.{if_then_else_, le2, part}
 use Rattle.le.specs.Put.{put}
 use Rattle.le.proofs.Laws.{put-one, put-then}
 use Rattle.refusal.specs.Refusal.{limit}
 use Rattle.refusal.specs.Writing.{Bytes, Refuse}
-use Rattle.entry.specs.Entry.{claimed, claimAt}
-use Rattle.entry.specs.declared.Met.{Met}
+use Rattle.entry.specs.Entry.{claimAt}
 use Rattle.entry.proofs.Claims.{moves-on}
 use Rattle.symbol.specs.Symbol.{symbolEntry, sectionsOf, infoOf, infoRecord, stringsEnd, refused}
 use Rattle.refusal.specs.declared.Refusal.the-variants.{TooShort, EntryLengthMismatch, TooLarge, ZeroEntryLength, NameNotFound}
@@ -255,6 +254,3 @@ module _ (s : List ℕ) where
   pub index-starts : length s ≤ limit → any (stands s) (steps s) ≡ false → indexing s ≡ Bytes (starts s)
   unfolding indexing
   index-starts h e = simp (le-ltb limit (length s) h, e)
-
-pub never : {b : Bool} → b ≡ true → b ≡ false → ⊥
-never p q = let z : _≡_ {A = ℕ} 0 1 = cc in omega arith

@@ -1,4 +1,3 @@
 pub mod Laws
-pub mod Names
 pub mod Theorems
 pub mod Meaning

@@ -27,14 +27,15 @@ use Rattle.index.specs.Steps.{byRecord, accepted, names, those}
 use Rattle.index.specs.Index.{starts, indexing, firstOf, find, findIndexed}
 use Rattle.index.specs.declared.FindAnswer.{FindAnswer}
 use Rattle.index.specs.declared.FindAnswer.the-variants.{Found}
-use Rattle.index.proofs.Laws.{same-steps, never}
+use Rattle.le.proofs.Laws.{not-both}
+use Rattle.index.proofs.Laws.{same-steps}
 
 -- a step that does not move, before the end, is a claim of 0
 module _ (x y z : Refusal) (at n c : ℕ) (h : at < n) where
   zero-by : (p q r t : Bool) → p ≡ false
       → (if p then claimed met.Finished at else if q then claimed (met.Refused x) n else if r then claimed (met.Refused y) n else if t then claimed (met.Refused z) n else claimed (met.Entry c) (at + c)) .next ≡ at
       → (if p then claimed met.Finished at else if q then claimed (met.Refused x) n else if r then claimed (met.Refused y) n else if t then claimed (met.Refused z) n else claimed (met.Entry c) (at + c)) .met ≡ met.Entry 0
-  zero-by true q r t p e = absurd (never refl p)
+  zero-by true q r t p e = absurd (not-both refl p)
   zero-by false true r t p e = absurd (omega arith)
   zero-by false false true t p e = absurd (omega arith)
   zero-by false false false true p e = absurd (omega arith)
@@ -97,7 +98,7 @@ first-those p q h (at ∷ l) other = turn (first-those p q h l other) (p at) (q 
     turn : firstOf p (those q l) other ≡ firstOf p l other → (t u : Bool) → p at ≡ t → q at ≡ u → firstOf p (if u then at ∷ those q l else those q l) other ≡ (if t then Found at else firstOf p l other)
     turn k true true a b = simp a
     turn k false true a b = simp a k
-    turn k true false a b = absurd (never (h at a) b)
+    turn k true false a b = absurd (not-both (h at a) b)
     turn k false false a b = k
 
 names-accepted : (s name : List ℕ) (at : ℕ) → names s name at ≡ true → accepted s at ≡ true

@@ -8,14 +8,12 @@ ghost use mathlib.Core.Bool.{false};
 ghost use lib.ListN.{length};
 ghost use Rattle.refusal.specs.Refusal.{limit};
 ghost use Rattle.refusal.specs.Writing.{Writes};
-ghost use Rattle.index.specs.Names.{sameName};
 ghost use Rattle.entry.specs.Walk.{stands, steps, any};
 ghost use Rattle.index.specs.Steps.{names};
 ghost use Rattle.index.specs.Index.{starts, indexing, find, findIndexed};
 ghost use Rattle.index.specs.Inside.{headIs, lookAt, tallyOf};
 ghost use Rattle.symbol.specs.Symbol.{symbolEntry};
 ghost use Rattle.walk.specs.Walk.{stepIs};
-ghost use Rattle.le.specs.Le.{if_then_else_};
 ghost use Rattle.le.specs.Put.{put};
 
 // The start of the entry that was asked for.
@@ -38,29 +36,6 @@ struct Looked {
 enum Tally {
     Accepted(usize),
     ZeroClaim,
-}
-
-fn both(x: bool, y: bool) -> bool
-    ensures { λ r. ⌜ r ≡ (if x then y else false) ⌝ }
-{
-    if x { y } else { false }
-}
-
-// Whether a name is the one that is asked for. Names of other lengths differ, whatever their bytes.
-// It looks at all bytes, so that the compiler takes many at once: names of a rig are short and begin alike.
-pub(crate) fn same_name(a: &[u8], b: &[u8]) -> bool
-    ensures { λ r. ⌜ r ≡ sameName (now (a .entry)) (now (b .entry)) ⌝ }
-{
-    if a.len() != b.len() {
-        return false;
-    }
-    let mut same = true;
-    let mut i = 0;
-    while i < a.len() {
-        same = both(same, a[i] == b[i]);
-        i += 1;
-    }
-    same
 }
 
 fn head_of(e: &[u8]) -> Head
@@ -109,7 +84,7 @@ fn named(bytes: &[u8], at: usize, head: Head, name: &[u8]) -> bool
     match head {
         Head::Entry { length, name_len } => {
             let e = le::part_of(bytes, at, length);
-            same_name(le::part_of(e, 30, name_len), name)
+            le::same_bytes(le::part_of(e, 30, name_len), name)
         }
         Head::Other => false,
     }

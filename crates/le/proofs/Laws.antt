@@ -1,6 +1,6 @@
--- Laws of `put`, by which a caller composes writes; of numbers in bytes; of parts.
+-- Laws of `put`, by which a caller composes writes; of numbers in bytes; of parts; of a test.
 use mathlib.Core.Path.{_≡_, refl, sym, ap, _∙_, subst}
-use mathlib.Core.Bool.{false}
+use mathlib.Core.Bool.{Bool, true, false}
 use lib.Dec.{eqb}
 use mathlib.Core.List.{List, [], _∷_, _++_, append-assoc, append-nil}
 use Prim.Native.Nat.{ℕ, zero, suc, _+_, _-_, _≤_, _<_}
@@ -147,3 +147,7 @@ unfolding part
 part-more s at i done h k e =
     let d : i < length (drop at s) = simp length-drop (omega arith) in
     rw add-one (take-suc-set done i (getD s (at + i) 0) k ∙ ap (λ (l : List ℕ). l ++ (getD s (at + i) 0 ∷ [])) e ∙ ap (λ (x : ℕ). take i (drop at s) ++ (x ∷ [])) (sym (getD-drop at s i 0)) ∙ sym (take-suc (drop at s) i 0 d))
+
+-- no test has two answers
+pub not-both : {b : Bool} → b ≡ true → b ≡ false → ⊥
+not-both p q = let z : _≡_ {A = ℕ} 0 1 = cc in omega arith

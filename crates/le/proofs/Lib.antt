@@ -1,3 +1,4 @@
 pub mod Laws
 pub mod Inside
 pub mod Place
+pub mod Same

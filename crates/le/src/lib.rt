@@ -1,11 +1,13 @@
-// Numbers in bytes, read at a place and written at a place of a lent buffer; parts of a slice.
+// Numbers in bytes, read at a place and written at a place of a lent buffer; parts of a slice; whether two slices hold the same bytes.
 ghost use mathlib.Core.Path.{_≡_};
 ghost use mathlib.Core.List.{_∷_, []};
+ghost use mathlib.Core.Bool.{false};
 ghost use Prim.Native.Nat.{_+_, _-_, _*_, _≤_};
 ghost use lib.ListN.{length, getD};
-ghost use Rattle.le.specs.Le.{le2, le4, bytes2, bytes4, part, zeroAt};
+ghost use Rattle.le.specs.Le.{if_then_else_, le2, le4, bytes2, bytes4, part, zeroAt};
 ghost use Rattle.le.specs.Place.{Behind, begins};
 ghost use Rattle.le.specs.Put.{Wrote};
+ghost use Rattle.le.specs.Same.{sameBytes};
 
 fn join2(a: u8, b: u8) -> u16
     ensures { λ r. ⌜ r ≡ a + b * 256 ⌝ }
@@ -90,6 +92,28 @@ pub fn zero_at(s: &[u8], at: usize, n: usize) -> bool
         }
     }
     false
+}
+
+fn both(x: bool, y: bool) -> bool
+    ensures { λ r. ⌜ r ≡ (if x then y else false) ⌝ }
+{
+    if x { y } else { false }
+}
+
+// It looks at all bytes of slices of one length, so that the compiler takes many at once: names of a rig are short and begin alike.
+pub fn same_bytes(a: &[u8], b: &[u8]) -> bool
+    ensures { λ r. ⌜ r ≡ sameBytes (now (a .entry)) (now (b .entry)) ⌝ }
+{
+    if a.len() != b.len() {
+        return false;
+    }
+    let mut same = true;
+    let mut i = 0;
+    while i < a.len() {
+        same = both(same, a[i] == b[i]);
+        i += 1;
+    }
+    same
 }
 
 pub fn put_u8(out: &mut [u8], at: usize, x: u8) -> usize

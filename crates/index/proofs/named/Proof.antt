@@ -13,14 +13,14 @@ part-of-requires c κs = search needs
 part-of-requires-2 : tie.Need-part-of-requires-2
 part-of-requires-2 c κs = search needs
 
-same-name-requires : tie.Need-same-name-requires
-same-name-requires c κs = search needs
+same-bytes-requires : tie.Need-same-bytes-requires
+same-bytes-requires c κs = search needs
 
 enum-told : tie.Need-enum-told
 enum-told c = search needs
 
 returns : tie.Need-returns
-returns c = sym (entry-names _ _ _ _ _ (sym (c .before .before .before .before .before .before .before .before .pre) ∙ c .before .before .before .before .head .given .1) ∙ simp (← c .same-name .ensures, ← c .before .part-of2 .ensures .0, ← c .before .before .part-of .ensures .0))
+returns c = sym (entry-names _ _ _ _ _ (sym (c .before .before .before .before .before .before .before .before .pre) ∙ c .before .before .before .before .head .given .1) ∙ simp (← c .same-bytes .ensures, ← c .before .part-of2 .ensures .0, ← c .before .before .part-of .ensures .0))
 
 returns-2 : tie.Need-returns-2
 returns-2 c = sym (other-nameless _ _ _ (sym (c .before .before .before .before .pre) ∙ c .enum-told .given .1))
@@ -32,7 +32,7 @@ named-spec =
     enum-known-head
     part-of-requires
     part-of-requires-2
-    same-name-requires
+    same-bytes-requires
     enum-told
     returns
     returns-2)

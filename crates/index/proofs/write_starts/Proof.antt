@@ -7,7 +7,8 @@ use mathlib.Core.Bool.{false}
 use mathlib.Core.Path.{_≡_, _∙_, sym, ap, refl}
 use Rattle.le.proofs.Laws.{put-none}
 use Rattle.le.specs.Put.{put}
-use Rattle.index.proofs.Laws.{startsFrom, zeroFrom, whole, starts-whole, starts-end, starts-entry, starts-other, zero-here, zero-on, ahead, put-turn, never}
+use Rattle.index.proofs.Laws.{startsFrom, zeroFrom, whole, starts-whole, starts-end, starts-entry, starts-other, zero-here, zero-on, ahead, put-turn}
+use Rattle.le.proofs.Laws.{not-both}
 use Rattle.index.proofs.write_starts.Statement.{statement}
 use Rattle.index.proofs.write_starts.Tie as tie
 
@@ -27,7 +28,7 @@ same-length : tie.Need-same-length Inv-loop μ-loop
 same-length c = search needs
 
 returns : tie.Need-returns Inv-loop μ-loop
-returns c = absurd (never (zero-here _ _ (c .before .before .loop-test .taken) _ (c .before .look-at .ensures) (c .if1 .taken)) (c .before .before .before .loop .inv .3))
+returns c = absurd (not-both (zero-here _ _ (c .before .before .loop-test .taken) _ (c .before .look-at .ensures) (c .if1 .taken)) (c .before .before .before .loop .inv .3))
 
 cast-start : tie.Need-cast-start Inv-loop μ-loop
 cast-start c = search needs

@@ -4,26 +4,23 @@ use mathlib.Core.Path.{_≡_, _∙_, sym, refl}
 use mathlib.Core.Bool.{false}
 use Prim.Native.Nat.{_-_, _≤_}
 use lib.ListN.{length, drop}
 use Rattle.le.specs.Le.{if_then_else_}
-use Rattle.index.proofs.Names.{same-lengths, same-turn, same-end, same-step, same-so-far}
-use Rattle.index.specs.Names.{sameName}
-use Rattle.index.proofs.same_name.Statement.{statement}
-use Rattle.index.proofs.same_name.Tie as tie
-use Rattle.index.proofs.same_name.Reads as reads
-use Rattle.index.proofs.same_name.Lts as lts
-use Rattle.index.proofs.both.Reads as both-reads
+use Rattle.le.proofs.Same.{same-lengths, same-turn, same-end, same-step, same-so-far}
+use Rattle.le.specs.Same.{sameBytes}
+use Rattle.le.proofs.same_bytes.Statement.{statement}
+use Rattle.le.proofs.same_bytes.Tie as tie
 
 abbrev Inv-loop : tie.InvT-loop
-Inv-loop a b same₀ i₀ same i = ((if same then sameName (drop i a) (drop i b) else false) ≡ sameName a b) × (length a ≡ length b) × (i ≤ length a)
+Inv-loop a b same₀ i₀ same i = ((if same then sameBytes (drop i a) (drop i b) else false) ≡ sameBytes a b) × (length a ≡ length b) × (i ≤ length a)
 
 abbrev μ-loop : tie.MeasureT-loop
 μ-loop a b same₀ i₀ same i = length a - i
 
 returns : tie.Need-returns Inv-loop μ-loop
-returns c = sym (same-lengths _ _ (c .if1 .taken))
+returns c = sym (same-lengths _ _ (λ e. omega (arith, c .if1 .taken)))
 
 loop-holds : tie.Need-loop-holds Inv-loop μ-loop
-loop-holds c = (refl, c .if1 .left, omega arith)
+loop-holds c = (refl, omega (arith, c .if1 .left), omega arith)
 
 shared-slice-read-both : tie.Need-shared-slice-read-both Inv-loop μ-loop
 shared-slice-read-both c = search needs
@@ -46,8 +43,8 @@ loop-again c = (simp (c .both .ensures, same-step) (sym (simp (same-turn (c .bef
 returns-2 : tie.Need-returns-2 Inv-loop μ-loop
 returns-2 c = sym (same-so-far (c .before .loop .same)) ∙ sym (simp (same-end (c .before .before .before .before .before .args .a .now) (c .before .before .before .before .before .args .b .now) (c .before .loop .i) (omega arith) (omega arith)) refl) ∙ c .before .loop .inv .0
 
-pub same-name-spec : {M : Type 1} → statement M
-same-name-spec =
+pub same-bytes-spec : {M : Type 1} → statement M
+same-bytes-spec =
     tie.close
     (tie.spec
     Inv-loop
