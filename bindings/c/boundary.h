@@ -5,7 +5,7 @@
  *   boundary_calls.c   every exported function, called with guard words around all that it is lent
  *   boundary_model.c   what document 01 says the answer is, worked out in C
  *   boundary_make.c    random numbers, entries, damage
- *   boundary_edges.c   empty slices, every length lent, the limits
+ *   boundary_edges.c   empty slices, every length lent, names that are nearly alike, the limits
  *   boundary_random.c  random cases
  */
 #ifndef BOUNDARY_H
@@ -29,6 +29,9 @@ enum group {
     LENGTHS,
     READS,
     NUMBERED,
+    NAMED,
+    ALIKE,
+    UNNAMED,
     PLACES,
     WALKS,
     WRITES,
@@ -97,9 +100,11 @@ enum function {
     SYMBOL_STEP,
     SYMBOL_ATTRIBUTE,
     SYMBOL_REFACTOR_INFO,
+    SYMBOL_ATTRIBUTE_NAMED,
     FIELD_READ,
     FIELD_STEP,
     FIELD_ATTRIBUTE,
+    FIELD_ATTRIBUTE_NAMED,
     WALK,
     ATTRIBUTE_READ,
     REFACTOR_READ,
@@ -143,8 +148,12 @@ void same_at(const char *file, int line, enum group group, struct told got, stru
 
 #define SAME(group, got, want) same_at(__FILE__, __LINE__, group, got, want)
 
+/* The group of a check on an attribute by name, by what is expected of it. */
+enum group naming_group(struct told want);
+
 typedef struct told (*reading)(struct bytes bytes);
 typedef struct told (*numbered)(struct bytes bytes, size_t number);
+typedef struct told (*naming)(struct bytes bytes, struct bytes name);
 typedef struct told (*stepping)(struct bytes bytes, size_t cursor);
 typedef struct told (*writing)(const struct parts *parts, struct room out);
 typedef struct told (*converting)(struct bytes src, struct room out);
@@ -153,9 +162,11 @@ struct told call_symbol_read(struct bytes bytes);
 struct told call_symbol_step(struct bytes bytes, size_t cursor);
 struct told call_symbol_attribute(struct bytes bytes, size_t number);
 struct told call_symbol_refactor_info(struct bytes bytes, size_t number);
+struct told call_symbol_attribute_named(struct bytes bytes, struct bytes name);
 struct told call_field_read(struct bytes bytes);
 struct told call_field_step(struct bytes bytes, size_t cursor);
 struct told call_field_attribute(struct bytes bytes, size_t number);
+struct told call_field_attribute_named(struct bytes bytes, struct bytes name);
 struct told call_walk(struct bytes bytes, size_t allowed, size_t cursor);
 struct told call_attribute_read(struct bytes bytes);
 struct told call_refactor_read(struct bytes bytes);
@@ -199,9 +210,11 @@ struct told model_symbol_read(struct bytes bytes);
 struct told model_symbol_step(struct bytes bytes, size_t cursor);
 struct told model_symbol_attribute(struct bytes bytes, size_t number);
 struct told model_symbol_refactor_info(struct bytes bytes, size_t number);
+struct told model_symbol_attribute_named(struct bytes bytes, struct bytes name);
 struct told model_field_read(struct bytes bytes);
 struct told model_field_step(struct bytes bytes, size_t cursor);
 struct told model_field_attribute(struct bytes bytes, size_t number);
+struct told model_field_attribute_named(struct bytes bytes, struct bytes name);
 struct told model_walk(struct bytes bytes, size_t allowed, size_t cursor);
 struct told model_attribute_read(struct bytes bytes);
 struct told model_refactor_read(struct bytes bytes);

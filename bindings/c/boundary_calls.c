@@ -29,10 +29,14 @@ static const struct {
     [SYMBOL_STEP] = {"vindaskot_symbol_step", OF_SYMBOL, true, true, false, STEP},
     [SYMBOL_ATTRIBUTE] = {"vindaskot_symbol_attribute", OF_ATTRIBUTE, false, false, false, DIRECT | NUMBER(14)},
     [SYMBOL_REFACTOR_INFO] = {"vindaskot_symbol_refactor_info", OF_REFACTOR, false, false, false, DIRECT | NUMBER(14)},
+    [SYMBOL_ATTRIBUTE_NAMED] = {"vindaskot_symbol_attribute_named", OF_ATTRIBUTE, false, false, false,
+                                DIRECT | NUMBER(13)},
     [FIELD_READ] = {"vindaskot_field_read", OF_FIELD, true, false, false, DIRECT | NUMBER(1)},
     [FIELD_STEP] = {"vindaskot_field_step", OF_FIELD, true, true, false, STEP | NUMBER(1)},
     [FIELD_ATTRIBUTE] = {"vindaskot_field_attribute", OF_ATTRIBUTE, false, false, false,
                          DIRECT | NUMBER(1) | NUMBER(14)},
+    [FIELD_ATTRIBUTE_NAMED] = {"vindaskot_field_attribute_named", OF_ATTRIBUTE, false, false, false,
+                               DIRECT | NUMBER(1) | NUMBER(13)},
     [WALK] = {"vindaskot_walk", 0, false, true, true, FINISHED | OUT_OF_STEPS | NUMBER(10)},
     [ATTRIBUTE_READ] = {"vindaskot_attribute_read", OF_ATTRIBUTE, false, false, false,
                         DONE | NUMBER(5) | NUMBER(2) | NUMBER(1)},
@@ -189,6 +193,11 @@ void same_at(const char *file, int line, enum group group, struct told got, stru
         memcmp(got.guid, want.guid, sizeof got.guid) == 0 ? "" : "; another guid");
 }
 
+enum group naming_group(struct told want)
+{
+    return want.status == VINDASKOT_DONE ? NAMED : want.status == 13 ? UNNAMED : READS;
+}
+
 struct told call_symbol_read(struct bytes b)
 {
     struct frame *f = begin(SYMBOL_READ, 0);
@@ -213,6 +222,13 @@ struct told call_symbol_refactor_info(struct bytes b, size_t number)
     return finish(SYMBOL_REFACTOR_INFO, vindaskot_symbol_refactor_info(b.at, b.len, number, f->slots, f->answer));
 }
 
+struct told call_symbol_attribute_named(struct bytes b, struct bytes name)
+{
+    struct frame *f = begin(SYMBOL_ATTRIBUTE_NAMED, 0);
+    return finish(SYMBOL_ATTRIBUTE_NAMED,
+                  vindaskot_symbol_attribute_named(b.at, b.len, name.at, name.len, f->slots, f->answer));
+}
+
 struct told call_field_read(struct bytes b)
 {
     struct frame *f = begin(FIELD_READ, 0);
@@ -229,6 +245,13 @@ struct told call_field_attribute(struct bytes b, size_t number)
 {
     struct frame *f = begin(FIELD_ATTRIBUTE, 0);
     return finish(FIELD_ATTRIBUTE, vindaskot_field_attribute(b.at, b.len, number, f->slots, f->answer));
+}
+
+struct told call_field_attribute_named(struct bytes b, struct bytes name)
+{
+    struct frame *f = begin(FIELD_ATTRIBUTE_NAMED, 0);
+    return finish(FIELD_ATTRIBUTE_NAMED,
+                  vindaskot_field_attribute_named(b.at, b.len, name.at, name.len, f->slots, f->answer));
 }
 
 struct told call_walk(struct bytes b, size_t allowed, size_t cursor)

@@ -43,8 +43,10 @@ static void empty_reads(struct bytes none)
     SAME(EMPTY, call_symbol_read(none), refused(2, 30, 0));
     SAME(EMPTY, call_symbol_attribute(none, 0), refused(2, 30, 0));
     SAME(EMPTY, call_symbol_refactor_info(none, 0), refused(2, 30, 0));
+    SAME(EMPTY, call_symbol_attribute_named(none, none), refused(2, 30, 0));
     SAME(EMPTY, call_field_read(none), refused(2, 42, 0));
     SAME(EMPTY, call_field_attribute(none, 0), refused(2, 42, 0));
+    SAME(EMPTY, call_field_attribute_named(none, none), refused(2, 42, 0));
     SAME(EMPTY, call_attribute_read(none), refused(2, 4, 0));
     SAME(EMPTY, call_refactor_read(none), refused(2, 7, 0));
     SAME(EMPTY, call_chain_read(none), refused(2, 7, 0));
@@ -106,6 +108,27 @@ static void empty_finds(struct bytes none, lending no_room)
     SAME(EMPTY, call_find_indexed(upload, index, text("Z")), done(0, 0));
 }
 
+/* An attribute whose name is empty, behind one whose value is. */
+static const uint8_t nameless[10] = {1, 0, 'n', 0, 0, 0, 1, 0, 'v', 0};
+
+static void empty_names(struct bytes none)
+{
+    static struct buffer entry;
+    struct bytes block = {nameless, sizeof nameless}, name = text("n");
+    SAME(EMPTY, call_symbol_attribute_named(none, name), refused(2, 30, 0));
+    SAME(EMPTY, call_field_attribute_named(none, name), refused(2, 42, 0));
+    SAME(EMPTY, call_symbol_attribute_named((struct bytes){one_symbol, sizeof one_symbol}, none), refused(13, 0, 0));
+    entry.len = 0;
+    put_symbol(&entry, &(struct parts){.flags = VINDASKOT_SYMBOL_FLAG_ATTRIBUTES, .count = 2, .block = block});
+    SAME(EMPTY, call_symbol_attribute_named(whole(&entry), none), model_symbol_attribute(whole(&entry), 1));
+    entry.len = 0;
+    put_field(&entry, &(struct parts){.flags = 0});
+    SAME(EMPTY, call_field_attribute_named(whole(&entry), none), refused(13, 0, 0));
+    entry.len = 0;
+    put_field(&entry, &(struct parts){.flags = VINDASKOT_TYPE_FLAG_ATTRIBUTES, .count = 2, .block = block});
+    SAME(EMPTY, call_field_attribute_named(whole(&entry), none), model_field_attribute(whole(&entry), 1));
+}
+
 static void empty_texts(struct bytes none, lending no_room)
 {
     SAME(EMPTY, call_decode(none, no_room()), done(0, 0));
@@ -121,6 +144,7 @@ static void try_empty(struct bytes none, lending no_room)
     empty_reads(none);
     empty_writes(none, no_room);
     empty_finds(none, no_room);
+    empty_names(none);
     empty_texts(none, no_room);
 }
 
@@ -440,6 +464,165 @@ static void long_guids(void)
     }
 }
 
+/* ---- Attributes by name ---- */
+
+struct pair {
+    const char *name, *value;
+};
+
+/* Two of one name, two of none, and names that begin others. The last is more than the count says. */
+static const struct pair pairs[] = {{"unit", "kPa"},       {"", "none"},  {"unit", "bar"}, {"ZoomCurve", "1"},
+                                    {"ZoomCurveEnd", "2"}, {"Zoom", "3"}, {"", "again"},   {"past", "4"}};
+
+enum { PAIRS = sizeof pairs / sizeof *pairs, NOWHERE = PAIRS };
+
+/* A name, and the number of the attribute that it finds. */
+struct question {
+    const char *name;
+    size_t number;
+};
+
+static const struct question questions[] = {
+    {"unit", 0},
+    {"", 1},
+    {"ZoomCurve", 3},
+    {"ZoomCurveEnd", 4},
+    {"Zoom", 5},
+    /* Cut short, longer, of another case, another in the first, in the last byte and in one between. */
+    {"uni", NOWHERE},
+    {"units", NOWHERE},
+    {"Unit", NOWHERE},
+    {"UNIT", NOWHERE},
+    {"knit", NOWHERE},
+    {"unis", NOWHERE},
+    {"uait", NOWHERE},
+    {"ZoomCurveEne", NOWHERE},
+    {"ZoomCurveEn", NOWHERE},
+    {"Z", NOWHERE},
+    /* A value; what is past the count, and behind the entry. */
+    {"kPa", NOWHERE},
+    {"past", NOWHERE},
+    {"behind", NOWHERE},
+};
+
+static void ask(struct bytes b, struct bytes name, struct told want, naming call)
+{
+    SAME(naming_group(want), call(b, lay(NAME, name)), want);
+}
+
+static void ask_all(struct bytes b, naming call, numbered by_number)
+{
+    for (size_t i = 0; i < sizeof questions / sizeof *questions; i++) {
+        bool there = questions[i].number != NOWHERE;
+        ask(b, text(questions[i].name), there ? by_number(b, questions[i].number) : refused(13, 0, 0), call);
+    }
+    /* A name with its end byte, and with all that follows it in the record. */
+    ask(b, (struct bytes){(const uint8_t *)"unit", 5}, refused(13, 0, 0), call);
+    ask(b, (struct bytes){(const uint8_t *)"unit\0kPa", 9}, refused(13, 0, 0), call);
+}
+
+static void nearly_alike(void)
+{
+    static struct buffer block, entry;
+    struct parts p = {.flags = VINDASKOT_SYMBOL_FLAG_ATTRIBUTES, .count = PAIRS - 1};
+    block.len = entry.len = 0;
+    for (size_t i = 0; i < PAIRS; i++)
+        put_attribute(&block, text(pairs[i].name), text(pairs[i].value));
+    p.block = whole(&block);
+    put_symbol(&entry, &p);
+    put_attribute(&entry, text("behind"), text("5"));
+    ask_all(lay(UPLOAD, whole(&entry)), call_symbol_attribute_named, model_symbol_attribute);
+    p.flags = VINDASKOT_TYPE_FLAG_ATTRIBUTES;
+    entry.len = 0;
+    put_field(&entry, &p);
+    put_attribute(&entry, text("behind"), text("5"));
+    ask_all(lay(UPLOAD, whole(&entry)), call_field_attribute_named, model_field_attribute);
+}
+
+/* An attribute, and behind it one that is refused: it ends the list of a symbol and refuses a field, which then has no
+ * attribute of any name. */
+static void before_refused(struct bytes bad, struct told refusal)
+{
+    static struct buffer block, entry;
+    struct parts p = {.flags = VINDASKOT_SYMBOL_FLAG_ATTRIBUTES, .count = 2};
+    block.len = entry.len = 0;
+    put_attribute(&block, text("unit"), text("kPa"));
+    put(&block, bad);
+    p.block = whole(&block);
+    put_symbol(&entry, &p);
+    struct bytes b = lay(UPLOAD, whole(&entry));
+    ask(b, text("unit"), model_symbol_attribute(b, 0), call_symbol_attribute_named);
+    ask(b, text(""), refused(13, 0, 0), call_symbol_attribute_named);
+    p.flags = VINDASKOT_TYPE_FLAG_ATTRIBUTES;
+    entry.len = 0;
+    put_field(&entry, &p);
+    b = lay(UPLOAD, whole(&entry));
+    ask(b, text("unit"), refusal, call_field_attribute_named);
+    ask(b, text(""), refusal, call_field_attribute_named);
+}
+
+/* Names of 255 and of 4 bytes, and names asked whose length is theirs in its last byte, or in its last two, alone. */
+static void long_names(void)
+{
+    static const size_t lengths[] = {4, 254, 255, 256, 257, 260, 511, 65535, 65536, 65540, 65791};
+    static struct buffer block, entry;
+    struct parts p = {.flags = VINDASKOT_SYMBOL_FLAG_ATTRIBUTES, .count = 2};
+    block.len = 0;
+    put_attribute(&block, letters(NAME, 255), text("long"));
+    put_attribute(&block, letters(NAME, 4), text("short"));
+    p.block = whole(&block);
+    for (size_t i = 0; i < sizeof lengths / sizeof *lengths; i++) {
+        size_t len = lengths[i], number = len == 255 ? 0 : 1;
+        bool there = len == 255 || len == 4;
+        p.flags = VINDASKOT_SYMBOL_FLAG_ATTRIBUTES;
+        entry.len = 0;
+        put_symbol(&entry, &p);
+        struct bytes b = lay(UPLOAD, whole(&entry)), name = letters(NAME, len);
+        ask(b, name, there ? model_symbol_attribute(b, number) : refused(13, 0, 0), call_symbol_attribute_named);
+        p.flags = VINDASKOT_TYPE_FLAG_ATTRIBUTES;
+        entry.len = 0;
+        put_field(&entry, &p);
+        b = lay(UPLOAD, whole(&entry));
+        ask(b, name, there ? model_field_attribute(b, number) : refused(13, 0, 0), call_field_attribute_named);
+    }
+}
+
+/* As many attributes as there can be, the last of which alone has a name. */
+static void many_names(void)
+{
+    enum { COUNT = 65535, BYTES = 4 * COUNT + 1 };
+    struct parts p = laid(&(struct parts){.flags = VINDASKOT_SYMBOL_FLAG_ATTRIBUTES, .count = COUNT});
+    p.block = empty_records(BLOCK, COUNT, 4, BYTES);
+    uint8_t *last = area(BLOCK, BYTES) + BYTES - 5;
+    last[0] = 1;
+    last[2] = 'Z';
+    struct room out = lend(35 + BYTES);
+    SAME(LENGTHS, call_symbol_write(&p, out), done(out.len, 0));
+    struct bytes b = lay(UPLOAD, (struct bytes){out.at, out.len});
+    ask(b, text("Z"), model_symbol_attribute(b, COUNT - 1), call_symbol_attribute_named);
+    ask(b, text(""), model_symbol_attribute(b, 0), call_symbol_attribute_named);
+    ask(b, text("z"), refused(13, 0, 0), call_symbol_attribute_named);
+    p.flags = VINDASKOT_TYPE_FLAG_ATTRIBUTES;
+    out = lend(47 + BYTES);
+    SAME(LENGTHS, call_field_write(&p, out), done(out.len, 0));
+    b = lay(UPLOAD, (struct bytes){out.at, out.len});
+    ask(b, text("Z"), model_field_attribute(b, COUNT - 1), call_field_attribute_named);
+    ask(b, text(""), model_field_attribute(b, 0), call_field_attribute_named);
+    ask(b, text("z"), refused(13, 0, 0), call_field_attribute_named);
+}
+
+/* An attribute that claims a name of 9 bytes. */
+static const uint8_t long_name[4] = {9};
+
+static void try_names(void)
+{
+    nearly_alike();
+    before_refused((struct bytes){long_name, 4}, refused(1, 13, 4));
+    before_refused((struct bytes){long_name, 3}, refused(2, 4, 3));
+    long_names();
+    many_names();
+}
+
 /* ---- Statuses that the edges above don't have, so that each is seen however few random cases there are ---- */
 
 /* So many zeros that claim so much. */
@@ -457,19 +640,21 @@ static void refused_symbols(void)
     SAME(READS, call_symbol_read(b), refused(3, 31, 30));
     SAME(NUMBERED, call_symbol_attribute(b, 0), refused(3, 31, 30));
     SAME(NUMBERED, call_symbol_refactor_info(b, 0), refused(3, 31, 30));
+    ask(b, text(""), refused(3, 31, 30), call_symbol_attribute_named);
     SAME(WALKS, call_symbol_step(b, 0), moved(refused(3, 31, 30), 30));
     b = claiming(29, 30);
     SAME(READS, call_symbol_read(b), refused(4, 30, 29));
     SAME(NUMBERED, call_symbol_attribute(b, 0), refused(4, 30, 29));
     SAME(NUMBERED, call_symbol_refactor_info(b, 0), refused(4, 30, 29));
+    ask(b, text(""), refused(4, 30, 29), call_symbol_attribute_named);
     SAME(WALKS, call_symbol_step(b, 0), moved(refused(2, 30, 29), 29));
     b = lay(UPLOAD, (struct bytes){one_symbol, sizeof one_symbol});
     SAME(NUMBERED, call_symbol_attribute(b, 0), refused(14, 0, 0));
     SAME(NUMBERED, call_symbol_refactor_info(b, 0), refused(14, 0, 0));
+    ask(b, text("Z"), refused(13, 0, 0), call_symbol_attribute_named);
+    ask(claiming(29, 29), text(""), refused(2, 30, 29), call_symbol_attribute_named);
+    ask(claiming(30, 30), text(""), refused(3, 33, 30), call_symbol_attribute_named);
 }
-
-/* An attribute that claims a name of 9 bytes. */
-static const uint8_t long_name[4] = {9};
 
 static void refused_fields(void)
 {
@@ -477,12 +662,17 @@ static void refused_fields(void)
     struct bytes b = claiming(43, 42);
     SAME(READS, call_field_read(b), refused(3, 43, 42));
     SAME(NUMBERED, call_field_attribute(b, 0), refused(3, 43, 42));
+    ask(b, text(""), refused(3, 43, 42), call_field_attribute_named);
     SAME(WALKS, call_field_step(b, 0), moved(refused(3, 43, 42), 42));
     b = claiming(41, 42);
     SAME(READS, call_field_read(b), refused(4, 42, 41));
     SAME(NUMBERED, call_field_attribute(b, 0), refused(4, 42, 41));
+    ask(b, text(""), refused(4, 42, 41), call_field_attribute_named);
     SAME(WALKS, call_field_step(b, 0), moved(refused(2, 42, 41), 41));
     SAME(NUMBERED, call_field_attribute(claiming(45, 45), 0), refused(14, 0, 0));
+    ask(claiming(45, 45), text(""), refused(13, 0, 0), call_field_attribute_named);
+    ask(claiming(41, 41), text(""), refused(2, 42, 41), call_field_attribute_named);
+    ask(claiming(42, 42), text(""), refused(3, 45, 42), call_field_attribute_named);
     entry.len = 0;
     put_field(&entry, &(struct parts){.flags = VINDASKOT_TYPE_FLAG_ATTRIBUTES, .count = 1, .block = {long_name, 4}});
     b = lay(UPLOAD, whole(&entry));
@@ -522,6 +712,7 @@ void try_edges(void)
         long_strings();
         long_counts();
         long_guids();
+        try_names();
         refused_symbols();
         refused_fields();
         other_statuses();
@@ -558,6 +749,9 @@ static void limit_symbol(size_t len)
           (unsigned long long)read.slots[VINDASKOT_SYMBOL_UNREAD]);
     SAME(LIMITS, call_symbol_attribute(b, 1), at_limit(len, model_symbol_attribute(b, 1)));
     SAME(LIMITS, call_symbol_refactor_info(b, 1), at_limit(len, model_symbol_refactor_info(b, 1)));
+    struct bytes name = lay(NAME, rich.names[1]);
+    SAME(LIMITS, call_symbol_attribute_named(b, name), at_limit(len, model_symbol_attribute_named(b, name)));
+    SAME(LIMITS, call_symbol_attribute_named(b, letters(NAME, len)), at_limit(len, refused(13, 0, 0)));
     SAME(LIMITS, call_symbol_step(b, 0), moved(at_limit(len, read), len));
     SAME(LIMITS, call_symbol_step(b, len - 1), moved(at_limit(len, refused(2, len + 3, len)), len));
     SAME(LIMITS, call_symbol_step(b, len), finished(len, 0));
@@ -577,6 +771,9 @@ static void limit_field(size_t len)
     struct told read = call_field_read(b);
     SAME(LIMITS, read, at_limit(len, model_field_read(b)));
     SAME(LIMITS, call_field_attribute(b, 1), at_limit(len, model_field_attribute(b, 1)));
+    struct bytes name = lay(NAME, rich.names[1]);
+    SAME(LIMITS, call_field_attribute_named(b, name), at_limit(len, model_field_attribute_named(b, name)));
+    SAME(LIMITS, call_field_attribute_named(b, letters(NAME, len)), at_limit(len, refused(13, 0, 0)));
     SAME(LIMITS, call_field_step(b, 0), moved(at_limit(len, read), len));
     SAME(LIMITS, call_field_step(b, len), finished(len, 0));
 }
@@ -626,6 +823,8 @@ static void limit_finds(size_t len)
     b = lay(UPLOAD, (struct bytes){one_symbol, sizeof one_symbol});
     SAME(LIMITS, call_find(b, letters(NAME, len)), refused(13, 0, 0));
     SAME(LIMITS, call_find_indexed(b, part(index, 0, 4), letters(NAME, len)), refused(13, 0, 0));
+    SAME(LIMITS, call_symbol_attribute_named(b, letters(NAME, len)), refused(13, 0, 0));
+    SAME(LIMITS, call_field_attribute_named(claiming(45, 45), letters(NAME, len)), refused(13, 0, 0));
 }
 
 static void limit_texts(size_t len)

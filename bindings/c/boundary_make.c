@@ -224,12 +224,21 @@ static void draft_guid(struct draft *d)
     d->parts.guid = since(&d->pool, start);
 }
 
+/* A name of its own, or one of those before it, whole or its start: so that names are alike, and begin one another. */
+static struct bytes draft_name(struct draft *d, size_t number)
+{
+    if (number == 0 || !one_in(3))
+        return string_in(&d->pool, one_in(20) ? 255 : 8);
+    struct bytes before = d->names[below(number)];
+    return part(before, 0, one_in(2) ? before.len : below(before.len + 1));
+}
+
 static void draft_attributes(struct draft *d)
 {
     struct parts *p = &d->parts;
     p->count = below(SOME + 1);
     for (size_t i = 0; i < p->count; i++) {
-        d->names[i] = string_in(&d->pool, one_in(20) ? 255 : 8);
+        d->names[i] = draft_name(d, i);
         d->values[i] = string_in(&d->pool, one_in(20) ? 255 : 8);
     }
     size_t start = d->pool.len;

@@ -347,6 +347,34 @@ struct told model_field_attribute(struct bytes b, size_t number)
                     attribute_at);
 }
 
+/* The first of the attributes that an entry shows whose name is the one asked. */
+static struct told first_named(struct bytes e, struct told read, struct run records, struct bytes name)
+{
+    if (read.status != VINDASKOT_DONE)
+        return read;
+    size_t at = (size_t)read.slots[records.place];
+    for (uint64_t left = read.slots[records.len]; left > 0; left--) {
+        struct told one = attribute_at(e, at);
+        const uint64_t *s = one.slots;
+        if (equal(part(e, (size_t)s[attribute_name.place], (size_t)s[attribute_name.len]), name))
+            return one;
+        at = (size_t)s[VINDASKOT_ATTRIBUTE_NEXT];
+    }
+    return refused(13, 0, 0);
+}
+
+struct told model_symbol_attribute_named(struct bytes b, struct bytes name)
+{
+    struct told read = model_symbol_read(b);
+    return first_named(entry_of(b, read, VINDASKOT_SYMBOL_LENGTH), read, symbol_attributes, name);
+}
+
+struct told model_field_attribute_named(struct bytes b, struct bytes name)
+{
+    struct told read = model_field_read(b);
+    return first_named(entry_of(b, read, VINDASKOT_FIELD_LENGTH), read, field_attributes, name);
+}
+
 /* ---- Walking ---- */
 
 static struct told with_cursor(struct told told, size_t cursor)

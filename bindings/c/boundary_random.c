@@ -37,6 +37,89 @@ static void try_numbers(struct bytes b, uint64_t end, uint64_t count, struct rec
     }
 }
 
+/* A kind of entry that is asked for its attributes, and the slots that tell of them. */
+struct asked {
+    naming call, model;
+    numbered by_number;
+    struct run attributes;
+    size_t length;
+};
+
+static const struct asked of_symbol = {call_symbol_attribute_named,
+                                       model_symbol_attribute_named,
+                                       model_symbol_attribute,
+                                       {VINDASKOT_SYMBOL_ATTRIBUTES, VINDASKOT_SYMBOL_ATTRIBUTE_COUNT},
+                                       VINDASKOT_SYMBOL_LENGTH};
+static const struct asked of_field = {call_field_attribute_named,
+                                      model_field_attribute_named,
+                                      model_field_attribute,
+                                      {VINDASKOT_FIELD_ATTRIBUTES, VINDASKOT_FIELD_ATTRIBUTE_COUNT},
+                                      VINDASKOT_FIELD_LENGTH};
+
+static struct bytes string_of(struct bytes b, const uint64_t *slots, struct run string)
+{
+    return part(b, (size_t)slots[string.place], (size_t)slots[string.len]);
+}
+
+static struct told ask(struct bytes b, const struct asked *of, struct bytes from)
+{
+    struct bytes name = lay(NAME, from);
+    struct told told = of->call(b, name), want = of->model(b, name);
+    SAME(naming_group(want), told, want);
+    CHECK(INPUTS, equal(name, from), "a name that was asked for was changed");
+    return told;
+}
+
+/* Names that are nearly this one: with the end byte behind it, cut short, with a bit changed, often that of the case or
+ * one of the last byte. */
+static void try_near(struct bytes b, const struct asked *of, struct bytes name)
+{
+    static uint8_t changed[255];
+    ask(b, of, part(name, 0, name.len + 1));
+    if (name.len == 0)
+        return;
+    ask(b, of, part(name, 0, one_in(2) ? name.len - 1 : below(name.len)));
+    memcpy(changed, name.at, name.len);
+    changed[one_in(2) ? name.len - 1 : below(name.len)] ^= (uint8_t)(one_in(2) ? 0x20 : 1u << below(8));
+    ask(b, of, (struct bytes){changed, name.len});
+}
+
+/* What stands behind the last attribute shown, where it can be read as one more: its name. */
+static void try_past(struct bytes b, const struct asked *of, const uint64_t *entry)
+{
+    uint64_t count = entry[of->attributes.len], at = entry[of->attributes.place], end = entry[of->length];
+    if (count > 0)
+        at = of->by_number(b, (size_t)count - 1).slots[VINDASKOT_ATTRIBUTE_NEXT];
+    if (at > end)
+        return;
+    struct bytes rest = part(b, (size_t)at, (size_t)(end - at));
+    struct told past = model_attribute_read(rest);
+    if (past.status == VINDASKOT_DONE)
+        ask(b, of, string_of(rest, past.slots, attribute_name));
+}
+
+/* The names of an entry's attributes, of eight where there are more: each finds that attribute, or one before it that
+ * has the name too. */
+static void try_names(struct bytes b, const struct asked *of, struct told entry)
+{
+    const uint64_t count = entry.slots[of->attributes.len];
+    for (size_t number = 0; number < count; number += 1 + (size_t)count / 8) {
+        struct told own = of->by_number(b, number);
+        struct bytes name = string_of(b, own.slots, attribute_name);
+        struct told told = ask(b, of, name);
+        uint64_t place = told.slots[attribute_name.place], own_place = own.slots[attribute_name.place];
+        CHECK(place < own_place ? ALIKE : PLACES,
+              told.status == VINDASKOT_DONE && place <= own_place && told.slots[attribute_name.len] == name.len &&
+                  equal(string_of(b, told.slots, attribute_name), name),
+              "%s: the name of attribute %zu finds what has another name or comes after it", name_of(told.function),
+              number);
+        try_near(b, of, name);
+    }
+    ask(b, of, part(b, 0, 0));
+    if (entry.status == VINDASKOT_DONE)
+        try_past(b, of, entry.slots);
+}
+
 static void try_records(struct bytes b)
 {
     struct told attribute = call_attribute_read(b), refactor = call_refactor_read(b), chain = call_chain_read(b);
@@ -86,6 +169,7 @@ static void try_symbol(struct bytes b)
                 model_symbol_attribute);
     try_numbers(b, length, s[VINDASKOT_SYMBOL_REFACTOR_COUNT], a_refactor, call_symbol_refactor_info,
                 model_symbol_refactor_info);
+    try_names(b, &of_symbol, told);
     if (told.status != VINDASKOT_DONE)
         return;
     check_strings(b, s, symbol_strings, 30, 24, length);
@@ -102,6 +186,7 @@ static void try_field(struct bytes b)
     SAME(READS, told, model_field_read(b));
     try_numbers(b, length, s[VINDASKOT_FIELD_ATTRIBUTE_COUNT], an_attribute, call_field_attribute,
                 model_field_attribute);
+    try_names(b, &of_field, told);
     if (told.status != VINDASKOT_DONE)
         return;
     check_strings(b, s, field_strings, 42, 32, length);
@@ -295,6 +380,21 @@ static void back_attributes(struct bytes e, const struct draft *d, numbered call
     }
 }
 
+/* Asked for by name, of those that were written the first of that name. */
+static void back_names(struct bytes e, const struct draft *d, naming call)
+{
+    for (size_t i = 0; i < d->parts.count; i++) {
+        struct told told = call(e, lay(NAME, d->names[i]));
+        size_t first = 0;
+        while (!equal(d->names[first], d->names[i]))
+            first++;
+        CHECK(ROUND_TRIPS,
+              told.status == VINDASKOT_DONE && holds(e, told.slots, attribute_name, d->names[first]) &&
+                  holds(e, told.slots, attribute_value, d->values[first]),
+              "the name of attribute %zu finds another than %zu", i, first);
+    }
+}
+
 static void back_chain(struct bytes e, const struct draft *d, numbered call)
 {
     for (size_t i = 0; i < d->parts.links; i++) {
@@ -347,6 +447,7 @@ static void try_symbol_back(const struct draft *d)
               s[VINDASKOT_SYMBOL_REFACTOR_COUNT] == p->links,
           "a symbol's sections are read as others");
     back_attributes(e, d, call_symbol_attribute);
+    back_names(e, d, call_symbol_attribute_named);
     back_chain(e, d, call_symbol_refactor_info);
 }
 
@@ -370,6 +471,7 @@ static void try_field_back(const struct draft *d)
           guid_back(&told, s[VINDASKOT_FIELD_HAS_GUID], guid) && s[VINDASKOT_FIELD_ATTRIBUTE_COUNT] == p->count,
           "a field's sections are read as others");
     back_attributes(e, d, call_field_attribute);
+    back_names(e, d, call_field_attribute_named);
 }
 
 static void try_attribute_back(struct bytes name, struct bytes value)

@@ -4,7 +4,24 @@
  *
  * tools/c-tests builds and runs each, and demands that boundary fails.
  */
+#include <string.h>
+
 #include "vindaskot.h"
+
+#if FAULT > 15 && FAULT < 20 && FAULT != 18
+/* The attributes that these look at: each call reads the entry anew, and there can be 65,535. */
+enum { FEW = 99 };
+
+/* Whether the name that an attribute's slots tell begins with these bytes, as far as a mask's bits go. */
+static bool begins(const uint8_t *bytes, const uint64_t *slots, const uint8_t *with, size_t len, uint8_t mask)
+{
+    if (slots[VINDASKOT_ATTRIBUTE_NAME_LEN] < len)
+        return false;
+    while (len > 0 && ((bytes[slots[VINDASKOT_ATTRIBUTE_NAME] + len - 1] ^ with[len - 1]) & mask) == 0)
+        len--;
+    return len == 0;
+}
+#endif
 
 #if FAULT == 1 /* a writer changes the byte after what it wrote */
 uint32_t __real_vindaskot_attribute_write(const uint8_t *, size_t, const uint8_t *, size_t, uint8_t *, size_t,
@@ -166,6 +183,105 @@ uint32_t __wrap_vindaskot_refactor_block_write(size_t count, const uint8_t *bloc
         out[1] = (uint8_t)count;
     }
     return status;
+}
+
+#elif FAULT == 16 /* of two attributes of one name the last is found */
+uint32_t __real_vindaskot_symbol_attribute_named(const uint8_t *, size_t, const uint8_t *, size_t, uint64_t *,
+                                                 uint64_t *);
+uint32_t __wrap_vindaskot_symbol_attribute_named(const uint8_t *bytes, size_t bytes_len, const uint8_t *name,
+                                                 size_t name_len, uint64_t *slots, uint64_t *answer)
+{
+    uint64_t one[VINDASKOT_ATTRIBUTE_SLOTS], own[2];
+    uint32_t status = __real_vindaskot_symbol_attribute_named(bytes, bytes_len, name, name_len, slots, answer);
+    for (size_t i = 0; i < FEW && status == VINDASKOT_DONE; i++)
+        if (vindaskot_symbol_attribute(bytes, bytes_len, i, one, own) == VINDASKOT_DONE &&
+            one[VINDASKOT_ATTRIBUTE_NAME_LEN] == name_len && begins(bytes, one, name, name_len, 0xFF))
+            memcpy(slots, one, sizeof one);
+    return status;
+}
+
+#elif FAULT == 17 /* an attribute is found by the start of its name */
+uint32_t __real_vindaskot_field_attribute_named(const uint8_t *, size_t, const uint8_t *, size_t, uint64_t *,
+                                                uint64_t *);
+uint32_t __wrap_vindaskot_field_attribute_named(const uint8_t *bytes, size_t bytes_len, const uint8_t *name,
+                                                size_t name_len, uint64_t *slots, uint64_t *answer)
+{
+    uint64_t one[VINDASKOT_ATTRIBUTE_SLOTS], own[2];
+    uint32_t status = __real_vindaskot_field_attribute_named(bytes, bytes_len, name, name_len, slots, answer);
+    for (size_t i = 0; i < FEW && status == 13; i++)
+        if (vindaskot_field_attribute(bytes, bytes_len, i, one, own) == VINDASKOT_DONE &&
+            begins(bytes, one, name, name_len, 0xFF)) {
+            memcpy(slots, one, sizeof one);
+            status = VINDASKOT_DONE;
+        }
+    return status;
+}
+
+#elif FAULT == 18 /* the value of the attribute behind the one found */
+uint32_t __real_vindaskot_symbol_attribute_named(const uint8_t *, size_t, const uint8_t *, size_t, uint64_t *,
+                                                 uint64_t *);
+uint32_t __wrap_vindaskot_symbol_attribute_named(const uint8_t *bytes, size_t bytes_len, const uint8_t *name,
+                                                 size_t name_len, uint64_t *slots, uint64_t *answer)
+{
+    uint64_t one[VINDASKOT_ATTRIBUTE_SLOTS], own[2];
+    uint32_t status = __real_vindaskot_symbol_attribute_named(bytes, bytes_len, name, name_len, slots, answer);
+    size_t next = status == VINDASKOT_DONE ? (size_t)slots[VINDASKOT_ATTRIBUTE_NEXT] : bytes_len;
+    if (vindaskot_attribute_read(bytes + next, bytes_len - next, one, own) == VINDASKOT_DONE) {
+        slots[VINDASKOT_ATTRIBUTE_VALUE] = next + one[VINDASKOT_ATTRIBUTE_VALUE];
+        slots[VINDASKOT_ATTRIBUTE_VALUE_LEN] = one[VINDASKOT_ATTRIBUTE_VALUE_LEN];
+    }
+    return status;
+}
+
+#elif FAULT == 19 /* letters of another case are the same name */
+uint32_t __real_vindaskot_field_attribute_named(const uint8_t *, size_t, const uint8_t *, size_t, uint64_t *,
+                                                uint64_t *);
+uint32_t __wrap_vindaskot_field_attribute_named(const uint8_t *bytes, size_t bytes_len, const uint8_t *name,
+                                                size_t name_len, uint64_t *slots, uint64_t *answer)
+{
+    uint64_t one[VINDASKOT_ATTRIBUTE_SLOTS], own[2];
+    uint32_t status = __real_vindaskot_field_attribute_named(bytes, bytes_len, name, name_len, slots, answer);
+    for (size_t i = 0; i < FEW && status == 13; i++)
+        if (vindaskot_field_attribute(bytes, bytes_len, i, one, own) == VINDASKOT_DONE &&
+            one[VINDASKOT_ATTRIBUTE_NAME_LEN] == name_len && begins(bytes, one, name, name_len, 0xDF)) {
+            memcpy(slots, one, sizeof one);
+            status = VINDASKOT_DONE;
+        }
+    return status;
+}
+
+#elif FAULT == 20 /* a name that is not there changes a slot */
+uint32_t __real_vindaskot_symbol_attribute_named(const uint8_t *, size_t, const uint8_t *, size_t, uint64_t *,
+                                                 uint64_t *);
+uint32_t __wrap_vindaskot_symbol_attribute_named(const uint8_t *bytes, size_t bytes_len, const uint8_t *name,
+                                                 size_t name_len, uint64_t *slots, uint64_t *answer)
+{
+    uint32_t status = __real_vindaskot_symbol_attribute_named(bytes, bytes_len, name, name_len, slots, answer);
+    if (status == 13)
+        slots[VINDASKOT_ATTRIBUTE_NEXT] = 0;
+    return status;
+}
+
+#elif FAULT == 21 /* a field that an attribute refuses has no attribute of any name */
+uint32_t __real_vindaskot_field_attribute_named(const uint8_t *, size_t, const uint8_t *, size_t, uint64_t *,
+                                                uint64_t *);
+uint32_t __wrap_vindaskot_field_attribute_named(const uint8_t *bytes, size_t bytes_len, const uint8_t *name,
+                                                size_t name_len, uint64_t *slots, uint64_t *answer)
+{
+    uint32_t status = __real_vindaskot_field_attribute_named(bytes, bytes_len, name, name_len, slots, answer);
+    if (status != 1)
+        return status;
+    answer[0] = answer[1] = 0;
+    return 13;
+}
+
+#elif FAULT == 22 /* of a name's length the last byte alone is looked at */
+uint32_t __real_vindaskot_symbol_attribute_named(const uint8_t *, size_t, const uint8_t *, size_t, uint64_t *,
+                                                 uint64_t *);
+uint32_t __wrap_vindaskot_symbol_attribute_named(const uint8_t *bytes, size_t bytes_len, const uint8_t *name,
+                                                 size_t name_len, uint64_t *slots, uint64_t *answer)
+{
+    return __real_vindaskot_symbol_attribute_named(bytes, bytes_len, name, name_len & 255, slots, answer);
 }
 
 #else

@@ -111,24 +111,18 @@ static void print_text(const char *label, const uint8_t *text, size_t len)
 }
 
 /* Places count from the start of the entry: entry + place. */
-static bool print_attribute(const uint8_t *entry, size_t len, size_t count, const char *name)
+static bool print_attribute(const uint8_t *entry, size_t len, const char *name)
 {
-    for (size_t number = 0; number < count; number++) {
-        uint64_t slots[VINDASKOT_ATTRIBUTE_SLOTS], answer[2];
-        uint32_t status = vindaskot_symbol_attribute(entry, len, number, slots, answer);
-        if (status != VINDASKOT_DONE) {
-            print_refusal("attribute", status, answer);
-            return false;
-        }
-        if (slots[VINDASKOT_ATTRIBUTE_NAME_LEN] == strlen(name) &&
-            memcmp(entry + slots[VINDASKOT_ATTRIBUTE_NAME], name, strlen(name)) == 0) {
-            printf("%s = ", name);
-            print_text("", entry + slots[VINDASKOT_ATTRIBUTE_VALUE], (size_t)slots[VINDASKOT_ATTRIBUTE_VALUE_LEN]);
-            return true;
-        }
+    uint64_t slots[VINDASKOT_ATTRIBUTE_SLOTS], answer[2];
+    uint32_t status =
+        vindaskot_symbol_attribute_named(entry, len, (const uint8_t *)name, strlen(name), slots, answer);
+    if (status != VINDASKOT_DONE) {
+        print_refusal(name, status, answer);
+        return false;
     }
-    fprintf(stderr, "no attribute %s\n", name);
-    return false;
+    printf("%s = ", name);
+    print_text("", entry + slots[VINDASKOT_ATTRIBUTE_VALUE], (size_t)slots[VINDASKOT_ATTRIBUTE_VALUE_LEN]);
+    return true;
 }
 
 static bool print_lens(const struct upload *upload, const struct index *index)
@@ -152,7 +146,7 @@ static bool print_lens(const struct upload *upload, const struct index *index)
            (unsigned)slots[VINDASKOT_SYMBOL_INDEX_GROUP], (unsigned)slots[VINDASKOT_SYMBOL_INDEX_OFFSET]);
     print_text("type: ", entry + slots[VINDASKOT_SYMBOL_TYPE_NAME], (size_t)slots[VINDASKOT_SYMBOL_TYPE_NAME_LEN]);
     print_text("comment: ", entry + slots[VINDASKOT_SYMBOL_COMMENT], (size_t)slots[VINDASKOT_SYMBOL_COMMENT_LEN]);
-    return print_attribute(entry, len, (size_t)slots[VINDASKOT_SYMBOL_ATTRIBUTE_COUNT], CURVE_END);
+    return print_attribute(entry, len, CURVE_END);
 }
 
 int main(int argc, char **argv)

@@ -63,7 +63,8 @@ extern "C" {
 #define VINDASKOT_LIMIT 16777216u
 
 /* The interface that this header describes. It changes with the arguments or the slots of any call, which a linker does
- * not see: a program compares vindaskot_interface() with it before its first call. */
+ * not see: a program compares vindaskot_interface() with it before its first call. A call that is added changes no
+ * other and leaves it as it is: where the library lacks that call, the linker says so. */
 #define VINDASKOT_INTERFACE 1u
 uint32_t vindaskot_interface(void);
 
@@ -140,6 +141,14 @@ uint32_t vindaskot_symbol_refactor_info(const uint8_t *bytes, size_t bytes_len, 
                                         uint64_t slots[VINDASKOT_AT_LEAST 5],
                                         uint64_t answer[VINDASKOT_AT_LEAST 2]);
 
+/* The attribute of that name, of the symbol entry at the start of bytes: the first of those shown whose name is the one
+ * asked. The name is Windows-1252, compared byte for byte: another case is another name, and an empty name finds the
+ * first attribute whose name is empty. The slots are those that vindaskot_symbol_attribute fills for its number.
+ * Refusals: those of vindaskot_symbol_read, then 13. */
+uint32_t vindaskot_symbol_attribute_named(const uint8_t *bytes, size_t bytes_len, const uint8_t *name,
+                                          size_t name_len, uint64_t slots[VINDASKOT_AT_LEAST 5],
+                                          uint64_t answer[VINDASKOT_AT_LEAST 2]);
+
 /* ---- Fields ---- */
 
 /* What a field's slots hold. */
@@ -164,8 +173,9 @@ enum {
     VINDASKOT_FIELD_SLOTS
 };
 
-/* As for symbols, with 42 for 30. A refused attribute refuses the field. Refusals: 5, 2, 3, 4, 3, then 2 and 1 of an
- * attribute; of vindaskot_field_attribute then 14. */
+/* As for symbols, with 42 for 30. A refused attribute refuses the field, also where one before it has the name asked.
+ * Refusals: 5, 2, 3, 4, 3, then 2 and 1 of an attribute; of vindaskot_field_attribute then 14, of
+ * vindaskot_field_attribute_named then 13. */
 uint32_t vindaskot_field_read(const uint8_t *bytes, size_t bytes_len,
                               uint64_t slots[VINDASKOT_AT_LEAST 17],
                               uint8_t guid[VINDASKOT_AT_LEAST 16],
@@ -177,6 +187,9 @@ uint32_t vindaskot_field_step(const uint8_t *bytes, size_t bytes_len, size_t *cu
 uint32_t vindaskot_field_attribute(const uint8_t *bytes, size_t bytes_len, size_t number,
                                    uint64_t slots[VINDASKOT_AT_LEAST 5],
                                    uint64_t answer[VINDASKOT_AT_LEAST 2]);
+uint32_t vindaskot_field_attribute_named(const uint8_t *bytes, size_t bytes_len, const uint8_t *name,
+                                         size_t name_len, uint64_t slots[VINDASKOT_AT_LEAST 5],
+                                         uint64_t answer[VINDASKOT_AT_LEAST 2]);
 
 /* ---- The bounded walk, over symbols and over fields ---- */
 

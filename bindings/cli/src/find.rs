@@ -5,7 +5,7 @@ use std::io::Write;
 use std::os::unix::ffi::OsStrExt;
 
 use vindaskot::text::encode_to_vec;
-use vindaskot::{AdsSymbolInfo, RefusalKind};
+use vindaskot::{AdsSymbolInfo, Refusal, RefusalKind};
 
 use crate::entries::entries;
 use crate::failure::Failure;
@@ -34,17 +34,21 @@ pub fn find(
 pub fn named<'a>(upload: &'a Upload, name: &OsStr) -> Result<(usize, AdsSymbolInfo<'a>), Failure> {
     let asked = windows_1252(name)?;
     let bytes = &upload.bytes;
-    let at = vindaskot::find(bytes, &asked).map_err(|why| {
-        let said = words::refusal(&why);
-        if why.is(RefusalKind::NameNotFound) {
-            upload.refused(format!("{said}: {}", no_symbol(bytes, &asked)))
-        } else {
-            upload.refused(said)
-        }
-    })?;
+    let at = vindaskot::find(bytes, &asked)
+        .map_err(|why| not_found(upload, &why, || no_symbol(bytes, &asked)))?;
     let symbol = AdsSymbolInfo::try_from_slice(&bytes[at..]);
     let symbol = symbol.map_err(|why| upload.refused(words::refusal(&why)))?;
     Ok((at, symbol))
+}
+
+/// Why nothing was found: where nothing has the name, with what is there.
+fn not_found(upload: &Upload, why: &Refusal, there: impl FnOnce() -> String) -> Failure {
+    let said = words::refusal(why);
+    if why.is(RefusalKind::NameNotFound) {
+        upload.refused(format!("{said}: {}", there()))
+    } else {
+        upload.refused(said)
+    }
 }
 
 /// An argument as an upload would have it.
@@ -70,22 +74,17 @@ fn no_symbol(bytes: &[u8], asked: &[u8]) -> String {
     }
 }
 
-/// The value of the first attribute of a name. The question is asked of the crate here and nowhere else.
-fn attribute_named<'a>(symbol: &AdsSymbolInfo<'a>, name: &[u8]) -> Option<&'a [u8]> {
-    let one = symbol.attributes().find(|one| one.name() == name)?;
-    Some(one.value())
-}
-
+/// The value of the first attribute of a name.
 fn value_of<'a>(
     upload: &Upload,
     symbol: &AdsSymbolInfo<'a>,
     attribute: &OsStr,
 ) -> Result<&'a [u8], Failure> {
     let asked = windows_1252(attribute)?;
-    attribute_named(symbol, &asked).ok_or_else(|| {
-        let why = no_attribute(symbol, &asked);
-        upload.refused(format!("refusal 13, name not found: {why}"))
-    })
+    let found = symbol
+        .attribute_named(&asked)
+        .map_err(|why| not_found(upload, &why, || no_attribute(symbol, &asked)))?;
+    Ok(found.value())
 }
 
 fn no_attribute(symbol: &AdsSymbolInfo<'_>, asked: &[u8]) -> String {

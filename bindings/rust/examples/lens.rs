@@ -32,9 +32,7 @@ fn main() -> Result<(), Box<dyn Error>> {
         decode_to_string(lens.comment())?,
     );
 
-    let mut attributes = lens.attributes();
-    let end = attributes.find(|attribute| attribute.name() == CURVE_END);
-    let end = end.ok_or("the lens table has no end of the zoom curve")?;
+    let end = lens.attribute_named(CURVE_END)?;
     println!(
         "{} = {}",
         decode_to_string(end.name())?,

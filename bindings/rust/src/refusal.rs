@@ -49,7 +49,7 @@ pub enum RefusalKind {
     BadText = 11,
     /// A bad hexadecimal line, which only the listing program refuses: 0, 0.
     BadHexadecimal = 12,
-    /// No accepted symbol has that name: 0, 0.
+    /// No accepted symbol, or no attribute of the entry, has that name: 0, 0.
     NameNotFound = 13,
     /// No attribute or refactor record has that number: how many there are, number asked.
     NoSuchNumber = 14,

@@ -104,6 +104,14 @@ unsafe extern "C" {
         slots: &mut [u64; 5],
         answer: &mut [u64; 2],
     ) -> u32;
+    pub fn vindaskot_symbol_attribute_named(
+        bytes: *const u8,
+        bytes_len: usize,
+        name: *const u8,
+        name_len: usize,
+        slots: &mut [u64; 5],
+        answer: &mut [u64; 2],
+    ) -> u32;
     pub fn vindaskot_field_read(
         bytes: *const u8,
         bytes_len: usize,
@@ -123,6 +131,14 @@ unsafe extern "C" {
         bytes: *const u8,
         bytes_len: usize,
         number: usize,
+        slots: &mut [u64; 5],
+        answer: &mut [u64; 2],
+    ) -> u32;
+    pub fn vindaskot_field_attribute_named(
+        bytes: *const u8,
+        bytes_len: usize,
+        name: *const u8,
+        name_len: usize,
         slots: &mut [u64; 5],
         answer: &mut [u64; 2],
     ) -> u32;

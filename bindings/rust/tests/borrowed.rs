@@ -4,7 +4,7 @@ mod common;
 
 use common::plain::PlainField;
 use common::{Random, rig};
-use vindaskot::{AdsFieldInfo, AdsSymbolInfo, AdsSymbolInfoIterator, find};
+use vindaskot::{AdsAttribute, AdsFieldInfo, AdsSymbolInfo, AdsSymbolInfoIterator, find};
 
 /// Where a part stands in some data, by its pointer.
 fn place(data: &[u8], part: &[u8]) -> usize {
@@ -12,6 +12,12 @@ fn place(data: &[u8], part: &[u8]) -> usize {
     let part_range = part.as_ptr_range();
     assert!(data_range.start <= part_range.start && part_range.end <= data_range.end);
     part_range.start as usize - data_range.start as usize
+}
+
+/// An attribute by a name that stands elsewhere and is gone when the attribute is looked at.
+fn by_name<'a>(symbol: &AdsSymbolInfo<'a>, name: &[u8]) -> AdsAttribute<'a> {
+    let elsewhere = name.to_vec();
+    symbol.attribute_named(&elsewhere).unwrap()
 }
 
 #[test]
@@ -35,6 +41,9 @@ fn parts_of_the_lens_stand_in_the_upload() {
         let asked = lens.attribute(number).unwrap();
         assert_eq!(place(&upload, asked.name()), at + 2);
         assert_eq!(place(&upload, asked.value()), value);
+        let named = by_name(&lens, attribute.name());
+        assert_eq!(place(&upload, named.name()), at + 2);
+        assert_eq!(place(&upload, named.value()), value);
         at = value + attribute.value().len() + 1;
     }
     let chain = at + 4;
@@ -77,6 +86,12 @@ fn parts_of_a_field_stand_in_it() {
                 place(&bytes, asked.value()),
                 place(&bytes, attribute.value())
             );
+            let elsewhere = attribute.name().to_vec();
+            let named = field.attribute_named(&elsewhere).unwrap();
+            let first = field.attributes().find(|one| one.name() == elsewhere);
+            let first = first.unwrap();
+            assert_eq!(place(&bytes, named.name()), place(&bytes, first.name()));
+            assert_eq!(place(&bytes, named.value()), place(&bytes, first.value()));
         }
     }
 }

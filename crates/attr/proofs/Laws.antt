@@ -6,11 +6,13 @@ use mathlib.Core.Path.{_≡_, refl}
 use mathlib.Core.List.{List}
 use lib.Dec.{leb}
 use lib.ListN.{length, length-append}
-use Rattle.le.specs.Le.{if_then_else_}
+use Rattle.le.specs.Le.{if_then_else_, part}
+use Rattle.le.specs.Same.{sameBytes}
+use Rattle.refusal.specs.declared.Refusal.the-variants.{NameNotFound}
 use Rattle.attr.specs.declared.AttributeAnswer.{AttributeAnswer}
-use Rattle.attr.specs.declared.AttributeAnswer.the-variants.{Refused}
+use Rattle.attr.specs.declared.AttributeAnswer.the-variants.{Record, Refused}
 use Rattle.attr.specs.declared.Ending.the-variants.{Fine, Stopped}
-use Rattle.attr.specs.Attribute.{attributeAt, byAttribute, listed, attributesFrom, attributeNth}
+use Rattle.attr.specs.Attribute.{attributeAt, byAttribute, listed, attributesFrom, attributeNth, attributeNamed}
 use Rattle.attr.specs.Writing.{attributeBytes, attributeWriting, endsZero, goodAttribute}
 use Rattle.refusal.specs.Writing.{Bytes, Next, None}
 use borrow.Author.Tests.{le-ltb}
@@ -40,6 +42,19 @@ module _ (s : List ℕ) (at : ℕ) where
   unfolding attributeNth
   nth-none zero h = refl
   nth-none (suc n) h = absurd (omega arith)
+
+module _ (s name : List ℕ) (at : ℕ) where
+  pub named-step : (left : ℕ) {t : AttributeAnswer} → attributeAt s at ≡ t → 0 < left
+      → attributeNamed s name at left
+      ≡ byAttribute t (λ a. if sameBytes (part s (a .name) (a .«name_len»)) name then Record a else attributeNamed s name (a .next) (left - 1)) Refused
+  unfolding attributeNamed
+  named-step zero e h = absurd (omega arith)
+  named-step (suc n) e h = simp (e, sub-one)
+
+  pub named-none : (left : ℕ) → left ≤ 0 → attributeNamed s name at left ≡ Refused NameNotFound
+  unfolding attributeNamed
+  named-none zero h = refl
+  named-none (suc n) h = absurd (omega arith)
 
 pub good-by : (s : List ℕ) (at left : ℕ) {t : AttributeAnswer} → attributeAt s at ≡ t → goodAttribute s at left ≡ byAttribute t (λ a. if endsZero s a then Next (a .next) else None) (λ why. None)
 unfolding goodAttribute

@@ -2,3 +2,4 @@ pub mod Laws
 pub mod Read
 pub mod Asked
 pub mod Shown
+pub mod Named

@@ -8,7 +8,8 @@ use mathlib.Core.List.{List}
 use lib.Dec.{leb, ltb}
 use lib.ListN.{length, getD}
 use borrow.Author.Tests.{leb-true}
-use Rattle.le.specs.Le.{if_then_else_, le2}
+use Rattle.le.specs.Le.{if_then_else_, le2, part}
+use Rattle.le.specs.Same.{sameBytes}
 use Rattle.refusal.specs.Refusal.{limit}
 use Rattle.refusal.specs.declared.Refusal.{Refusal}
 use Rattle.refusal.specs.declared.Refusal.the-variants.{TooLarge}
@@ -18,7 +19,7 @@ use Rattle.attr.specs.declared.AttributeAnswer.the-variants.{Record, Ref
 use Rattle.attr.specs.declared.Attributes.{Attributes}
 use Rattle.attr.specs.declared.Ending.the-variants.{Fine, Stopped}
 use Rattle.attr.specs.declared.Listed.{Listed}
-use Rattle.attr.specs.Attribute.{attributeAt, attributeRead, nameAt, valueAt, byAttribute, listed, attributesFrom, attributesAt, attributeNth}
+use Rattle.attr.specs.Attribute.{attributeAt, attributeRead, nameAt, valueAt, byAttribute, listed, attributesFrom, attributesAt, attributeNth, attributeNamed}
 use Rattle.attr.specs.Inside.{Inside}
 use Rattle.attr.proofs.Read as read
 
@@ -134,3 +135,18 @@ nth-begun s (suc k) at = next-begun s k (nth-begun s k) (attributeAt s at)
 pub asked-begun : (s : List ℕ) (at k : ℕ) (why : Refusal) (shown : Bool) → Begun s (if shown then attributeNth s at k else Refused why)
 asked-begun s at k why true = nth-begun s k at
 asked-begun s at k why false = (omega arith, omega arith)
+
+-- of one that is asked for by its name
+named-turn : (s : List ℕ) (at : ℕ) (t : AttributeAnswer) → attributeAt s at ≡ t → (name : List ℕ) (left : ℕ) → ((n : ℕ) → Begun s (attributeNamed s name n left))
+    → Begun s (byAttribute t (λ a. if sameBytes (part s (a .name) (a .«name_len»)) name then Record a else attributeNamed s name (a .next) left) Refused)
+named-turn s at (Record a) e name left rest = either (sameBytes (part s (a .name) (a .«name_len»)) name)
+  where
+    either : (same : Bool) → Begun s (if same then Record a else attributeNamed s name (a .next) left)
+    either true = begun s at (Record a) e
+    either false = rest (a .next)
+named-turn s at (Refused why) e name left rest = (omega arith, omega arith)
+
+pub named-begun : (s name : List ℕ) (left at : ℕ) → Begun s (attributeNamed s name at left)
+unfolding attributeNamed
+named-begun s name zero at = (omega arith, omega arith)
+named-begun s name (suc left) at = named-turn s at (attributeAt s at) refl name left (named-begun s name left)

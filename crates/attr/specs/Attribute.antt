@@ -5,9 +5,10 @@ use mathlib.Core.List.{List, []}
 use lib.Dec.{ltb, leb}
 use lib.ListN.{length, getD}
 use Rattle.le.specs.Le.{if_then_else_, le2, part}
+use Rattle.le.specs.Same.{sameBytes}
 use Rattle.refusal.specs.Refusal.{limit}
 use Rattle.refusal.specs.declared.Refusal.{Refusal}
-use Rattle.refusal.specs.declared.Refusal.the-variants.{TooShort, UnexpectedLength, TooLarge}
+use Rattle.refusal.specs.declared.Refusal.the-variants.{TooShort, UnexpectedLength, TooLarge, NameNotFound}
 use Rattle.attr.specs.declared.AdsAttribute.{AdsAttribute}
 use Rattle.attr.specs.declared.AttributeAnswer.{AttributeAnswer}
 use Rattle.attr.specs.declared.AttributeAnswer.the-variants.{Record, Refused}
@@ -17,14 +18,14 @@ use Rattle.attr.specs.declared.Ending.{Ending}
 use Rattle.attr.specs.declared.Ending.the-variants.{Fine, Stopped}
 
 -- a record of n and v bytes at a place from which so many bytes are there. Under 4 bytes: 2; under the whole: 1
-abbrev pub attributeOf : ℕ → ℕ → ℕ → ℕ → AttributeAnswer
-attributeOf at there n v =
+abbrev pub attributeSized : ℕ → ℕ → ℕ → ℕ → AttributeAnswer
+attributeSized at there n v =
     if ltb there 4 then Refused (TooShort 4 there)
     else if ltb there (n + v + 4) then Refused (UnexpectedLength (n + v + 4) there)
     else Record (record { name = at + 2; «name_len» = n; value = at + n + 3; «value_len» = v; next = at + (n + v + 4) })
 
 unfoldable pub attributeAt : List ℕ → ℕ → AttributeAnswer
-attributeAt s at = attributeOf at (length s - at) (getD s at 0) (getD s (at + 1) 0)
+attributeAt s at = attributeSized at (length s - at) (getD s at 0) (getD s (at + 1) 0)
 
 -- a record read alone, which may be followed by other bytes
 unfoldable pub attributeRead : List ℕ → AttributeAnswer
@@ -75,3 +76,11 @@ attributesAt s at flagged =
 unfoldable pub attributeNth : List ℕ → ℕ → ℕ → AttributeAnswer
 attributeNth s at zero = attributeAt s at
 attributeNth s at (suc number) = byAttribute (attributeAt s at) (λ a. attributeNth s (a .next) number) Refused
+
+-- the first of so many records from a place on whose name is the one asked for; one that is refused before it is the answer, and where none has the name, 13
+unfoldable pub attributeNamed : List ℕ → List ℕ → ℕ → ℕ → AttributeAnswer
+attributeNamed s name at zero = Refused NameNotFound
+attributeNamed s name at (suc left) =
+    byAttribute (attributeAt s at)
+    (λ a. if sameBytes (part s (a .name) (a .«name_len»)) name then Record a else attributeNamed s name (a .next) left)
+    Refused

@@ -1,9 +1,11 @@
 -- What attributes tell: their names and values.
 use Prim.Native.Nat.{ℕ, zero, suc}
 use mathlib.Core.List.{List, [], _∷_, _++_}
-use Rattle.le.specs.Le.{part}
+use Rattle.le.specs.Le.{if_then_else_, part}
+use Rattle.le.specs.Same.{sameBytes}
 use Rattle.refusal.specs.Refusal.{figuresOf}
 use Rattle.refusal.specs.Asked.{Asked, Given, Refused}
+use Rattle.refusal.specs.declared.Refusal.the-variants.{NameNotFound}
 use Rattle.attr.specs.declared.AdsAttribute.{AdsAttribute}
 use Rattle.attr.specs.declared.AttributeAnswer.{AttributeAnswer}
 use Rattle.attr.specs.Attribute.{attributeAt, byAttribute}
@@ -24,6 +26,11 @@ attributeTold s t = byAttribute t (λ a. Given (attributeOf s a)) (λ why. Refus
 unfoldable pub attributesIn : List ℕ → ℕ → ℕ → List Attribute
 attributesIn s at zero = []
 attributesIn s at (suc left) = byAttribute (attributeAt s at) (λ a. attributeOf s a ∷ attributesIn s (a .next) left) (λ why. [])
+
+-- of some attributes, the first that has the name; where none has, 13
+unfoldable pub firstNamed : List ℕ → List Attribute → Asked Attribute
+firstNamed name [] = Refused (figuresOf NameNotFound)
+firstNamed name (a ∷ more) = if sameBytes (a .name) name then Given a else firstNamed name more
 
 -- the block of some attributes: their bytes one after another
 unfoldable pub attributesBlock : List Attribute → List ℕ

@@ -1,11 +1,11 @@
-// Attribute records inside an entry or a block: at a place, listed, by number, checked. Crate attributes offers a record that stands alone.
+// Attribute records inside an entry or a block: at a place, listed, by number, by name, checked. Crate attributes offers a record that stands alone.
 use refusal::Checked;
 use refusal::Counted;
 use refusal::Refusal;
 ghost use mathlib.Core.Path.{_≡_};
 ghost use Prim.Native.Nat.{_+_};
 ghost use Rattle.le.specs.Place.{Behind, begins};
-ghost use Rattle.attr.specs.Attribute.{attributeAt, nameIn, valueIn, nameAt, valueAt, attributesFrom, attributesAt, attributeNth};
+ghost use Rattle.attr.specs.Attribute.{attributeAt, nameIn, valueIn, nameAt, valueAt, attributesFrom, attributesAt, attributeNth, attributeNamed};
 ghost use Rattle.attr.specs.Writing.{attributesChecked, endsZero, goodAttribute};
 ghost use Rattle.refusal.specs.Writing.{goodFrom};
 
@@ -186,6 +186,29 @@ pub fn attribute_nth(s: &[u8], from: usize, number: usize) -> AttributeAnswer
         }
     }
     attribute_at(s, at)
+}
+
+// The first of so many records from a place on that has the name.
+pub fn attribute_named(s: &[u8], name: &[u8], from: usize, count: usize) -> AttributeAnswer
+    ensures { λ r. ⌜ r ≡ attributeNamed (now (s .entry)) (now (name .entry)) from count ⌝ }
+{
+    let mut at = from;
+    let mut left = count;
+    while 0 < left {
+        left = left - 1;
+        match attribute_at(s, at) {
+            AttributeAnswer::Record(a) => {
+                if le::same_bytes(le::part_of(s, a.name, wide(a.name_len)), name) {
+                    return AttributeAnswer::Record(a);
+                }
+                at = a.next;
+            }
+            AttributeAnswer::Refused(why) => {
+                return AttributeAnswer::Refused(why);
+            }
+        }
+    }
+    AttributeAnswer::Refused(Refusal::NameNotFound)
 }
 
 fn ends_zero(s: &[u8], a: AdsAttribute) -> bool

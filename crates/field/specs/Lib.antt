@@ -1,3 +1,4 @@
 pub mod Field
 pub mod Questions
 pub mod Inside
+pub mod Named

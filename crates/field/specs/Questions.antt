@@ -1,4 +1,4 @@
--- What can be asked of a field entry: its strings, and its attributes by number.
+-- What can be asked of a field entry: its strings, and its attributes by number and by name.
 use Prim.Native.Nat.{ℕ, _+_}
 use mathlib.Core.List.{List, []}
 use lib.Dec.{ltb}
@@ -6,7 +6,7 @@ use Rattle.le.specs.Le.{if_then_else_, part}
 use Rattle.refusal.specs.declared.Refusal.{Refusal}
 use Rattle.refusal.specs.declared.Refusal.the-variants.{NoSuchNumber}
 use Rattle.entry.specs.Entry.{ownBytes}
-use Rattle.attr.specs.Attribute.{attributeNth}
+use Rattle.attr.specs.Attribute.{attributeNth, attributeNamed}
 use Rattle.attr.specs.declared.AttributeAnswer.{AttributeAnswer}
 use Rattle.attr.specs.declared.AttributeAnswer.the-variants as attribute
 use Rattle.field.specs.declared.AdsFieldInfo.{AdsFieldInfo}
@@ -55,3 +55,10 @@ fieldAttribute s number =
     (λ r. if ltb number (r .attributes .count) then attributeNth (ownBytes 42 s) (r .attributes .first) number
     else attribute.Refused (NoSuchNumber (r .attributes .count) number))
     attribute.Refused
+
+-- of those that a reader shows in the entry's own bytes, the first that has the name: the reader's refusal, then 13
+abbrev pub shownNamed : FieldAnswer → List ℕ → List ℕ → AttributeAnswer
+shownNamed t e name = byField t (λ r. attributeNamed e name (r .attributes .first) (r .attributes .count)) attribute.Refused
+
+unfoldable pub fieldAttributeNamed : List ℕ → List ℕ → AttributeAnswer
+fieldAttributeNamed s name = shownNamed (fieldRead s .answer) (ownBytes 42 s) name

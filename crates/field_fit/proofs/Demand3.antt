@@ -21,9 +21,10 @@ use Rattle.wire.proofs.Laws.{length-entry}
 use Rattle.wire.proofs.Read.{grown-entry, entry-whole, entry-is}
 use Rattle.field_writer.specs.Writing.{fieldBytes, fieldChecked, fieldWriting}
 use Rattle.field_fit.specs.Demand3.{Parts, bytesOf, writingOf, Fit, fieldMeant, Demand3Fields, WrittenFieldsFit}
+use Rattle.field_fit.specs.Named.{FieldsByName}
 use Rattle.field_fit.proofs.Accepted.{accepted}
 use Rattle.field_fit.proofs.Header.{bodyOf}
-use Rattle.field_fit.proofs.Same.{same}
+use Rattle.field_fit.proofs.Same.{same, named-told}
 
 -- the bytes that are written, grown, are an entry with the bytes added
 grown-is : (p : Parts) (extra : List ℕ) → grown (bytesOf p) extra ≡ entryOf (bodyOf p ++ extra)
@@ -51,3 +52,8 @@ written-fields-fit p old new n t g w =
     let c = check-passed (fieldChecked (p .numbers) (p .name) (p .type-name) (p .comment) (p .count) (p .block)) (entryWriting (bytesOf p)) (d .bytes) (d .given) in
     let i = entry-is (bytesOf p) (d .bytes) (c .1) in
     record { fit = record { typed = t; accepted = d .given ∙ ap Bytes i; agrees = g }; bytes = d .first ∙ i }
+
+pub fields-by-name : FieldsByName
+fields-by-name p extra name f h =
+    let n : length (grown (bytesOf p) extra) ≡ length (bodyOf p ++ extra) + 4 = ap length (grown-is p extra) ∙ length-entry (bodyOf p ++ extra) in
+    rw (grown-is p extra) (named-told p f (accepted p (f .accepted)) extra (omega arith) name)

@@ -1,7 +1,7 @@
 -- What the walk tells of a written entry, grown by any bytes, is what was meant.
 use Prim.Native.Nat.{ℕ, _+_, _-_, _<_, _≤_}
 use native.Mathlib.Omega.{arith}
-use mathlib.Core.Path.{_≡_, refl, sym, _∙_}
+use mathlib.Core.Path.{_≡_, refl, sym, ap, _∙_}
 use mathlib.Core.Bool.{Bool, true, false}
 use mathlib.Core.List.{List, _++_, append-assoc, map}
 use lib.ListN.{length, length-append}
@@ -15,12 +15,15 @@ use Rattle.entry.specs.Tells.{Entry}
 use Rattle.entry.proofs.Whole.{Whole}
 use Rattle.entry.proofs.Direct.{direct-whole, part-all, own-whole}
 use Rattle.attr.specs.Attribute.{attributeNth}
-use Rattle.attr.specs.Told.{attributeTold, attributesIn}
+use Rattle.attr.specs.Told.{attributeTold, attributesIn, firstNamed}
+use Rattle.attr.proofs.Named.{told-named}
 use Rattle.attr.proofs.Asked.{section-asked}
 use Rattle.guid.specs.Guid.{zeros16}
 use Rattle.guid.proofs.Read.{guid-told}
 use Rattle.field.specs.Field.{typeGuid, attributes, infoOf, fieldWith, fieldRead}
-use Rattle.field.specs.Questions.{fieldName, fieldTypeName, fieldComment, fieldAttribute}
+use Rattle.field.specs.Questions.{fieldName, fieldTypeName, fieldComment, fieldAttribute, fieldAttributeNamed}
+use Rattle.field.specs.declared.FieldAnswer.the-variants.{Record}
+use Rattle.field.proofs.Named.{fields-named}
 use Rattle.field.specs.declared.AdsFieldInfo.{AdsFieldInfo}
 use Rattle.field_walk.specs.Walk.{entry}
 use Rattle.field_walk.specs.Told.{fieldTold, stepTold}
@@ -95,6 +98,15 @@ module _ (p : Parts) (f : Fit p) (a : Accepted p) (extra : List ℕ) (small : le
 
   abbrev info : AdsFieldInfo
   info = infoOf e (flagged (p .numbers) typeGuid) (record { first = first; count = if flagged (p .numbers) attributes then p .count else 0 })
+
+  -- and so each by its name
+  pub named-told : (name : List ℕ) → attributeTold (ownBytes 42 e) (fieldAttributeNamed e name) ≡ firstNamed name (attributesIn (p .block) 0 (p .count))
+  unfolding fieldWith infoOf first
+  named-told name =
+      let read-is : fieldRead e .answer ≡ Record info = ap (λ r. r .answer) read in
+      let shows : info .attributes .count ≡ p .count = count-is in
+      let n = rw shows at (fields-named e name .accepted info read-is) in
+      told-named (ownBytes 42 e) name (fieldAttribute e) (p .count) (fieldAttributeNamed e name) (attributesIn (p .block) 0 (p .count)) attributes-told n
 
   name-told : fieldName e ≡ p .name
   unfolding fieldName fieldWith infoOf

@@ -7,7 +7,7 @@ use refusal::Refusal;
 ghost use mathlib.Core.Path.{_≡_};
 ghost use Rattle.le.specs.Place.{Behind};
 ghost use Rattle.field.specs.Field.{fieldRead};
-ghost use Rattle.field.specs.Questions.{fieldName, fieldTypeName, fieldComment, fieldNameAt, fieldTypeNameAt, fieldCommentAt, fieldAttribute};
+ghost use Rattle.field.specs.Questions.{fieldName, fieldTypeName, fieldComment, fieldNameAt, fieldTypeNameAt, fieldCommentAt, fieldAttribute, fieldAttributeNamed};
 ghost use Rattle.attr.specs.Attribute.{nameIn, valueIn, nameAt, valueAt};
 ghost use Rattle.entry.specs.Entry.{ownBytes};
 
@@ -85,6 +85,26 @@ pub fn attribute_value(bytes: &[u8], number: usize) -> &[u8]
     ensures { λ r. ⌜ Behind (bytes .entry) r (valueAt (fieldAttribute (now (bytes .entry)) number)) ⌝ }
 {
     attr::value_in(entry::own_bytes(bytes, 42), attribute(bytes, number))
+}
+
+// The first attribute shown whose name is these bytes: a renderer knows the name of what it asks for, not its number.
+pub fn attribute_named(bytes: &[u8], name: &[u8]) -> AttributeAnswer
+    ensures { λ r. ⌜ r ≡ fieldAttributeNamed (now (bytes .entry)) (now (name .entry)) ⌝ }
+{
+    match answer_to(bytes) {
+        FieldAnswer::Record(r) => {
+            let shown = r.attributes;
+            attr::attribute_named(entry::own_bytes(bytes, 42), name, shown.first, shown.count)
+        }
+        FieldAnswer::Refused(why) => AttributeAnswer::Refused(why),
+    }
+}
+
+pub fn attribute_value_named<'a>(bytes: &'a [u8], name: &[u8]) -> &'a [u8]
+    ensures { λ r. ⌜ now r ≡ valueIn (ownBytes 42 (now (bytes .entry))) (fieldAttributeNamed (now (bytes .entry)) (now (name .entry))) ⌝ }
+    ensures { λ r. ⌜ Behind (bytes .entry) r (valueAt (fieldAttributeNamed (now (bytes .entry)) (now (name .entry)))) ⌝ }
+{
+    attr::value_in(entry::own_bytes(bytes, 42), attribute_named(bytes, name))
 }
 
 fn answer_to(bytes: &[u8]) -> FieldAnswer

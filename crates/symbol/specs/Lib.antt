@@ -1,3 +1,4 @@
 pub mod Symbol
 pub mod Questions
 pub mod Inside
+pub mod Named

@@ -1,4 +1,4 @@
--- What can be asked of a symbol entry: its strings, and its attributes and refactor records by number.
+-- What can be asked of a symbol entry: its strings, its attributes by number and by name, and its refactor records by number.
 use Prim.Native.Nat.{ℕ, _+_}
 use mathlib.Core.List.{List, []}
 use lib.Dec.{ltb}
@@ -6,7 +6,7 @@ use Rattle.le.specs.Le.{if_then_else_, part}
 use Rattle.refusal.specs.declared.Refusal.{Refusal}
 use Rattle.refusal.specs.declared.Refusal.the-variants.{NoSuchNumber}
 use Rattle.entry.specs.Entry.{ownBytes}
-use Rattle.attr.specs.Attribute.{attributeNth}
+use Rattle.attr.specs.Attribute.{attributeNth, attributeNamed}
 use Rattle.attr.specs.declared.AttributeAnswer.{AttributeAnswer}
 use Rattle.attr.specs.declared.AttributeAnswer.the-variants as attribute
 use Rattle.refactor.specs.Refactor.{refactorNth}
@@ -65,3 +65,10 @@ symbolRefactor s number =
     (λ r. if ltb number (r .«refactor_infos» .count) then refactorNth (ownBytes 30 s) (r .«refactor_infos» .first) number
     else refactor.Refused (NoSuchNumber (r .«refactor_infos» .count) number))
     refactor.Refused
+
+-- of those that a reader shows in the entry's own bytes, the first that has the name: the reader's refusal, then 13
+abbrev pub shownNamed : SymbolAnswer → List ℕ → List ℕ → AttributeAnswer
+shownNamed t e name = bySymbol t (λ r. attributeNamed e name (r .attributes .first) (r .attributes .count)) attribute.Refused
+
+unfoldable pub symbolAttributeNamed : List ℕ → List ℕ → AttributeAnswer
+symbolAttributeNamed s name = shownNamed (symbolRead s .answer) (ownBytes 30 s) name

@@ -21,9 +21,10 @@ use Rattle.wire.proofs.Laws.{length-entry}
 use Rattle.wire.proofs.Read.{grown-entry, entry-whole, entry-is}
 use Rattle.symbol_writer.specs.Writing.{Parts, symbolBytes, symbolChecked, symbolWriting}
 use Rattle.symbol_fit.specs.Demand3.{Fit, symbolMeant, Demand3Symbols, WrittenSymbolsFit}
+use Rattle.symbol_fit.specs.Named.{SymbolsByName}
 use Rattle.symbol_fit.proofs.Accepted.{accepted}
 use Rattle.symbol_fit.proofs.Header.{bodyOf}
-use Rattle.symbol_fit.proofs.Same.{same}
+use Rattle.symbol_fit.proofs.Same.{same, named-told}
 
 -- the bytes that are written, grown, are an entry with the bytes added
 grown-is : (p : Parts) (extra : List ℕ) → grown (symbolBytes p) extra ≡ entryOf (bodyOf p ++ extra)
@@ -51,3 +52,8 @@ written-symbols-fit p old new n t w =
     let c = check-passed (symbolChecked p) (entryWriting (symbolBytes p)) (d .bytes) (d .given) in
     let i = entry-is (symbolBytes p) (d .bytes) (c .1) in
     record { fit = record { typed = t; accepted = d .given ∙ ap Bytes i }; bytes = d .first ∙ i }
+
+pub symbols-by-name : SymbolsByName
+symbols-by-name p extra name f h =
+    let n : length (grown (symbolBytes p) extra) ≡ length (bodyOf p ++ extra) + 4 = ap length (grown-is p extra) ∙ length-entry (bodyOf p ++ extra) in
+    rw (grown-is p extra) (named-told p (f .typed) (accepted p (symbolBytes p) (f .accepted)) extra (omega arith) name)

@@ -16,7 +16,8 @@ use Rattle.entry.specs.Tells.{Entry}
 use Rattle.entry.proofs.Whole.{Whole}
 use Rattle.entry.proofs.Direct.{direct-whole, part-all, own-whole}
 use Rattle.attr.specs.Attribute.{attributeNth}
-use Rattle.attr.specs.Told.{attributeTold, attributesIn}
+use Rattle.attr.specs.Told.{attributeTold, attributesIn, firstNamed}
+use Rattle.attr.proofs.Named.{told-named}
 use Rattle.attr.proofs.Asked.{section-asked}
 use Rattle.refactor.specs.Refactor.{refactorNth}
 use Rattle.refactor.specs.Writing.{goodRefactor}
@@ -26,7 +27,9 @@ use Rattle.refactor.proofs.Read.{beq}
 use Rattle.guid.specs.Guid.{zeros16}
 use Rattle.guid.proofs.Read.{guid-told}
 use Rattle.symbol.specs.Symbol.{typeGuid, attributes, infoRecord, infoOf, symbolRead}
-use Rattle.symbol.specs.Questions.{symbolName, symbolTypeName, symbolComment, symbolAttribute, symbolRefactor}
+use Rattle.symbol.specs.Questions.{symbolName, symbolTypeName, symbolComment, symbolAttribute, symbolAttributeNamed, symbolRefactor}
+use Rattle.symbol.specs.declared.SymbolAnswer.the-variants.{Record}
+use Rattle.symbol.proofs.Named.{symbols-named}
 use Rattle.symbol.specs.declared.AdsSymbolInfo.{AdsSymbolInfo}
 use Rattle.walk.specs.Walk.{entry}
 use Rattle.walk.specs.Told.{symbolTold, stepTold}
@@ -106,6 +109,15 @@ module _ (p : Parts) (t : Typed p) (a : Accepted p) (extra : List ℕ) (small : 
 
   abbrev info : AdsSymbolInfo
   info = infoRecord e (sectionsTold p t a extra fits)
+
+  -- and so each by its name
+  pub named-told : (name : List ℕ) → attributeTold (ownBytes 30 e) (symbolAttributeNamed e name) ≡ firstNamed name (attributesIn (p .attribute-block) 0 (p .attribute-count))
+  unfolding infoOf infoRecord
+  named-told name =
+      let read-is : symbolRead e .answer ≡ Record info = ap (λ r. r .answer) read in
+      let shows : info .attributes .count ≡ p .attribute-count = count-shown p a in
+      let n = rw shows at (symbols-named e name .accepted info read-is) in
+      told-named (ownBytes 30 e) name (symbolAttribute e) (p .attribute-count) (symbolAttributeNamed e name) (attributesIn (p .attribute-block) 0 (p .attribute-count)) attributes-told n
 
   name-told : symbolName e ≡ p .name
   unfolding symbolName infoOf infoRecord

@@ -8,7 +8,7 @@ use symbol::SymbolRead;
 ghost use mathlib.Core.Path.{_≡_};
 ghost use Rattle.le.specs.Place.{Behind};
 ghost use Rattle.symbol.specs.Symbol.{symbolRead};
-ghost use Rattle.symbol.specs.Questions.{symbolName, symbolTypeName, symbolComment, symbolNameAt, symbolTypeNameAt, symbolCommentAt, symbolAttribute, symbolRefactor};
+ghost use Rattle.symbol.specs.Questions.{symbolName, symbolTypeName, symbolComment, symbolNameAt, symbolTypeNameAt, symbolCommentAt, symbolAttribute, symbolAttributeNamed, symbolRefactor};
 ghost use Rattle.attr.specs.Attribute.{nameIn, valueIn, nameAt, valueAt};
 ghost use Rattle.refactor.specs.Refactor as refactors;
 ghost use Rattle.entry.specs.Entry.{ownBytes};
@@ -90,6 +90,26 @@ pub fn attribute_value(bytes: &[u8], number: usize) -> &[u8]
     ensures { λ r. ⌜ Behind (bytes .entry) r (valueAt (symbolAttribute (now (bytes .entry)) number)) ⌝ }
 {
     attr::value_in(entry::own_bytes(bytes, 30), attribute(bytes, number))
+}
+
+// The first attribute shown whose name is these bytes: a renderer knows the name of what it asks for, not its number.
+pub fn attribute_named(bytes: &[u8], name: &[u8]) -> AttributeAnswer
+    ensures { λ r. ⌜ r ≡ symbolAttributeNamed (now (bytes .entry)) (now (name .entry)) ⌝ }
+{
+    match answer_to(bytes) {
+        SymbolAnswer::Record(r) => {
+            let shown = r.attributes;
+            attr::attribute_named(entry::own_bytes(bytes, 30), name, shown.first, shown.count)
+        }
+        SymbolAnswer::Refused(why) => AttributeAnswer::Refused(why),
+    }
+}
+
+pub fn attribute_value_named<'a>(bytes: &'a [u8], name: &[u8]) -> &'a [u8]
+    ensures { λ r. ⌜ now r ≡ valueIn (ownBytes 30 (now (bytes .entry))) (symbolAttributeNamed (now (bytes .entry)) (now (name .entry))) ⌝ }
+    ensures { λ r. ⌜ Behind (bytes .entry) r (valueAt (symbolAttributeNamed (now (bytes .entry)) (now (name .entry)))) ⌝ }
+{
+    attr::value_in(entry::own_bytes(bytes, 30), attribute_named(bytes, name))
 }
 
 pub fn refactor_info(bytes: &[u8], number: usize) -> RefactorAnswer

@@ -18,10 +18,10 @@ ghost use Rattle.refactor.specs.Writing.{refactorWriting, blockWriting};
 ghost use Rattle.flags.specs.Flags.{symbolFlagsFrom, symbol2FlagsFrom, typeFlagsFrom};
 ghost use Rattle.entry.specs.Walk.{boundedWalk};
 ghost use Rattle.symbol.specs.Symbol.{symbolRead};
-ghost use Rattle.symbol.specs.Questions.{symbolAttribute, symbolRefactor};
+ghost use Rattle.symbol.specs.Questions.{symbolAttribute, symbolAttributeNamed, symbolRefactor};
 ghost use Rattle.walk.specs.Walk as symbols;
 ghost use Rattle.field.specs.Field.{fieldRead};
-ghost use Rattle.field.specs.Questions.{fieldAttribute};
+ghost use Rattle.field.specs.Questions.{fieldAttribute, fieldAttributeNamed};
 ghost use Rattle.field_walk.specs.Walk as fields;
 ghost use Rattle.symbol_writer.specs.Writing.{symbolWriting, partsOf};
 ghost use Rattle.field_writer.specs.Writing.{fieldWriting};
@@ -84,6 +84,19 @@ pub extern "C" fn vindaskot_symbol_attribute(
 }
 
 #[no_mangle]
+pub extern "C" fn vindaskot_symbol_attribute_named(
+    bytes: &[u8],
+    name: &[u8],
+    slots: &mut [u64; 5],
+    answer: &mut [u64; 2],
+) -> u32
+    ensures { λ r. ⌜ Tells (attributeTold (symbolAttributeNamed (now (bytes .entry)) (now (name .entry)))) r (now (answer .exit)) ⌝ }
+    ensures { λ _. ⌜ now (slots .exit) ≡ attributeSlotsAfter (symbolAttributeNamed (now (bytes .entry)) (now (name .entry))) (now (slots .entry)) ⌝ }
+{
+    told::attribute(symbol_info::attribute_named(bytes, name), slots, answer)
+}
+
+#[no_mangle]
 pub extern "C" fn vindaskot_symbol_refactor_info(
     bytes: &[u8],
     number: usize,
@@ -138,6 +151,19 @@ pub extern "C" fn vindaskot_field_attribute(
     ensures { λ _. ⌜ now (slots .exit) ≡ attributeSlotsAfter (fieldAttribute (now (bytes .entry)) number) (now (slots .entry)) ⌝ }
 {
     told::attribute(field_info::attribute(bytes, number), slots, answer)
+}
+
+#[no_mangle]
+pub extern "C" fn vindaskot_field_attribute_named(
+    bytes: &[u8],
+    name: &[u8],
+    slots: &mut [u64; 5],
+    answer: &mut [u64; 2],
+) -> u32
+    ensures { λ r. ⌜ Tells (attributeTold (fieldAttributeNamed (now (bytes .entry)) (now (name .entry)))) r (now (answer .exit)) ⌝ }
+    ensures { λ _. ⌜ now (slots .exit) ≡ attributeSlotsAfter (fieldAttributeNamed (now (bytes .entry)) (now (name .entry))) (now (slots .entry)) ⌝ }
+{
+    told::attribute(field_info::attribute_named(bytes, name), slots, answer)
 }
 
 #[no_mangle]

@@ -4,7 +4,7 @@ use super::{Random, written};
 use vindaskot::{
     AdsAttribute, AdsFieldInfo, AdsRefactorInfo, AdsSymbol2Flags, AdsSymbolFlags, AdsSymbolInfo,
     AdsTypeFlags, AttributeWriter, Block, FieldNumbers, FieldParts, IndexGroup, IndexOffset,
-    RefactorWriter, SymbolNumbers, SymbolParts,
+    RefactorWriter, Refusal, SymbolNumbers, SymbolParts,
 };
 
 const FOLLOWER: u32 = 0x0100_0000;
@@ -67,6 +67,15 @@ impl Common {
             .map(|a| (a.name().to_vec(), a.value().to_vec()))
             .collect();
         assert_eq!(shown, self.attributes);
+    }
+
+    /// Each attribute, asked for by its name, is the first of that name.
+    fn assert_named<'a>(&self, asked: impl Fn(&[u8]) -> Result<AdsAttribute<'a>, Refusal>) {
+        for (name, _) in &self.attributes {
+            let first = self.attributes.iter().find(|(one, _)| one == name);
+            let (_, value) = first.unwrap();
+            assert_eq!(asked(name), Ok(AdsAttribute::new(name, value)));
+        }
     }
 }
 
@@ -186,6 +195,7 @@ impl PlainSymbol {
         let count = self.common.attributes.len();
         self.common
             .assert_attributes((0..count).map(|n| info.attribute(n).unwrap()));
+        self.common.assert_named(|name| info.attribute_named(name));
         self.assert_chain(info.refactor_infos());
         let links = self.refactors.len();
         self.assert_chain((0..links).map(|n| info.refactor_info(n).unwrap()));
@@ -285,5 +295,6 @@ impl PlainField {
         let count = self.common.attributes.len();
         self.common
             .assert_attributes((0..count).map(|n| info.attribute(n).unwrap()));
+        self.common.assert_named(|name| info.attribute_named(name));
     }
 }

@@ -1,0 +1,37 @@
+-- Asking an entry for an attribute by name is asking it by number: proved.
+use Prim.Native.Nat.{ℕ}
+use native.Mathlib.Omega.{arith}
+use mathlib.Core.List.{List}
+use borrow.Author.Tests.{lt-ltb}
+use Rattle.entry.specs.Entry.{ownBytes}
+use Rattle.attr.specs.Attribute.{attributeNth, attributeNamed}
+use Rattle.attr.proofs.Named.{first-named, same-asks}
+use Rattle.attr.proofs.Shown.{Begun, named-begun}
+use Rattle.field.specs.declared.FieldAnswer.{FieldAnswer}
+use Rattle.field.specs.declared.FieldAnswer.the-variants.{Record, Refused}
+use Rattle.field.specs.Field.{fieldRead}
+use Rattle.field.specs.Questions.{shownNamed, fieldAttribute, fieldAttributeNamed}
+use Rattle.field.specs.Named.{FieldsNamed}
+use Rattle.field.proofs.Inside.{fields-shown}
+
+pub fields-named : FieldsNamed
+unfolding fieldAttribute fieldAttributeNamed
+fields-named s name = record {
+  accepted = λ info h.
+      let e = ownBytes 42 s in
+      let first = info .attributes .first in
+      let count = info .attributes .count in
+      simp h (same-asks e name (attributeNth e first) (fieldAttribute s) count (attributeNamed e name first count)
+      (λ k l. simp (h, lt-ltb k count l))
+      (first-named e name count first (fields-shown s info h .inside .attributes)));
+  refused = λ why h. simp h;
+}
+
+named-of : (e name : List ℕ) (t : FieldAnswer) → Begun e (shownNamed t e name)
+named-of e name (Record r) = named-begun e name (r .attributes .count) (r .attributes .first)
+named-of e name (Refused why) = (omega arith, omega arith)
+
+-- the answer's strings begin inside the entry
+pub attribute-named-begun : (s name : List ℕ) → Begun (ownBytes 42 s) (fieldAttributeNamed s name)
+unfolding fieldAttributeNamed
+attribute-named-begun s name = named-of (ownBytes 42 s) name (fieldRead s .answer)

@@ -1,0 +1,37 @@
+-- Asking an entry for an attribute by name is asking it by number: proved.
+use Prim.Native.Nat.{ℕ}
+use native.Mathlib.Omega.{arith}
+use mathlib.Core.List.{List}
+use borrow.Author.Tests.{lt-ltb}
+use Rattle.entry.specs.Entry.{ownBytes}
+use Rattle.attr.specs.Attribute.{attributeNth, attributeNamed}
+use Rattle.attr.proofs.Named.{first-named, same-asks}
+use Rattle.attr.proofs.Shown.{Begun, named-begun}
+use Rattle.symbol.specs.declared.SymbolAnswer.{SymbolAnswer}
+use Rattle.symbol.specs.declared.SymbolAnswer.the-variants.{Record, Refused}
+use Rattle.symbol.specs.Symbol.{symbolRead}
+use Rattle.symbol.specs.Questions.{shownNamed, symbolAttribute, symbolAttributeNamed}
+use Rattle.symbol.specs.Named.{SymbolsNamed}
+use Rattle.symbol.proofs.Inside.{symbols-shown}
+
+pub symbols-named : SymbolsNamed
+unfolding symbolAttribute symbolAttributeNamed
+symbols-named s name = record {
+  accepted = λ info h.
+      let e = ownBytes 30 s in
+      let first = info .attributes .first in
+      let count = info .attributes .count in
+      simp h (same-asks e name (attributeNth e first) (symbolAttribute s) count (attributeNamed e name first count)
+      (λ k l. simp (h, lt-ltb k count l))
+      (first-named e name count first (symbols-shown s info h .inside .attributes)));
+  refused = λ why h. simp h;
+}
+
+named-of : (e name : List ℕ) (t : SymbolAnswer) → Begun e (shownNamed t e name)
+named-of e name (Record r) = named-begun e name (r .attributes .count) (r .attributes .first)
+named-of e name (Refused why) = (omega arith, omega arith)
+
+-- the answer's strings begin inside the entry
+pub attribute-named-begun : (s name : List ℕ) → Begun (ownBytes 30 s) (symbolAttributeNamed s name)
+unfolding symbolAttributeNamed
+attribute-named-begun s name = named-of (ownBytes 30 s) name (symbolRead s .answer)
