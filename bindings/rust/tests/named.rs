@@ -198,6 +198,21 @@ impl Met {
         }
     }
 
+    /// Some names asked: each answer is what a search over the numbers finds.
+    fn ask<'a>(
+        &mut self,
+        r: &mut Random,
+        attributes: &Named,
+        numbered: impl Fn(usize) -> Result<AdsAttribute<'a>, Refusal>,
+        named: impl Fn(&[u8]) -> Result<AdsAttribute<'a>, Refusal>,
+    ) {
+        for _ in 0..4 {
+            let name = short_name(r);
+            self.count(attributes, &name);
+            assert_eq!(named(&name), searched(&name, &numbered));
+        }
+    }
+
     fn assert_each_often(&self) {
         assert!(self.found > 1000 && self.alike > 1000 && self.none > 1000);
     }
@@ -214,12 +229,12 @@ fn a_symbols_names_find_what_its_numbers_show() {
         let bytes = plain.bytes();
         let info = AdsSymbolInfo::try_from_slice(&bytes).unwrap();
         plain.assert_told_by(&info, 0);
-        for _ in 0..4 {
-            let name = short_name(&mut r);
-            met.count(&plain.common.attributes, &name);
-            let want = searched(&name, |number| info.attribute(number));
-            assert_eq!(info.attribute_named(&name), want);
-        }
+        met.ask(
+            &mut r,
+            &plain.common.attributes,
+            |number| info.attribute(number),
+            |name| info.attribute_named(name),
+        );
     }
     met.assert_each_often();
 }
@@ -235,12 +250,12 @@ fn a_fields_names_find_what_its_numbers_show() {
         let bytes = plain.bytes();
         let info = AdsFieldInfo::try_from_slice(&bytes).unwrap();
         plain.assert_told_by(&info);
-        for _ in 0..4 {
-            let name = short_name(&mut r);
-            met.count(&plain.common.attributes, &name);
-            let want = searched(&name, |number| info.attribute(number));
-            assert_eq!(info.attribute_named(&name), want);
-        }
+        met.ask(
+            &mut r,
+            &plain.common.attributes,
+            |number| info.attribute(number),
+            |name| info.attribute_named(name),
+        );
     }
     met.assert_each_often();
 }
