@@ -31,44 +31,7 @@ one-named s name ask count t u (nowhere is none) (found j m it had no-one) = abs
 one-named s name ask count t u (nowhere is none) (nowhere it no-one) = is ∙ sym it
 
 module _ (s name : List ℕ) where
-  -- questions that agree below the count
-  pub same-asks : (ask other : ℕ → AttributeAnswer) (count : ℕ) (t : AttributeAnswer) → ((k : ℕ) → k < count → ask k ≡ other k) → FirstNamed s name ask count t → FirstNamed s name other count t
-  same-asks ask other count t agree (found k h is has first) =
-      found k h (is ∙ agree k h) has (λ j l o. first j l (subst (Has s name) (sym (agree j (omega arith))) o))
-  same-asks ask other count t agree (nowhere is none) = nowhere is (λ j l o. none j l (subst (Has s name) (sym (agree j l)) o))
-
-  -- the first number has not the name, and the others are those of a question that begins after it
-  later : (ask after : ℕ → AttributeAnswer) (count : ℕ) → (Has s name (ask 0) → ⊥) → ((k : ℕ) → ask (suc k) ≡ after k) → NoneHas s name after count → NoneHas s name ask (suc count)
-  later ask after count not each none zero h o = not o
-  later ask after count not each none (suc k) h o = none k (omega arith) (subst (Has s name) (each k) o)
-
-  goes-on : (ask after : ℕ → AttributeAnswer) (count : ℕ) (t : AttributeAnswer) → (Has s name (ask 0) → ⊥) → ((k : ℕ) → ask (suc k) ≡ after k) → FirstNamed s name after count t → FirstNamed s name ask (suc count) t
-  goes-on ask after count t not each (found k h is has first) = found (suc k) (omega arith) (is ∙ sym (each k)) has (later ask after k not each first)
-  goes-on ask after count t not each (nowhere is none) = nowhere is (later ask after count not each none)
-
-  has-not : (t : AttributeAnswer) (a : AdsAttribute) → t ≡ Record a → sameBytes (part s (a .name) (a .«name_len»)) name ≡ false → Has s name t → ⊥
-  has-not t a e f h =
-      let same : h .info ≡ a = cc (sym (h .is) ∙ e) in
-      not-both (simp (← h .called, same) (same-refl (part s (a .name) (a .«name_len»)))) f
-
-  turn : (at left : ℕ) (a : AdsAttribute) → attributeAt s at ≡ Record a → FirstNamed s name (attributeNth s (a .next)) left (attributeNamed s name (a .next) left)
-      → (same : Bool) → sameBytes (part s (a .name) (a .«name_len»)) name ≡ same
-      → FirstNamed s name (attributeNth s at) (suc left) (if same then Record a else attributeNamed s name (a .next) left)
-  unfolding attributeNth
-  turn at left a e rest true h = found 0 (omega arith) (sym e) (record { info = a; is = refl; called = same-equal _ _ h }) (λ j l o. absurd (omega arith))
-  turn at left a e rest false h = goes-on (attributeNth s at) (attributeNth s (a .next)) left (attributeNamed s name (a .next) left) (has-not (attributeAt s at) a e h) (λ k. simp e) rest
-
-  -- where each of so many records is there
-  pub first-named : (left at : ℕ) → ((k : ℕ) → k < left → Inside s (attributeNth s at k)) → FirstNamed s name (attributeNth s at) left (attributeNamed s name at left)
-  unfolding attributeNamed attributeNth
-  first-named zero at each = nowhere refl (λ j l o. absurd (omega arith))
-  first-named (suc left) at each =
-      let i = each 0 (omega arith) in
-      let a = i .info in
-      let e : attributeAt s at ≡ Record a = i .is in
-      simp e (turn at left a e (first-named left (a .next) (λ k l. simp e at (each (suc k) (omega arith)))) (sameBytes (part s (a .name) (a .«name_len»)) name) refl)
-
-  -- what is told for a name is told from the list of what is told for the numbers
+  -- an answer has the name exactly where what it tells has
   given : (t : AttributeAnswer) (x : Attribute) → attributeTold s t ≡ Given x → sameBytes (x .name) name ≡ true → Has s name t
   given (Record a) x e h =
       let w : attributeOf s a ≡ x = cc e in
@@ -83,6 +46,41 @@ module _ (s name : List ℕ) where
       let c : part s (o .info .name) (o .info .«name_len») ≡ x .name = ap (λ (y : Attribute). y .name) w in
       not-both (simp (← c, o .called) (same-refl name)) h
 
+  -- questions that agree below the count
+  same-asks : (ask other : ℕ → AttributeAnswer) (count : ℕ) (t : AttributeAnswer) → ((k : ℕ) → k < count → ask k ≡ other k) → FirstNamed s name ask count t → FirstNamed s name other count t
+  same-asks ask other count t agree (found k h is has first) =
+      found k h (is ∙ agree k h) has (λ j l o. first j l (subst (Has s name) (sym (agree j (omega arith))) o))
+  same-asks ask other count t agree (nowhere is none) = nowhere is (λ j l o. none j l (subst (Has s name) (sym (agree j l)) o))
+
+  -- the first number has not the name, and the others are those of a question that begins after it
+  later : (ask after : ℕ → AttributeAnswer) (count : ℕ) → (Has s name (ask 0) → ⊥) → ((k : ℕ) → ask (suc k) ≡ after k) → NoneHas s name after count → NoneHas s name ask (suc count)
+  later ask after count not each none zero h o = not o
+  later ask after count not each none (suc k) h o = none k (omega arith) (subst (Has s name) (each k) o)
+
+  goes-on : (ask after : ℕ → AttributeAnswer) (count : ℕ) (t : AttributeAnswer) → (Has s name (ask 0) → ⊥) → ((k : ℕ) → ask (suc k) ≡ after k) → FirstNamed s name after count t → FirstNamed s name ask (suc count) t
+  goes-on ask after count t not each (found k h is has first) = found (suc k) (omega arith) (is ∙ sym (each k)) has (later ask after k not each first)
+  goes-on ask after count t not each (nowhere is none) = nowhere is (later ask after count not each none)
+
+  turn : (at left : ℕ) (a : AdsAttribute) → attributeAt s at ≡ Record a → FirstNamed s name (attributeNth s (a .next)) left (attributeNamed s name (a .next) left)
+      → (same : Bool) → sameBytes (part s (a .name) (a .«name_len»)) name ≡ same
+      → FirstNamed s name (attributeNth s at) (suc left) (if same then Record a else attributeNamed s name (a .next) left)
+  unfolding attributeNth
+  turn at left a e rest true h = found 0 (omega arith) (sym e) (given (Record a) (attributeOf s a) refl h) (λ j l o. absurd (omega arith))
+  turn at left a e rest false h = goes-on (attributeNth s at) (attributeNth s (a .next)) left (attributeNamed s name (a .next) left) (not-given (attributeAt s at) (attributeOf s a) (ap (attributeTold s) e) h) (λ k. simp e) rest
+
+  first-named : (left at : ℕ) → ((k : ℕ) → k < left → Inside s (attributeNth s at k)) → FirstNamed s name (attributeNth s at) left (attributeNamed s name at left)
+  unfolding attributeNamed attributeNth
+  first-named zero at each = nowhere refl (λ j l o. absurd (omega arith))
+  first-named (suc left) at each =
+      let i = each 0 (omega arith) in
+      let a = i .info in
+      let e : attributeAt s at ≡ Record a = i .is in
+      simp e (turn at left a e (first-named left (a .next) (λ k l. simp e at (each (suc k) (omega arith)))) (sameBytes (part s (a .name) (a .«name_len»)) name) refl)
+
+  -- where each of so many records is there, and is what is asked by number
+  pub by-number : (ask : ℕ → AttributeAnswer) (count at : ℕ) → ((k : ℕ) → k < count → attributeNth s at k ≡ ask k) → ((k : ℕ) → k < count → Inside s (attributeNth s at k)) → FirstNamed s name ask count (attributeNamed s name at count)
+  by-number ask count at agree each = same-asks (attributeNth s at) ask count (attributeNamed s name at count) agree (first-named count at each)
+
   -- the first of a list that is told: it is the answer where it has the name, else the answer is that of the rest
   first-told : (ask : ℕ → AttributeAnswer) (count : ℕ) (t : AttributeAnswer) (x : Attribute) → attributeTold s (ask 0) ≡ Given x → sameBytes (x .name) name ≡ true
       → FirstNamed s name ask (suc count) t → attributeTold s t ≡ Given x
@@ -95,6 +93,7 @@ module _ (s name : List ℕ) where
   rest-named ask count t not (found (suc k) l is has none) = found k (omega arith) is has (λ j m. none (suc j) (omega arith))
   rest-named ask count t not (nowhere is none) = nowhere is (λ j m. none (suc j) (omega arith))
 
+  -- what is told for a name is told from the list of what is told for the numbers
   pub told-named : (ask : ℕ → AttributeAnswer) (count : ℕ) (t : AttributeAnswer) (l : List Attribute) → asks (λ k. attributeTold s (ask k)) count ≡ map Given l
       → FirstNamed s name ask count t → attributeTold s t ≡ firstNamed name l
   unfolding asks firstNamed
