@@ -516,6 +516,8 @@ static void ask_all(struct bytes b, naming call, numbered by_number)
         bool there = questions[i].number != NOWHERE;
         ask(b, text(questions[i].name), there ? by_number(b, questions[i].number) : refused(13, 0, 0), call);
     }
+    /* The third's own name, which the first has too. */
+    SAME(ALIKE, call(b, lay(NAME, text(pairs[2].name))), by_number(b, 0));
     /* A name with its end byte, and with all that follows it in the record. */
     ask(b, (struct bytes){(const uint8_t *)"unit", 5}, refused(13, 0, 0), call);
     ask(b, (struct bytes){(const uint8_t *)"unit\0kPa", 9}, refused(13, 0, 0), call);
