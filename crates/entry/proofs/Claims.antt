@@ -6,10 +6,10 @@ use mathlib.Core.Path.{_≡_, refl, sym, ap, _∙_}
 use mathlib.Core.Bool.{Bool, true, false}
 use mathlib.Core.List.{List}
 use lib.Dec.{ltb, leb}
-use lib.ListN.{length, drop, length-drop}
-use lib.Seq.{length-take-le, getD-take, getD-drop}
+use lib.ListN.{length}
 use borrow.Author.Tests.{leb-false, ltb-false}
 use Rattle.le.specs.Le.{if_then_else_, le4, part}
+use Rattle.le.proofs.Laws.{length-part, getD-part}
 use Rattle.refusal.specs.Refusal.{limit}
 use Rattle.refusal.specs.declared.Refusal.{Refusal}
 use Rattle.entry.specs.declared.Met.{Met}
@@ -47,18 +47,14 @@ meets s at size e =
     record { claim = b .4; room = omega (arith, b .4); four = omega arith; small = ltb-false limit (length s) (b .1); next = b .5 }
 
 -- its own bytes are a whole entry, where they hold their claim
-pub own-length : (s : List ℕ) (at size : ℕ) → at + size ≤ length s → length (part s at size) ≡ size
-unfolding part
-own-length s at size h = length-take-le size (drop at s) (simp length-drop (omega arith))
-
 pub own-claim : (s : List ℕ) (at size : ℕ) → 4 ≤ size → le4 (part s at size) 0 ≡ le4 s at
-unfolding part le4
+unfolding le4
 own-claim s at size h =
-    simp (getD-take size (drop at s) 0 0 (omega arith), getD-take size (drop at s) 1 0 (omega arith), getD-take size (drop at s) 2 0 (omega arith), getD-take size (drop at s) 3 0 (omega arith), getD-drop, add-zero)
+    simp (getD-part s at size 0 0 (omega arith), getD-part s at size 1 0 (omega arith), getD-part s at size 2 0 (omega arith), getD-part s at size 3 0 (omega arith), add-zero)
 
 pub own-whole : (s : List ℕ) (at size : ℕ) → Meets s at size → 4 ≤ size → Whole (part s at size)
 own-whole s at size m h =
-    let l = own-length s at size (m .room) in
+    let l = length-part s at size (m .room) in
     record { claims = own-claim s at size h ∙ m .claim ∙ sym l; long = omega arith }
 
 module _ (x y z u w : Met) (at n c : ℕ) (h : at < n) where

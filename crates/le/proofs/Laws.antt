@@ -4,11 +4,11 @@ use mathlib.Core.Bool.{Bool, true, false}
 use lib.Dec.{eqb}
 use mathlib.Core.List.{List, [], _∷_, _++_, append-assoc, append-nil}
 use Prim.Native.Nat.{ℕ, zero, suc, _+_, _-_, _≤_, _<_}
-use native.Mathlib.Nat.{zero-add, add-zero, add-assoc}
+use native.Mathlib.Nat.{zero-add, add-zero, add-assoc, suc-add}
 use native.Mathlib.Numerals.{add-one}
 use native.Mathlib.Omega.{arith}
 use lib.ListN.{length, take, drop, set, getD, length-append, length-drop, take-append-drop, drop-of-length-le, List·getD-eq-default}
-use lib.Seq.{take-nil, take-suc-set, getD-drop, sets, sets-eq, take-at, drop-at, drop-drop, length-take-le, take-suc, take-all}
+use lib.Seq.{take-nil, take-suc-set, getD-take, getD-drop, sets, sets-eq, take-at, drop-at, drop-drop, length-take-le, take-suc, take-all, take-take}
 use Rattle.le.specs.Le.{le2, le4, bytes2, bytes4, part, zeroAt}
 use Rattle.le.specs.Put.{put, Wrote}
 
@@ -119,6 +119,34 @@ part-rest s at n h = take-all n (drop at s) (simp length-drop (omega arith))
 pub part-past : (s : List ℕ) (at n : ℕ) → length s ≤ at → part s at n ≡ []
 unfolding part
 part-past s at n h = ap (take n) (drop-of-length-le s {i = at} h) ∙ take-nil n
+
+-- a part that is there has its length; its bytes are those from its place on; what stands there is it and the rest
+pub length-part : (s : List ℕ) (at n : ℕ) → at + n ≤ length s → length (part s at n) ≡ n
+unfolding part
+length-part s at n h = length-take-le n (drop at s) (simp length-drop (omega arith))
+
+pub getD-part : (s : List ℕ) (at n k d : ℕ) → k < n → getD (part s at n) k d ≡ getD s (at + k) d
+unfolding part
+getD-part s at n k d h = getD-take n (drop at s) k d h ∙ getD-drop at s k d
+
+pub le2-part : (s : List ℕ) (at n k : ℕ) → k + 2 ≤ n → le2 (part s at n) k ≡ le2 s (at + k)
+unfolding le2
+le2-part s at n k h = simp (getD-part s at n k 0 (omega arith), getD-part s at n (k + 1) 0 (omega arith), add-assoc)
+
+drop-take : (k n : ℕ) (l : List ℕ) → drop k (take (k + n) l) ≡ take n (drop k l)
+drop-take zero n l = rw zero-add refl
+drop-take (suc k) n [] = simp (suc-add, take-nil)
+drop-take (suc k) n (x ∷ l) = simp suc-add (drop-take k n l)
+
+pub part-part : (s : List ℕ) (at n k m : ℕ) → k + m ≤ n → part (part s at n) k m ≡ part s (at + k) m
+unfolding part
+part-part s at n k m h =
+    let e : k + (n - k) ≡ n = omega arith in
+    ap (λ (i : ℕ). take m (drop k (take i (drop at s)))) (sym e) ∙ ap (take m) (drop-take k (n - k) (drop at s)) ∙ take-take m (n - k) (drop k (drop at s)) (omega arith) ∙ ap (take m) (drop-drop k at s)
+
+pub drop-part : (s : List ℕ) (at n : ℕ) → drop at s ≡ part s at n ++ drop (at + n) s
+unfolding part
+drop-part s at n = sym (take-append-drop n (drop at s)) ∙ ap (λ (l : List ℕ). take n (drop at s) ++ l) (drop-drop n at s)
 
 -- what stands inside a list does not depend on what is read past its end
 pub getD-any : (s : List ℕ) (k a b : ℕ) → k < length s → getD s k a ≡ getD s k b

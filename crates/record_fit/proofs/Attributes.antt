@@ -10,6 +10,7 @@ use lib.Seq.{take-append-seam, getD-at}
 use borrow.Author.Tests.{le-ltb, lt-ltb, ltb-false}
 use Rattle.le.specs.Le.{if_then_else_, part, zeroAt}
 use Rattle.le.proofs.Inside.{getD-inside, part-whole}
+use Rattle.le.proofs.Laws.{length-part, drop-part}
 use Rattle.refusal.specs.Refusal.{limit}
 use Rattle.refusal.specs.declared.Refusal.the-variants.{TooShort}
 use Rattle.refusal.specs.Asked.{Given}
@@ -24,7 +25,7 @@ use Rattle.attr.proofs.Laws.{length-attribute, good-by, writes}
 use Rattle.attr.proofs.Read.{shift, inside, attribute-inside, name-inside, value-inside, good-record}
 use Rattle.record_fit.specs.Attributes.{AttributesReadBack, AttributeBlocks, AttributesFixed, AttributeBlocksMade}
 use Rattle.record_fit.proofs.Blocks as blocks
-use Rattle.record_fit.proofs.Blocks.{kept, length-part, drop-part, drop-byte, drop-zero}
+use Rattle.record_fit.proofs.Blocks.{kept, drop-byte, drop-zero}
 
 module _ (name value : List ℕ) where
   abbrev bytes : List ℕ

@@ -6,23 +6,15 @@ use native.Mathlib.Numerals.{add-one}
 use mathlib.Core.Path.{_≡_, refl, sym, ap, ap₂, _∙_}
 use mathlib.Core.Bool.{Bool, true, false}
 use mathlib.Core.List.{List, [], _∷_, _++_, append-assoc, append-nil}
-use lib.ListN.{length, getD, take, drop, length-append, length-drop, take-append-drop}
-use lib.Seq.{drop-cons, drop-drop, drop-length, length-take-le}
+use lib.ListN.{length, getD, drop, length-append}
+use lib.Seq.{drop-cons, drop-length}
 use borrow.Author.Tests.{eq-eqb, eqb-true}
-use Rattle.le.specs.Le.{if_then_else_, part, zeroAt}
+use Rattle.le.specs.Le.{if_then_else_, zeroAt}
 use Rattle.refusal.specs.Writing.{Good, Next, None, counted, goodFrom, exactly}
 use Rattle.refusal.specs.declared.Checked.the-variants.{Passed}
 use Rattle.refusal.proofs.Laws.{good-first, exact}
 
--- what stands from a place on: a part and the rest, a byte and the rest
-pub drop-part : (s : List ℕ) (at n : ℕ) → drop at s ≡ part s at n ++ drop (at + n) s
-unfolding part
-drop-part s at n = sym (take-append-drop n (drop at s)) ∙ ap (λ (l : List ℕ). take n (drop at s) ++ l) (drop-drop n at s)
-
-pub length-part : (s : List ℕ) (at n : ℕ) → at + n ≤ length s → length (part s at n) ≡ n
-unfolding part
-length-part s at n h = length-take-le n (drop at s) (simp length-drop (omega arith))
-
+-- what stands from a place on: a byte and the rest
 pub drop-byte : (s : List ℕ) (at d : ℕ) → at < length s → drop at s ≡ getD s at d ∷ drop (at + 1) s
 drop-byte s at d h = rw add-one (drop-cons s at d h)
 

@@ -12,7 +12,7 @@ use lib.Seq.{take-append-seam, getD-at}
 use borrow.Author.Tests.{le-ltb, lt-ltb, ltb-false, eq-eqb, eqb-true, ne-eqb}
 use Rattle.le.specs.Le.{if_then_else_, le2, le4, bytes2, bytes4, has, part, zeroAt}
 use Rattle.le.proofs.Inside.{getD-inside, le4-inside}
-use Rattle.le.proofs.Laws.{le4-bytes4}
+use Rattle.le.proofs.Laws.{le4-bytes4, length-part, drop-part}
 use Rattle.refusal.specs.Refusal.{limit}
 use Rattle.refusal.specs.Asked.{Given}
 use Rattle.refusal.specs.Writing.{Next, None, goodFrom, exactly}
@@ -31,7 +31,7 @@ use Rattle.refactor.proofs.Mask.{within-mask, told-follower, packed-same}
 use Rattle.record_fit.specs.Kind.{Each, none, more}
 use Rattle.record_fit.specs.Refactors.{Fits, written, chainWritten, lastCount, formers, Byte, RefactorsReadBack, RefactorBlocks, RefactorsFixed, RefactorBlocksMade}
 use Rattle.record_fit.proofs.Blocks as blocks
-use Rattle.record_fit.proofs.Blocks.{kept, Fit, blockOf, length-part, drop-part, drop-byte, drop-zero}
+use Rattle.record_fit.proofs.Blocks.{kept, Fit, blockOf, drop-byte, drop-zero}
 
 module _ (packed : ℕ) (name : List ℕ) (within : bitAnd packed mask ≡ packed) (short : length name ≤ 65535) where
   abbrev bytes : List ℕ
