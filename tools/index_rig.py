@@ -1,8 +1,8 @@
 #!/usr/bin/env python3
 """Makes crates/index_rig/stdout: run at the project's root, `tools/index_rig.py > crates/index_rig/stdout`.
 
-An upload like the program's is laid out, walked and searched here by 01's text alone (Walking, the symbol layout, the
-refusal numbers), without a look at the proved code. rt check runs the program and compares.
+An upload like the program's is laid out, walked and searched here by 01's and W-201's text alone (Walking, the symbol
+layout, the refusal numbers, names in capitals), without a look at the proved code. rt check runs the program and compares.
 """
 import struct
 
@@ -15,7 +15,12 @@ def entry(i):
     claim = 41 if i == 39 else 40
     name_length = 200 if i % 5 == 0 else 3
     head = struct.pack("<5I2H3H", claim, 0, 0, 0, 0, 0, 0, name_length, 0, 0)
-    return (head + name("v", i % 23)).ljust(40, b"\0")
+    return (head + name("vV{["[i % 4], i % 23)).ljust(40, b"\0")
+
+
+def same(own, asked):
+    """bytes.lower() changes A to Z alone"""
+    return own.lower() == asked.lower()
 
 
 def walk(data):
@@ -50,7 +55,7 @@ def find(data, asked):
     for at, n in walk(data):
         if n == "zero":
             return "refused 10 1 0"
-        if n == asked:
+        if n is not None and same(n, asked):
             return str(at)
     return "refused 13 0 0"
 
@@ -58,7 +63,7 @@ def find(data, asked):
 def find_indexed(data, slots, asked):
     for slot in slots:
         first = next(walk(data[slot:]), None)
-        if first and first[1] == asked:
+        if first and first[1] not in (None, "zero") and same(first[1], asked):
             return str(slot)
     return "refused 13 0 0"
 
@@ -69,7 +74,7 @@ def survey(data, slots):
     if starts is not None:
         slots[:len(starts)] = starts
     used = slots if starts is None else starts
-    for asked in [name("v", n) for n in range(23)] + [name("w", 0)]:
+    for asked in [name(letter, n) for n in range(23) for letter in "vV{["] + [name("w", 0)]:
         print(asked.decode(), find(data, asked), find_indexed(data, used, asked))
 
 

@@ -35,6 +35,10 @@ static const char *const groups[GROUPS] = {
     [WRITES] = "entries and records, written",
     [ROUND_TRIPS] = "written, then read again",
     [FINDS] = "index and finding",
+    [CAPITALS] = "names in capitals and small letters",
+    [OTHER_CASE] = "symbols by name, found in another case than asked",
+    [EARLIER] = "symbols by name, found before one that has the very bytes asked",
+    [NEAR_CASE] = "symbols by name, none there but one that differs in bit 5 alone",
     [TEXTS] = "text there and back",
 };
 

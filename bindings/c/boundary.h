@@ -6,6 +6,7 @@
  *   boundary_model.c   what document 01 says the answer is, worked out in C
  *   boundary_make.c    random numbers, entries, damage
  *   boundary_edges.c   empty slices, every length lent, names that are nearly alike, the limits
+ *   boundary_case.c    symbols by names in another case
  *   boundary_random.c  random cases
  */
 #ifndef BOUNDARY_H
@@ -37,6 +38,10 @@ enum group {
     WRITES,
     ROUND_TRIPS,
     FINDS,
+    CAPITALS,
+    OTHER_CASE,
+    EARLIER,
+    NEAR_CASE,
     TEXTS,
     GROUPS
 };
@@ -235,6 +240,7 @@ struct told model_encode(struct bytes src, uint8_t *out);
 uint64_t number_at(struct bytes bytes, size_t at, size_t width);
 bool equal(struct bytes a, struct bytes b);
 struct bytes part(struct bytes bytes, size_t at, size_t len);
+struct bytes text(const char *s);
 
 /* ---- Making ---- */
 
@@ -274,12 +280,18 @@ void make_symbol(struct buffer *to);
 void make_field(struct buffer *to);
 void make_records(struct buffer *to);
 void make_upload(struct buffer *to);
+void make_family(struct buffer *to);
 void make_text(struct buffer *to);
 void damage(struct buffer *to, size_t header);
+
+/* A name's letters in cases at random, and a name that is no longer the same though it looks as if in another case. */
+void recase(struct room name);
+void miss_case(struct room name);
 
 /* ---- The tests ---- */
 
 void try_edges(void);
+void try_capitals(void);
 void try_limits(void);
 void try_random(uint64_t from, uint64_t cases, uint64_t seed_number);
 

@@ -2,11 +2,6 @@
  * expected figures stand here as 01 has them, or come from the model. */
 #include "boundary.h"
 
-static struct bytes text(const char *s)
-{
-    return (struct bytes){(const uint8_t *)s, strlen(s)};
-}
-
 static struct told finished(size_t cursor, size_t steps)
 {
     return (struct told){.status = VINDASKOT_FINISHED, .cursor = cursor, .steps = steps};
@@ -715,6 +710,7 @@ void try_edges(void)
         long_counts();
         long_guids();
         try_names();
+        try_capitals();
         refused_symbols();
         refused_fields();
         other_statuses();

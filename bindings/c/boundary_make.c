@@ -417,6 +417,78 @@ void make_records(struct buffer *to)
         put_any(to, below(20));
 }
 
+/* ---- Names in another case ---- */
+
+static bool letter(uint8_t c)
+{
+    return (c >= 'A' && c <= 'Z') || (c >= 'a' && c <= 'z');
+}
+
+void recase(struct room name)
+{
+    for (size_t i = 0; i < name.len; i++)
+        if (letter(name.at[i]) && one_in(2))
+            name.at[i] ^= 0x20;
+}
+
+/* One byte that is no letter, changed as a letter's case is. Where there are letters alone, one of them is another. */
+void miss_case(struct room name)
+{
+    size_t start = below(name.len), i = 0;
+    while (i < name.len && letter(name.at[(start + i) % name.len]))
+        i++;
+    if (name.len > 0)
+        name.at[(start + i) % name.len] ^= i < name.len ? 0x20 : 1;
+}
+
+/* Two letters at least, and what is none at its end; between them letters, bytes beside them, accented ones, any. */
+static struct room make_name(void)
+{
+    static const uint8_t marks[] = {'@', '`', '[', '{', '_', '.', '0', 0x10, 0x00, ' ', 0xC4, 0xE4, 0xD7, 0xDE, 0xFE};
+    static uint8_t at[64];
+    struct room name = {at, 3 + below(one_in(2) ? 20 : 61)};
+    for (size_t i = 0; i < name.len; i++) {
+        bool mark = i + 1 == name.len || (i > 1 && one_in(4));
+        at[i] = mark ? marks[below(sizeof marks)] : (uint8_t)('A' + below(26));
+        if (i > 1 && !mark && one_in(8))
+            at[i] = (uint8_t)any();
+    }
+    recase(name);
+    return name;
+}
+
+/* The name of the next entry, from that of the one before. The second differs from the first in case alone. */
+static void next_name(struct room name, size_t number)
+{
+    size_t way = number == 1 ? 0 : below(5);
+    for (size_t i = 0; way == 0 && i < name.len; i++)
+        name.at[i] ^= letter(name.at[i]) ? 0x20 : 0;
+    if (way == 1 || way == 2)
+        recase(name);
+    if (way > 1 && way < 4)
+        miss_case(name);
+}
+
+/* Entries whose names differ in case alone, or nearly so. The first two are sound, so that each such upload has
+ * them. */
+void make_family(struct buffer *to)
+{
+    static struct buffer entry;
+    struct room name = make_name();
+    for (size_t number = 0, count = 2 + below(6); number < count; number++) {
+        bool field = number > 1 && one_in(6);
+        (field ? draft_field : draft_symbol)(&made);
+        if (number > 0)
+            next_name(name, number);
+        made.parts.name = (struct bytes){name.at, name.len};
+        entry.len = 0;
+        (field ? put_field : put_symbol)(&entry, &made.parts);
+        if (number > 1 && one_in(4))
+            damage(&entry, 30);
+        put(to, whole(&entry));
+    }
+}
+
 /* Entries of both kinds, sound, damaged and refused. */
 void make_upload(struct buffer *to)
 {

@@ -1,6 +1,6 @@
-/* What document 01 says the answer is, worked out from the bytes in plain C. It shares no code with the library. Where
- * 01 leaves a choice it follows docs/DECISIONS.md. Slots and flags go by the header's names, so that a header that
- * gives one of them another number is found. */
+/* What document 01 and, for finding, request W-201 say the answer is, worked out from the bytes in plain C. It shares
+ * no code with the library. Where 01 leaves a choice it follows docs/DECISIONS.md. Slots and flags go by the header's
+ * names, so that a header that gives one of them another number is found. */
 #include "boundary.h"
 
 const size_t symbol_numbers[4] = {VINDASKOT_SYMBOL_INDEX_GROUP, VINDASKOT_SYMBOL_INDEX_OFFSET, VINDASKOT_SYMBOL_SIZE,
@@ -37,6 +37,11 @@ bool equal(struct bytes a, struct bytes b)
 struct bytes part(struct bytes b, size_t at, size_t len)
 {
     return (struct bytes){b.at + at, len};
+}
+
+struct bytes text(const char *s)
+{
+    return (struct bytes){(const uint8_t *)s, strlen(s)};
 }
 
 struct told done(uint64_t first, uint64_t second)
@@ -440,11 +445,30 @@ struct told model_index(struct bytes b, uint32_t *starts)
     return done(count, 0);
 }
 
+/* W-201: "A to Z equal a to z; every other byte, accented letters included, still equals only itself." By two
+ * alphabets and not by folding, so that a wrong range is no mistake that both sides can share. */
+static bool same_byte(uint8_t x, uint8_t y)
+{
+    static const char capitals[] = "ABCDEFGHIJKLMNOPQRSTUVWXYZ", small[] = "abcdefghijklmnopqrstuvwxyz";
+    bool same = x == y;
+    for (size_t i = 0; !same && i < sizeof capitals - 1; i++)
+        same = (x == capitals[i] && y == small[i]) || (y == capitals[i] && x == small[i]);
+    return same;
+}
+
+static bool same_name(struct bytes a, struct bytes b)
+{
+    size_t i = 0;
+    while (i < a.len && i < b.len && same_byte(a.at[i], b.at[i]))
+        i++;
+    return i == a.len && i == b.len;
+}
+
 static bool named(struct bytes b, size_t at, struct bytes name)
 {
     struct told told = step(b, at, symbol_entry);
     return told.status == VINDASKOT_DONE &&
-           equal(part(b, at + 30, (size_t)told.slots[VINDASKOT_SYMBOL_NAME_LEN]), name);
+           same_name(part(b, at + 30, (size_t)told.slots[VINDASKOT_SYMBOL_NAME_LEN]), name);
 }
 
 struct told model_find(struct bytes b, struct bytes name)

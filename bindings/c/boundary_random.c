@@ -244,15 +244,90 @@ static void try_walk(struct bytes b, size_t some)
 
 /* ---- Index and finding ---- */
 
-static void try_name(struct bytes b, struct bytes index, struct bytes name, bool indexed)
+/* Where the accepted symbols of an upload start, those before a zero claim where it has one. */
+struct accepted {
+    const uint32_t *starts;
+    size_t count;
+};
+
+/* How many of them there are before a zero claim. */
+static size_t before_zero(struct bytes b)
 {
-    struct told found = call_find(b, name), through = call_find_indexed(b, index, name);
-    SAME(FINDS, found, model_find(b, name));
+    size_t count = 0;
+    for (size_t at = 0, next; at < b.len; at = next) {
+        struct told told = model_symbol_step(b, at);
+        next = told.cursor;
+        if (next == at)
+            break;
+        count += told.status == VINDASKOT_DONE;
+    }
+    return count;
+}
+
+static struct bytes name_at(struct bytes b, size_t start)
+{
+    return part(b, start + 30, (size_t)number_at(b, start + 24, 2));
+}
+
+static bool in_bit_5_alone(struct bytes a, struct bytes b)
+{
+    size_t i = 0;
+    while (i < a.len && i < b.len && ((a.at[i] ^ b.at[i]) & ~0x20) == 0)
+        i++;
+    return i == a.len && i == b.len;
+}
+
+/* The group of a check on a symbol by name, by what is expected of it and by the names that are there. */
+static enum group finding_group(struct bytes b, struct accepted all, struct bytes name, struct told want)
+{
+    bool exact = false, near = false;
+    for (size_t i = 0; i < all.count; i++) {
+        struct bytes one = name_at(b, all.starts[i]);
+        exact |= equal(one, name);
+        near |= in_bit_5_alone(one, name);
+    }
+    if (want.status == 13)
+        return near ? NEAR_CASE : FINDS;
+    if (want.status != VINDASKOT_DONE || equal(name_at(b, (size_t)want.answer[0]), name))
+        return FINDS;
+    return exact ? EARLIER : OTHER_CASE;
+}
+
+/* A name, without an index and through one; `indexed` where that index is the whole of them in order. */
+static void try_name(struct bytes b, struct bytes index, struct bytes from, struct accepted all, bool indexed)
+{
+    struct bytes name = lay(NAME, from);
+    struct told found = call_find(b, name), through = call_find_indexed(b, index, name), want = model_find(b, name);
+    SAME(finding_group(b, all, name, want), found, want);
     SAME(FINDS, through, model_find_indexed(b, index, name));
     if (indexed)
         CHECK(FINDS, found.status == through.status && found.answer[0] == through.answer[0],
               "found with status %u at %llu, through the index with %u at %llu", (unsigned)found.status,
               (unsigned long long)found.answer[0], (unsigned)through.status, (unsigned long long)through.answer[0]);
+    CHECK(INPUTS, equal(name, from), "a name that was asked for was changed");
+}
+
+/* A name in cases at random, and then a byte of it changed that has no case. */
+static void try_cases(struct bytes b, struct bytes index, struct bytes name, struct accepted all, bool indexed)
+{
+    static uint8_t changed[BUFFER];
+    struct room other = {changed, name.len};
+    memcpy(changed, name.at, name.len);
+    recase(other);
+    try_name(b, index, (struct bytes){changed, name.len}, all, indexed);
+    if (one_in(2))
+        memcpy(changed, name.at, name.len);
+    miss_case(other);
+    try_name(b, index, (struct bytes){changed, name.len}, all, indexed);
+}
+
+/* The same starts, the last first. */
+static struct bytes reversed(struct accepted all)
+{
+    static uint32_t slots[BUFFER];
+    for (size_t i = 0; i < all.count; i++)
+        slots[i] = all.starts[all.count - 1 - i];
+    return lay(SLOTS, (struct bytes){(const uint8_t *)slots, 4 * all.count});
 }
 
 static struct bytes try_index(struct bytes b, struct told want, const uint32_t *starts)
@@ -271,21 +346,27 @@ static struct bytes try_index(struct bytes b, struct told want, const uint32_t *
     return lay(SLOTS, (struct bytes){out.at, out.len});
 }
 
+/* A zero claim refuses the index and not the names before it: they are asked for too, through slots of their own. */
 static void try_finds(struct bytes b, struct bytes other)
 {
     static uint32_t starts[BUFFER];
     uint32_t odd[5] = {(uint32_t)any(), (uint32_t)below(b.len + 9), (uint32_t)below(b.len + 9), 0, UINT32_MAX};
     struct told want = model_index(b, starts);
     bool indexed = want.status == VINDASKOT_DONE;
-    struct bytes index = try_index(b, want, starts);
-    for (uint64_t i = 0; indexed && i < want.answer[0] && i < 3; i++) {
-        struct bytes name = part(b, starts[i] + 30, (size_t)number_at(b, starts[i] + 24, 2));
-        try_name(b, index, lay(NAME, name), true);
-        try_name(b, lay(SLOTS, (struct bytes){(const uint8_t *)odd, sizeof odd}), lay(NAME, name), false);
-        index = lay(SLOTS, (struct bytes){(const uint8_t *)starts, 4 * (size_t)want.answer[0]});
+    struct accepted all = {starts, indexed ? (size_t)want.answer[0] : before_zero(b)};
+    struct bytes index = try_index(b, want, starts), slots = {(const uint8_t *)starts, 4 * all.count};
+    if (!indexed)
+        index = lay(SLOTS, slots);
+    for (size_t i = 0; i < all.count && i < 3; i++) {
+        struct bytes name = name_at(b, starts[i]);
+        try_name(b, index, name, all, indexed);
+        try_cases(b, index, name, all, indexed);
+        try_name(b, lay(SLOTS, (struct bytes){(const uint8_t *)odd, sizeof odd}), name, all, false);
+        try_name(b, reversed(all), name, all, false);
+        index = lay(SLOTS, slots);
     }
-    try_name(b, index, lay(NAME, other), indexed);
-    try_name(b, index, lay(NAME, part(other, 0, 0)), indexed);
+    try_name(b, index, other, all, indexed);
+    try_name(b, index, part(other, 0, 0), all, indexed);
 }
 
 /* ---- Text ---- */
@@ -565,11 +646,11 @@ static void make_case(size_t kind)
     case 1: make_symbol(&input); break;
     case 2: make_field(&input); break;
     case 3: make_records(&input); break;
-    case 4:
-    case 5: make_upload(&input); break;
+    case 4: make_upload(&input); break;
+    case 5: make_family(&input); break;
     default: make_text(&input);
     }
-    if (kind > 0 && !one_in(4))
+    if (kind > 0 && kind != 5 && !one_in(4))
         damage(&input, kind == 2 ? 42 : 30);
 }
 

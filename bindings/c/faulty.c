@@ -2,7 +2,7 @@
  *
  *   cc -DFAULT=n -c faulty.c       then linked with --wrap for each function that this defines as __wrap_...
  *
- * tools/c-tests builds and runs each, and demands that boundary fails.
+ * tools/c-tests builds and runs each, and demands that boundary fails; with number 0, a control, it must pass.
  */
 #include <string.h>
 
@@ -20,6 +20,63 @@ static bool begins(const uint8_t *bytes, const uint64_t *slots, const uint8_t *w
     while (len > 0 && ((bytes[slots[VINDASKOT_ATTRIBUTE_NAME] + len - 1] ^ with[len - 1]) & mask) == 0)
         len--;
     return len == 0;
+}
+#endif
+
+#if FAULT == 0 || (FAULT > 22 && FAULT < 34) || FAULT > 37
+/* Whether two names of a length are the same at a place, as a fault has it. */
+static bool same(const uint8_t *own, const uint8_t *asked, size_t place, size_t len);
+
+static bool as_long(size_t own, size_t asked)
+{
+    return own == asked || (FAULT == 39 && own > asked && own % 256 == asked % 256);
+}
+
+static bool has_name(const uint8_t *bytes, size_t bytes_len, size_t at, const uint8_t *name, size_t name_len)
+{
+    size_t place = 0;
+    if (bytes_len < 30 || at > bytes_len - 30 || bytes_len - at - 30 < name_len ||
+        !as_long((size_t)(bytes[at + 24] | bytes[at + 25] << 8), name_len))
+        return false;
+    while (place < name_len && same(bytes + at + 30, name, place, name_len))
+        place++;
+    return place == name_len;
+}
+
+/* Finding as it has to be, but for `same`, for what two of the faults make of a refused entry and for a length that one
+ * takes for another. */
+static uint32_t search(const uint8_t *bytes, size_t bytes_len, bool indexed, const uint32_t *slots, size_t slots_len,
+                       const uint8_t *name, size_t name_len, uint64_t *answer)
+{
+    uint64_t entry[VINDASKOT_SYMBOL_SLOTS], own[2];
+    uint8_t guid[16];
+    bool too_large = bytes_len > VINDASKOT_LIMIT;
+    answer[0] = too_large ? VINDASKOT_LIMIT : 0;
+    answer[1] = too_large ? bytes_len : 0;
+    if (too_large)
+        return 5;
+    for (size_t i = 0, at, next = 0; indexed ? i < slots_len : next < bytes_len; i++) {
+        at = next = indexed ? slots[i] : next;
+        bool accepted = vindaskot_symbol_step(bytes, bytes_len, &next, entry, guid, own) == VINDASKOT_DONE;
+        bool named = has_name(bytes, bytes_len, at, name, name_len);
+        if (named && !accepted && FAULT == 33)
+            break;
+        if (named && (accepted || FAULT == 32)) {
+            answer[0] = at;
+            return VINDASKOT_DONE;
+        }
+        answer[0] = !indexed && next == at;
+        if (answer[0] == 1)
+            return 10;
+    }
+    return 13;
+}
+#endif
+
+#if FAULT == 0 || (FAULT > 23 && FAULT != 28 && FAULT != 34 && FAULT != 35 && FAULT != 37)
+static uint8_t small(uint8_t c)
+{
+    return c >= 'A' && c <= 'Z' ? (uint8_t)(c + 32) : c;
 }
 #endif
 
@@ -282,6 +339,257 @@ uint32_t __wrap_vindaskot_symbol_attribute_named(const uint8_t *bytes, size_t by
                                                  size_t name_len, uint64_t *slots, uint64_t *answer)
 {
     return __real_vindaskot_symbol_attribute_named(bytes, bytes_len, name, name_len & 255, slots, answer);
+}
+
+#elif FAULT == 23 /* a symbol is found by the very bytes of its name alone */
+static bool same(const uint8_t *own, const uint8_t *asked, size_t place, size_t len)
+{
+    (void)len;
+    return own[place] == asked[place];
+}
+uint32_t __wrap_vindaskot_find(const uint8_t *bytes, size_t bytes_len, const uint8_t *name, size_t name_len,
+                               uint64_t *answer)
+{
+    return search(bytes, bytes_len, false, NULL, 0, name, name_len, answer);
+}
+
+#elif FAULT == 24 /* a capital asked finds a small letter, and a small one no capital */
+static bool same(const uint8_t *own, const uint8_t *asked, size_t place, size_t len)
+{
+    (void)len;
+    return own[place] == asked[place] || own[place] == small(asked[place]);
+}
+uint32_t __wrap_vindaskot_find_indexed(const uint8_t *bytes, size_t bytes_len, const uint32_t *slots, size_t slots_len,
+                                       const uint8_t *name, size_t name_len, uint64_t *answer)
+{
+    return search(bytes, bytes_len, true, slots, slots_len, name, name_len, answer);
+}
+
+#elif FAULT == 25 /* the letters begin one byte early, at 40 */
+static bool same(const uint8_t *own, const uint8_t *asked, size_t place, size_t len)
+{
+    (void)len;
+    uint8_t x = own[place], y = asked[place];
+    return small(x) == small(y) || ((x ^ y) == 0x20 && (x == '@' || y == '@'));
+}
+uint32_t __wrap_vindaskot_find(const uint8_t *bytes, size_t bytes_len, const uint8_t *name, size_t name_len,
+                               uint64_t *answer)
+{
+    return search(bytes, bytes_len, false, NULL, 0, name, name_len, answer);
+}
+
+#elif FAULT == 26 /* the letters end one byte late, at 5B */
+static bool same(const uint8_t *own, const uint8_t *asked, size_t place, size_t len)
+{
+    (void)len;
+    uint8_t x = own[place], y = asked[place];
+    return small(x) == small(y) || ((x ^ y) == 0x20 && (x == '[' || y == '['));
+}
+uint32_t __wrap_vindaskot_find_indexed(const uint8_t *bytes, size_t bytes_len, const uint32_t *slots, size_t slots_len,
+                                       const uint8_t *name, size_t name_len, uint64_t *answer)
+{
+    return search(bytes, bytes_len, true, slots, slots_len, name, name_len, answer);
+}
+
+#elif FAULT == 27 /* accented letters, C0 to DE, have cases too */
+static bool same(const uint8_t *own, const uint8_t *asked, size_t place, size_t len)
+{
+    (void)len;
+    uint8_t x = own[place], y = asked[place], least = x < y ? x : y;
+    return small(x) == small(y) || ((x ^ y) == 0x20 && least >= 0xC0 && least <= 0xDE);
+}
+uint32_t __wrap_vindaskot_find(const uint8_t *bytes, size_t bytes_len, const uint8_t *name, size_t name_len,
+                               uint64_t *answer)
+{
+    return search(bytes, bytes_len, false, NULL, 0, name, name_len, answer);
+}
+
+#elif FAULT == 28 /* the case bit of any byte is passed over */
+static bool same(const uint8_t *own, const uint8_t *asked, size_t place, size_t len)
+{
+    (void)len;
+    return ((own[place] ^ asked[place]) & 0xDF) == 0;
+}
+uint32_t __wrap_vindaskot_find_indexed(const uint8_t *bytes, size_t bytes_len, const uint32_t *slots, size_t slots_len,
+                                       const uint8_t *name, size_t name_len, uint64_t *answer)
+{
+    return search(bytes, bytes_len, true, slots, slots_len, name, name_len, answer);
+}
+
+#elif FAULT == 29 /* names of 16 bytes and more have their cases told apart */
+static bool same(const uint8_t *own, const uint8_t *asked, size_t place, size_t len)
+{
+    return own[place] == asked[place] || (len < 16 && small(own[place]) == small(asked[place]));
+}
+uint32_t __wrap_vindaskot_find(const uint8_t *bytes, size_t bytes_len, const uint8_t *name, size_t name_len,
+                               uint64_t *answer)
+{
+    return search(bytes, bytes_len, false, NULL, 0, name, name_len, answer);
+}
+
+#elif FAULT == 30 /* of a name in blocks of 16 bytes from its end, what is left at its start is not compared */
+static bool same(const uint8_t *own, const uint8_t *asked, size_t place, size_t len)
+{
+    return small(own[place]) == small(asked[place]) || (len > 16 && place < len % 16);
+}
+uint32_t __wrap_vindaskot_find_indexed(const uint8_t *bytes, size_t bytes_len, const uint32_t *slots, size_t slots_len,
+                                       const uint8_t *name, size_t name_len, uint64_t *answer)
+{
+    return search(bytes, bytes_len, true, slots, slots_len, name, name_len, answer);
+}
+
+#elif FAULT == 31 /* a letter is told by its low seven bits */
+static bool same(const uint8_t *own, const uint8_t *asked, size_t place, size_t len)
+{
+    (void)len;
+    uint8_t x = own[place], y = asked[place];
+    return small(x) == small(y) || ((x ^ y) == 0x20 && small(x & 0x7F) == small(y & 0x7F));
+}
+uint32_t __wrap_vindaskot_find(const uint8_t *bytes, size_t bytes_len, const uint8_t *name, size_t name_len,
+                               uint64_t *answer)
+{
+    return search(bytes, bytes_len, false, NULL, 0, name, name_len, answer);
+}
+
+#elif FAULT == 32 /* an entry that is refused is found by its name */
+static bool same(const uint8_t *own, const uint8_t *asked, size_t place, size_t len)
+{
+    (void)len;
+    return small(own[place]) == small(asked[place]);
+}
+uint32_t __wrap_vindaskot_find(const uint8_t *bytes, size_t bytes_len, const uint8_t *name, size_t name_len,
+                               uint64_t *answer)
+{
+    return search(bytes, bytes_len, false, NULL, 0, name, name_len, answer);
+}
+
+#elif FAULT == 33 /* a slot of a refused entry that has the name ends the search */
+static bool same(const uint8_t *own, const uint8_t *asked, size_t place, size_t len)
+{
+    (void)len;
+    return small(own[place]) == small(asked[place]);
+}
+uint32_t __wrap_vindaskot_find_indexed(const uint8_t *bytes, size_t bytes_len, const uint32_t *slots, size_t slots_len,
+                                       const uint8_t *name, size_t name_len, uint64_t *answer)
+{
+    return search(bytes, bytes_len, true, slots, slots_len, name, name_len, answer);
+}
+
+#elif FAULT == 34 /* where the first symbol of a name has it in another case, the last one is found */
+uint32_t __real_vindaskot_find(const uint8_t *, size_t, const uint8_t *, size_t, uint64_t *);
+uint32_t __wrap_vindaskot_find(const uint8_t *bytes, size_t bytes_len, const uint8_t *name, size_t name_len,
+                               uint64_t *answer)
+{
+    uint64_t slots[VINDASKOT_SYMBOL_SLOTS], own[2];
+    uint8_t guid[16];
+    uint32_t status = __real_vindaskot_find(bytes, bytes_len, name, name_len, answer);
+    if (status != VINDASKOT_DONE || name_len == 0 || memcmp(bytes + answer[0] + 30, name, name_len) == 0)
+        return status;
+    for (size_t next = (size_t)answer[0];;) {
+        (void)vindaskot_symbol_step(bytes, bytes_len, &next, slots, guid, own);
+        if (__real_vindaskot_find(bytes + next, bytes_len - next, name, name_len, own) != VINDASKOT_DONE)
+            return status;
+        next += (size_t)own[0];
+        answer[0] = next;
+    }
+}
+
+#elif FAULT == 35 /* the very bytes asked are found before an earlier slot's name in another case */
+uint32_t __real_vindaskot_find_indexed(const uint8_t *, size_t, const uint32_t *, size_t, const uint8_t *, size_t,
+                                       uint64_t *);
+uint32_t __wrap_vindaskot_find_indexed(const uint8_t *bytes, size_t bytes_len, const uint32_t *slots, size_t slots_len,
+                                       const uint8_t *name, size_t name_len, uint64_t *answer)
+{
+    uint64_t own[2];
+    uint32_t status = __real_vindaskot_find_indexed(bytes, bytes_len, slots, slots_len, name, name_len, answer);
+    if (status != VINDASKOT_DONE || name_len == 0)
+        return status;
+    for (size_t i = 0; i < slots_len; i++)
+        if (__real_vindaskot_find_indexed(bytes, bytes_len, slots + i, 1, name, name_len, own) == VINDASKOT_DONE &&
+            memcmp(bytes + slots[i] + 30, name, name_len) == 0) {
+            answer[0] = slots[i];
+            break;
+        }
+    return status;
+}
+
+#elif FAULT == 36 /* an attribute is found by its name in another case of A to Z, as a symbol is */
+uint32_t __real_vindaskot_symbol_attribute_named(const uint8_t *, size_t, const uint8_t *, size_t, uint64_t *,
+                                                 uint64_t *);
+uint32_t __wrap_vindaskot_symbol_attribute_named(const uint8_t *bytes, size_t bytes_len, const uint8_t *name,
+                                                 size_t name_len, uint64_t *slots, uint64_t *answer)
+{
+    uint64_t one[VINDASKOT_ATTRIBUTE_SLOTS], own[2];
+    uint32_t status = __real_vindaskot_symbol_attribute_named(bytes, bytes_len, name, name_len, slots, answer);
+    for (size_t i = 0; status == 13 && i < 99; i++) {
+        size_t place = 0;
+        if (vindaskot_symbol_attribute(bytes, bytes_len, i, one, own) != VINDASKOT_DONE)
+            break;
+        const uint8_t *at = bytes + one[VINDASKOT_ATTRIBUTE_NAME];
+        while (place < name_len && place < one[VINDASKOT_ATTRIBUTE_NAME_LEN] && small(at[place]) == small(name[place]))
+            place++;
+        if (place == name_len && place == one[VINDASKOT_ATTRIBUTE_NAME_LEN]) {
+            memcpy(slots, one, sizeof one);
+            status = VINDASKOT_DONE;
+        }
+    }
+    return status;
+}
+
+#elif FAULT == 37 /* a name in another case before a claim of zero is refused as one behind it is */
+uint32_t __real_vindaskot_find(const uint8_t *, size_t, const uint8_t *, size_t, uint64_t *);
+uint32_t __wrap_vindaskot_find(const uint8_t *bytes, size_t bytes_len, const uint8_t *name, size_t name_len,
+                               uint64_t *answer)
+{
+    size_t cursor = 0, steps;
+    uint64_t own[2];
+    uint32_t status = __real_vindaskot_find(bytes, bytes_len, name, name_len, answer);
+    if (status != VINDASKOT_DONE || name_len == 0 || memcmp(bytes + answer[0] + 30, name, name_len) == 0 ||
+        vindaskot_walk(bytes, bytes_len, SIZE_MAX, &cursor, &steps, own) != 10)
+        return status;
+    answer[0] = 1;
+    return 10;
+}
+
+#elif FAULT == 38 /* of names of more than 64 bytes one byte is not compared */
+static bool same(const uint8_t *own, const uint8_t *asked, size_t place, size_t len)
+{
+    return small(own[place]) == small(asked[place]) || (len > 64 && place == 20);
+}
+uint32_t __wrap_vindaskot_find(const uint8_t *bytes, size_t bytes_len, const uint8_t *name, size_t name_len,
+                               uint64_t *answer)
+{
+    return search(bytes, bytes_len, false, NULL, 0, name, name_len, answer);
+}
+
+#elif FAULT == 39 /* a longer name whose length agrees in its last byte is found by its start */
+static bool same(const uint8_t *own, const uint8_t *asked, size_t place, size_t len)
+{
+    (void)len;
+    return small(own[place]) == small(asked[place]);
+}
+uint32_t __wrap_vindaskot_find_indexed(const uint8_t *bytes, size_t bytes_len, const uint32_t *slots, size_t slots_len,
+                                       const uint8_t *name, size_t name_len, uint64_t *answer)
+{
+    return search(bytes, bytes_len, true, slots, slots_len, name, name_len, answer);
+}
+
+#elif FAULT == 0
+/* No fault but a control: the search that 23 to 33, 38 and 39 share, with the right comparison. */
+static bool same(const uint8_t *own, const uint8_t *asked, size_t place, size_t len)
+{
+    (void)len;
+    return small(own[place]) == small(asked[place]);
+}
+uint32_t __wrap_vindaskot_find(const uint8_t *bytes, size_t bytes_len, const uint8_t *name, size_t name_len,
+                               uint64_t *answer)
+{
+    return search(bytes, bytes_len, false, NULL, 0, name, name_len, answer);
+}
+uint32_t __wrap_vindaskot_find_indexed(const uint8_t *bytes, size_t bytes_len, const uint32_t *slots, size_t slots_len,
+                                       const uint8_t *name, size_t name_len, uint64_t *answer)
+{
+    return search(bytes, bytes_len, true, slots, slots_len, name, name_len, answer);
 }
 
 #else

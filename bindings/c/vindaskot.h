@@ -24,8 +24,9 @@
  * Places
  *   A name, a value and the like are told as a place and a length: bytes + place, length bytes. After a read they
  *   count from the bytes given. After a step they count from the start of the entry: the cursor before the step.
- *   Strings are Windows-1252 (vindaskot_decode makes UTF-8), and their length has no end byte in it. The place of the
- *   first of no records (a count of 0) is nothing to look at: in a field it may lie past the entry.
+ *   Strings are Windows-1252 (vindaskot_decode makes UTF-8) and stand as they were sent; their length has no end byte
+ *   in it. The place of the first of no records (a count of 0) is nothing to look at: in a field it may lie past the
+ *   entry.
  *
  * Refusals: number, meaning, answer[0] (expected) and answer[1] (got)
  *    1  unexpected length                               needed, present
@@ -281,12 +282,15 @@ uint32_t vindaskot_field_write(uint32_t version, uint32_t hash_value, uint32_t t
 uint32_t vindaskot_index_build(const uint8_t *bytes, size_t bytes_len, uint32_t *slots,
                                size_t slots_len, uint64_t answer[VINDASKOT_AT_LEAST 2]);
 
-/* answer[0]: where the first accepted symbol of that name starts. The name is Windows-1252, compared byte for byte.
+/* answer[0]: where the first accepted symbol of that name starts. The name is Windows-1252. A to Z equal a to z, in the
+ * name asked and in the symbol's; every other byte, accented letters too, equals only itself. Of several symbols that
+ * have the name, the first in the upload is answered, also where a later one has the very bytes asked.
  * Refusals: 5, 10, 13. */
 uint32_t vindaskot_find(const uint8_t *bytes, size_t bytes_len, const uint8_t *name, size_t name_len,
                         uint64_t answer[VINDASKOT_AT_LEAST 2]);
 
-/* The same through an index, of which slots_len slots are used. Refusals: 5, 13. */
+/* The same through an index, of which slots_len slots are used: the names are compared likewise, and of several symbols
+ * that have the name the first in slot order is answered. Refusals: 5, 13. */
 uint32_t vindaskot_find_indexed(const uint8_t *bytes, size_t bytes_len, const uint32_t *slots,
                                 size_t slots_len, const uint8_t *name, size_t name_len,
                                 uint64_t answer[VINDASKOT_AT_LEAST 2]);

@@ -62,11 +62,13 @@ fn windows_1252(argument: &OsStr) -> Result<Vec<u8>, Failure> {
     })
 }
 
-/// That no symbol has a name, and which one differs in case alone: a controller's own tools do not tell cases apart.
+/// That no symbol has a name, and which one differs in the case of accented letters: whoever types a name in another
+/// case does not expect that these alone are told apart.
 fn no_symbol(bytes: &[u8], asked: &[u8]) -> String {
     let accepted = entries(bytes).filter_map(|(_, entry)| entry.ok());
     let mut names = accepted.map(|symbol| symbol.name());
-    let alike = names.find(|name| name.eq_ignore_ascii_case(asked));
+    let small = exact(asked).to_lowercase();
+    let alike = names.find(|name| exact(name).to_lowercase() == small);
     let asked = shown(asked);
     match alike {
         Some(name) => format!("no symbol is {asked}, but one is {}", shown(name)),

@@ -102,6 +102,43 @@ fn the_first_of_two() {
     session.hold("two.txt");
 }
 
+/// Also where the names differ in case alone, and the later one is what was typed.
+#[test]
+fn the_first_of_two_cases() {
+    let entries = [
+        symbol(b"MAIN.a", b"LREAL", 0, &[(b"End", b"1")]),
+        symbol(b"MAIN.A", b"REAL", 8, &[(b"End", b"2"), (b"END", b"3")]),
+    ];
+    let upload = entries.concat();
+    let mut session = Session::new(repository());
+    for name in ["MAIN.a", "MAIN.A", "main.A"] {
+        session.run_on(&["find", "-", name], &upload);
+    }
+    session.run_on(&["find", "-", "MAIN.A", "End"], &upload);
+    session.run_on(&["find", "-", "MAIN.A", "END"], &upload);
+    session.run_on(&["show", "-", "MAIN.A"], &upload);
+    session.hold("two-cases.txt");
+}
+
+/// The case of A to Z is all that may differ. Who typed another case of an accented letter is told what there is.
+#[test]
+fn accented_letters_in_another_case() {
+    let small = symbol(b"MAIN.f\xFCr", b"LREAL", 0, &[]);
+    let capital = symbol(b"MAIN.F\xDCR", b"REAL", 8, &[]);
+    let other = symbol(b"MAIN.\x8A\x9F\xD7", b"INT", 16, &[]);
+    let mut session = Session::new(repository());
+    let alone = [&capital[..], &other].concat();
+    for name in ["main.fÜr", "MAIN.FüR", "MAIN.FUR", "MAIN.šÿ×", "MAIN.šÿ÷"] {
+        session.run_on(&["find", "-", name], &alone);
+    }
+    let both = [&small[..], &capital].concat();
+    for name in ["MAIN.FüR", "main.fÜr"] {
+        session.run_on(&["find", "-", name], &both);
+    }
+    session.run_on(&["show", "-", "MAIN.fÜR"], &both);
+    session.hold("accents.txt");
+}
+
 /// Columns stay in line beside umlauts, a euro and controls, which must not reach a terminal.
 #[test]
 fn widths_of_names() {

@@ -40,6 +40,20 @@ fn everything_of_a_symbol() {
     both("show.txt", &["show"], &["MAIN.stLens"]);
 }
 
+/// Whatever case a name is typed in, what is printed is the upload's own.
+#[test]
+fn names_in_any_case() {
+    let mut session = Session::new(repository());
+    session.run(&["find", "samples/rig.bin", "MAIN.STLENS"]);
+    session.run(&["find", "samples/rig.hex", "main.stlens.atable"]);
+    session.run(&["find", "samples/rig.bin", "mAiN.StLeNs", "ZoomCurveEnd"]);
+    let typed = session.run(&["show", "samples/rig.bin", "MAIN.STLENS"]);
+    session.hold("any-case.txt");
+    let mut sent = Session::new(repository());
+    let sent = sent.run(&["show", "samples/rig.bin", "MAIN.stLens"]);
+    assert_eq!(typed.stdout, sent.stdout);
+}
+
 #[test]
 fn a_table() {
     both("list.txt", &["list"], &[]);
@@ -60,8 +74,8 @@ fn names_that_are_not_there() {
     let mut session = Session::new(repository());
     for words in [
         &["find", "samples/rig.bin", "MAIN.stLenz"][..],
-        &["find", "samples/rig.bin", "main.stlens"],
         &["find", "samples/rig.bin", "MAIN.stLens", "zoomcurveend"],
+        &["find", "samples/rig.bin", "main.stlens", "ZOOMCURVEEND"],
         &["find", "samples/rig.bin", "MAIN.stLens", "ZoomCurve"],
         &["find", "samples/rig.bin", "MAIN.nState", "unit"],
         &["find", "samples/rig.bin", "MAIN.Ωmega"],

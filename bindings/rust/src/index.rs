@@ -32,8 +32,8 @@ impl<'s> Index<'s> {
         self.starts
     }
 
-    /// Where the first symbol of that name starts in `data`, by the starts in order. Names are equal if their bytes
-    /// are. Refusals: 5, 13.
+    /// Where the first symbol of that name starts in `data`, by the starts in order. Names are compared as [`find`]
+    /// compares them. Refusals: 5, 13.
     pub fn find(&self, data: &[u8], name: &[u8]) -> Result<usize, Refusal> {
         let starts = self.starts;
         let mut answer = [0; 2];
@@ -81,6 +81,10 @@ pub fn starts_to_vec(data: &[u8]) -> Result<Vec<u32>, Refusal> {
 
 /// Where the first accepted symbol of that name starts, without an index. A match before a zero claim is answered.
 /// Refusals: 5, 10, 13.
+///
+/// A to Z equal a to z; every other byte, accented letters too, equals only itself. Of symbols whose names differ in
+/// case alone the first is answered, also where a later one has the very bytes asked. The symbol's own name, as it was
+/// sent, is [`name`](crate::AdsSymbolInfo::name) of what is read there.
 pub fn find(data: &[u8], name: &[u8]) -> Result<usize, Refusal> {
     let mut answer = [0; 2];
     // SAFETY: each pointer stands with its slice's own length; answer is lent for the call.

@@ -6,33 +6,36 @@ use native.Mathlib.Numerals.{add-one}
 use mathlib.Core.Path.{_≡_, refl, sym, ap, _∙_}
 use mathlib.Core.Bool.{Bool, true, false}
 use mathlib.Core.List.{List, [], _∷_}
-use lib.Dec.{ltb, leb}
+use lib.Dec.{ltb, leb, eqb}
 use lib.ListN.{length, drop, set, getD, drop-of-length-le}
 use lib.Seq.{drop-cons}
-use borrow.Author.Tests.{le-leb, lt-leb, lt-ltb, le-ltb, leb-false, eqb-false, eq-eqb, ne-eqb}
+use borrow.Author.Tests.{le-leb, lt-leb, lt-ltb, le-ltb, ltb-false, leb-false, eqb-true, eqb-false, eq-eqb, ne-eqb}
 use Rattle.le.specs.Le.{if_then_else_, le2, part}
 use Rattle.le.specs.Put.{put}
-use Rattle.le.proofs.Laws.{put-one, put-then}
+use Rattle.le.proofs.Laws.{put-one, put-then, length-part, le2-part, part-part, not-both}
+use Rattle.le.proofs.Same.{same-so-far}
+use Rattle.names.proofs.Laws.{other-length}
 use Rattle.refusal.specs.Refusal.{limit}
 use Rattle.refusal.specs.Writing.{Bytes, Refuse}
-use Rattle.entry.specs.Entry.{claimAt}
-use Rattle.entry.proofs.Claims.{moves-on}
+use Rattle.entry.specs.Entry.{claimAt, byMet}
+use Rattle.entry.specs.declared.Met.{Met}
+use Rattle.entry.specs.declared.Met.the-variants as met
+use Rattle.entry.proofs.Claims.{meets, moves-on}
 use Rattle.symbol.specs.Symbol.{symbolEntry, sectionsOf, infoOf, infoRecord, stringsEnd, refused}
+use Rattle.refusal.specs.declared.Refusal.{Refusal}
 use Rattle.refusal.specs.declared.Refusal.the-variants.{TooShort, EntryLengthMismatch, TooLarge, ZeroEntryLength, NameNotFound}
-use Rattle.walk.specs.Walk.{symbolStep, stepIs}
-use Rattle.walk.specs.declared.Step.{Step}
-use Rattle.walk.specs.declared.Step.the-variants as step
+use Rattle.walk.specs.Walk.{symbolStep, stepIs, finished, entry}
+use Rattle.walk.specs.Walk as walk
 use Rattle.entry.specs.Walk.{stands, stepsFrom, steps, any}
-use Rattle.index.specs.Names.{sameName}
+use Rattle.names.specs.Names.{sameName}
 use Rattle.index.specs.Steps.{byRecord, accepted, names, those}
 use Rattle.index.specs.Index.{starts, indexing, firstOf, find}
-use Rattle.index.specs.Inside.{headIs, lookAt, tallyOf}
+use Rattle.index.specs.Inside.{lookAt, longAs, tallyOf}
 use Rattle.index.specs.declared.FindAnswer.{FindAnswer}
 use Rattle.index.specs.declared.FindAnswer.the-variants.{Found, Refused}
 use Rattle.index.specs.declared.Looked.{Looked}
 use Rattle.index.specs.declared.Tally.{Tally}
 use Rattle.index.specs.declared.Tally.the-variants.{Accepted, ZeroClaim}
-use Rattle.index.specs.declared.Head.the-variants.{Entry, Other}
 
 branch : (p q : Bool) (at : ℕ) (x y : List ℕ) → (p ≡ false → q ≡ false → x ≡ y)
     → (if p then [] else at ∷ (if q then [] else x)) ≡ (if p then [] else at ∷ (if q then [] else y))
@@ -75,44 +78,118 @@ rest-from s at (suc n) h k =
 pub rest-step : (s : List ℕ) (at : ℕ) → at < length s → rest s at ≡ at ∷ (if stands s at then [] else rest s (claimAt s at .next))
 rest-step s at h = rest-from s at (length s - at) h (omega arith)
 
--- what the head of a step says of it
-module _ (l n : ℕ) where
-  entry-head : {A : Type 0} (t : Step) (f : ℕ → ℕ → A) (x : A) → headIs t ≡ Entry l n → byRecord t (λ info. f (info .length) (info .«name_len»)) x ≡ f l n
-  entry-head step.Finished f x e = let z : _≡_ {A = ℕ} 0 1 = cc in absurd (omega arith)
-  entry-head (step.Record info) f x e = cc
-  entry-head (step.Refused why) f x e = let z : _≡_ {A = ℕ} 0 1 = cc in absurd (omega arith)
-
-other-head : {A : Type 0} (t : Step) (f : ℕ → ℕ → A) (x : A) → headIs t ≡ Other → byRecord t (λ info. f (info .length) (info .«name_len»)) x ≡ x
-other-head step.Finished f x e = refl
-other-head (step.Record info) f x e = let z : _≡_ {A = ℕ} 0 1 = cc in absurd (omega arith)
-other-head (step.Refused why) f x e = refl
-
-module _ (s : List ℕ) (at : ℕ) where
-  pub entry-accepted : (l n : ℕ) → lookAt s at .head ≡ Entry l n → accepted s at ≡ true
-  unfolding accepted lookAt
-  entry-accepted l n e = entry-head l n (symbolStep s at .step) (λ l n. true) false e
-
-  pub other-refused : lookAt s at .head ≡ Other → accepted s at ≡ false
-  unfolding accepted lookAt
-  other-refused e = other-head (symbolStep s at .step) (λ l n. true) false e
-
-  pub entry-names : (name : List ℕ) (l n : ℕ) → lookAt s at .head ≡ Entry l n → names s name at ≡ sameName (part (part s at l) 30 n) name
-  unfolding names lookAt
-  entry-names name l n e = entry-head l n (symbolStep s at .step) (λ l n. sameName (part (part s at l) 30 n) name) false e
-
-  pub other-nameless : (name : List ℕ) → lookAt s at .head ≡ Other → names s name at ≡ false
-  unfolding names lookAt
-  other-nameless name e = other-head (symbolStep s at .step) (λ l n. sameName (part (part s at l) 30 n) name) false e
-
--- an entry is accepted where its header and its strings are there, whatever its sections hold
-pub light : (e : List ℕ) → headIs (stepIs (symbolEntry e .answer)) ≡ (if ltb (length e) 30 then Other else if ltb (length e) (stringsEnd e) then Other else Entry (length e) (le2 e 24))
+-- an entry is accepted where its header and its strings are there, whatever its sections hold; then its length and its name's are these
+pub light : {A : Type 0} (f : ℕ → ℕ → A) (x : A) (e : List ℕ)
+    → byRecord (stepIs (symbolEntry e .answer)) (λ info. f (info .length) (info .«name_len»)) x ≡ (if ltb (length e) 30 then x else if ltb (length e) (stringsEnd e) then x else f (length e) (le2 e 24))
 unfolding symbolEntry infoOf infoRecord
-light e = light-by (ltb (length e) 30) (ltb (length e) (stringsEnd e))
+light {A} f x e = by (ltb (length e) 30) (ltb (length e) (stringsEnd e))
   where
-    light-by : (p q : Bool) → headIs (stepIs ((if p then refused (TooShort 30 (length e)) else if q then refused (EntryLengthMismatch (stringsEnd e) (length e)) else infoOf e (sectionsOf e (stringsEnd e) (le2 e 20))) .answer)) ≡ (if p then Other else if q then Other else Entry (length e) (le2 e 24))
-    light-by true q = refl
-    light-by false true = refl
-    light-by false false = refl
+    by : (p q : Bool)
+        → byRecord (stepIs ((if p then refused (TooShort 30 (length e)) else if q then refused (EntryLengthMismatch (stringsEnd e) (length e)) else infoOf e (sectionsOf e (stringsEnd e) (le2 e 20))) .answer)) (λ info. f (info .length) (info .«name_len»)) x
+        ≡ (if p then x else if q then x else f (length e) (le2 e 24))
+    by true q = refl
+    by false true = refl
+    by false false = refl
+
+either : (t : Bool) → (if t then false else false) ≡ false
+either true = refl
+either false = refl
+
+-- the bytes from a place on, taken for an entry, have that name
+abbrev carries : List ℕ → List ℕ → ℕ → Bool
+carries s name at = if longAs s name at then sameName (part s (at + 30) (length name)) name else false
+
+-- where the name of an entry is there, the bytes at the entry's place have it
+module _ (s name : List ℕ) (at size : ℕ) (room : at + size ≤ length s) where
+  carries-own : 33 + le2 (part s at size) 24 ≤ size → sameName (part (part s at size) 30 (le2 (part s at size) 24)) name ≡ carries s name at
+  unfolding longAs
+  carries-own h =
+      let n : le2 (part s at size) 24 ≡ le2 s (at + 24) = le2-part s at size 24 (omega arith) in
+      let there : at + 30 + le2 s (at + 24) ≤ length s = omega (arith, n) in
+      ap (λ (l : List ℕ). sameName l name) (part-part s at size 30 (le2 (part s at size) 24) (omega arith)) ∙ simp (n, le-ltb (length s - at) 30 (omega arith)) (by there (eqb (le2 s (at + 24)) (length name)) refl)
+    where
+      by : at + 30 + le2 s (at + 24) ≤ length s → (t : Bool) → eqb (le2 s (at + 24)) (length name) ≡ t
+          → sameName (part s (at + 30) (le2 s (at + 24))) name ≡ (if t then sameName (part s (at + 30) (length name)) name else false)
+      by there true e = ap (λ (k : ℕ). sameName (part s (at + 30) k) name) (eqb-true (le2 s (at + 24)) (length name) e)
+      by there false e = other-length (part s (at + 30) (le2 s (at + 24))) name (λ l. eqb-false (le2 s (at + 24)) (length name) e (sym (length-part s (at + 30) (le2 s (at + 24)) there) ∙ l))
+
+  named-by : (p q : Bool) → ltb (length (part s at size)) 30 ≡ p → ltb (length (part s at size)) (stringsEnd (part s at size)) ≡ q
+      → (if p then false else if q then false else sameName (part (part s at (length (part s at size))) 30 (le2 (part s at size) 24)) name)
+      ≡ (if carries s name at then (if p then false else if q then false else true) else false)
+  named-by true q e f = sym (either (carries s name at))
+  named-by false true e f = sym (either (carries s name at))
+  named-by false false e f =
+      let l = length-part s at size room in
+      let strings : 33 + le2 (part s at size) 24 ≤ size = omega (arith, l, ltb-false (length (part s at size)) (stringsEnd (part s at size)) f) in
+      ap (λ (k : ℕ). sameName (part (part s at k) 30 (le2 (part s at size) 24)) name) l ∙ carries-own strings ∙ sym (same-so-far (carries s name at))
+
+-- a step gives a record of a name exactly where the bytes have the name and are accepted
+name-first : (s name : List ℕ) (at : ℕ) → names s name at ≡ (if carries s name at then accepted s at else false)
+unfolding names accepted symbolStep
+name-first s name at = by (claimAt s at .met) refl
+  where
+    by : (m : Met) → claimAt s at .met ≡ m
+        → byRecord (byMet m (finished (claimAt s at .next)) (λ size. entry (part s at size) (claimAt s at .next)) (λ why. walk.refused why (claimAt s at .next)) .step) (λ info. sameName (part (part s at (info .length)) 30 (info .«name_len»)) name) false
+        ≡ (if carries s name at then byRecord (byMet m (finished (claimAt s at .next)) (λ size. entry (part s at size) (claimAt s at .next)) (λ why. walk.refused why (claimAt s at .next)) .step) (λ info. true) false else false)
+    by met.Finished e = sym (either (carries s name at))
+    by (met.Refused why) e = sym (either (carries s name at))
+    by (met.Entry size) e =
+        light (λ l n. sameName (part (part s at l) 30 n) name) false (part s at size)
+        ∙ named-by s name at size (meets s at size e .room) (ltb (length (part s at size)) 30) (ltb (length (part s at size)) (stringsEnd (part s at size))) refl refl
+        ∙ ap (λ (t : Bool). if carries s name at then t else false) (sym (light (λ l n. true) false (part s at size)))
+
+-- an accepted entry moves the cursor
+module _ (s : List ℕ) (at : ℕ) where
+  moved-by : (size : ℕ) (p q : Bool) → at + size ≤ length s → ltb (length (part s at size)) 30 ≡ p → (if p then false else if q then false else true) ≡ true → 30 ≤ size
+  moved-by size true q room e h = absurd (not-both h refl)
+  moved-by size false q room e h = omega (arith, length-part s at size room, ltb-false (length (part s at size)) 30 e)
+
+  accepted-moves : accepted s at ≡ true → at < claimAt s at .next
+  unfolding accepted symbolStep
+  accepted-moves h = by (claimAt s at .met) refl h
+    where
+      by : (m : Met) → claimAt s at .met ≡ m
+          → byRecord (byMet m (finished (claimAt s at .next)) (λ size. entry (part s at size) (claimAt s at .next)) (λ why. walk.refused why (claimAt s at .next)) .step) (λ info. true) false ≡ true
+          → at < claimAt s at .next
+      by met.Finished e k = absurd (not-both k refl)
+      by (met.Refused why) e k = absurd (not-both k refl)
+      by (met.Entry size) e k =
+          let m = meets s at size e in
+          let i = moved-by size (ltb (length (part s at size)) 30) (ltb (length (part s at size)) (stringsEnd (part s at size))) (m .room) refl (sym (light (λ l n. true) false (part s at size)) ∙ k) in
+          omega (arith, m .next)
+
+module _ (s name : List ℕ) (at : ℕ) where
+  -- a place that does not move the cursor has no name
+  pub zero-nameless : claimAt s at .next ≡ at → names s name at ≡ false
+  zero-nameless z = by (accepted s at) refl
+    where
+      by : (t : Bool) → accepted s at ≡ t → names s name at ≡ false
+      by false e = name-first s name at ∙ simp e (either (carries s name at))
+      by true e = absurd (omega (arith, z, accepted-moves s at e))
+
+  -- nor has one where no entry is met
+  pub finished-nameless : claimAt s at .met ≡ met.Finished → names s name at ≡ false
+  unfolding names symbolStep
+  finished-nameless e = simp e
+
+  pub refused-nameless : (why : Refusal) → claimAt s at .met ≡ met.Refused why → names s name at ≡ false
+  unfolding names symbolStep
+  refused-nameless why e = simp e
+
+  -- nor has one whose name would be of another length; else the name decides, and then the entry
+  pub not-long : longAs s name at ≡ false → names s name at ≡ false
+  not-long h = name-first s name at ∙ simp h
+
+  pub as-long : longAs s name at ≡ true → names s name at ≡ (if sameName (part s (at + 30) (length name)) name then accepted s at else false)
+  as-long h = name-first s name at ∙ simp h
+
+  long-by : (p q : Bool) → (if p then false else q) ≡ true → p ≡ false
+  long-by true q h = absurd (not-both h refl)
+  long-by false q h = refl
+
+  pub long-room : longAs s name at ≡ true → 30 ≤ length s - at
+  unfolding longAs
+  long-room h = ltb-false (length s - at) 30 (long-by (ltb (length s - at) 30) (eqb (le2 s (at + 24)) (length name)) h)
 
 -- the inner and the public definitions, from a place on
 abbrev pub startsFrom : List ℕ → ℕ → List ℕ
@@ -153,67 +230,71 @@ module _ (s : List ℕ) (at : ℕ) (h : length s ≤ at) where
   unfolding firstOf any
   find-end name = simp (rest-end s at h)
 
--- before the end, after a look at what stands there
-module _ (s : List ℕ) (at : ℕ) (h : at < length s) (k : Looked) (e : k ≡ lookAt s at) where
-  next-is : k .next ≡ claimAt s at .next
+-- what a look at a place tells
+module _ (s : List ℕ) (at : ℕ) (k : Looked) (e : k ≡ lookAt s at) where
+  pub looked-next : k .next ≡ claimAt s at .next
   unfolding lookAt
-  next-is = ap (λ (x : Looked). x .next) e
+  looked-next = ap (λ (x : Looked). x .next) e
 
-  head-is : lookAt s at .head ≡ k .head
-  head-is = ap (λ (x : Looked). x .head) (sym e)
+  pub looked-accepted : k .accepted ≡ accepted s at
+  unfolding lookAt
+  looked-accepted = ap (λ (x : Looked). x .accepted) e
 
+-- before the end, where it is known where the next step begins
+module _ (s : List ℕ) (at : ℕ) (h : at < length s) where
   pub find-hit : (name : List ℕ) → names s name at ≡ true → findFrom s name at ≡ Found at
   unfolding firstOf
   find-hit name n = simp (rest-step s at h, n)
 
-  -- a zero claim
-  module _ (z : k .next ≡ at) where
-    standing : stands s at ≡ true
-    standing = eq-eqb _ _ (sym next-is ∙ z)
+  module _ (next : ℕ) (e : next ≡ claimAt s at .next) where
+    -- a zero claim
+    module _ (z : next ≡ at) where
+      standing : stands s at ≡ true
+      standing = eq-eqb _ _ (sym e ∙ z)
 
-    pub zero-here : zeroFrom s at ≡ true
-    unfolding any
-    zero-here = simp (rest-step s at h, standing)
+      pub zero-here : zeroFrom s at ≡ true
+      unfolding any
+      zero-here = simp (rest-step s at h, standing)
 
-    pub tally-zero : (count : ℕ) → tallyFrom s at count ≡ ZeroClaim
-    tally-zero count = simp zero-here
+      pub tally-zero : (count : ℕ) → tallyFrom s at count ≡ ZeroClaim
+      tally-zero count = simp zero-here
 
-    pub find-zero : (name : List ℕ) → names s name at ≡ false → findFrom s name at ≡ Refused ZeroEntryLength
-    unfolding firstOf any
-    find-zero name n = simp (rest-step s at h, n, standing)
+      pub find-zero : (name : List ℕ) → findFrom s name at ≡ Refused ZeroEntryLength
+      unfolding firstOf any
+      find-zero name = simp (rest-step s at h, zero-nameless s name at (sym e ∙ z), standing)
 
-  -- any other step
-  module _ (z : k .next ≡ at → ⊥) where
-    pub ahead : at < k .next
-    ahead = omega (arith, moves-on s at h, next-is, z)
+    -- any other step
+    module _ (z : next ≡ at → ⊥) where
+      pub ahead : at < next
+      ahead = omega (arith, moves-on s at h, e, z)
 
-    going : stands s at ≡ false
-    going = ne-eqb (claimAt s at .next) at (λ x. z (next-is ∙ x))
+      going : stands s at ≡ false
+      going = ne-eqb (claimAt s at .next) at (λ x. z (e ∙ x))
 
-    rest-on : rest s at ≡ at ∷ rest s (k .next)
-    rest-on = rest-step s at h ∙ simp (going, next-is)
+      rest-on : rest s at ≡ at ∷ rest s next
+      rest-on = rest-step s at h ∙ simp (going, e)
 
-    pub zero-on : zeroFrom s at ≡ zeroFrom s (k .next)
-    unfolding any
-    zero-on = simp (rest-on, going)
+      pub zero-on : zeroFrom s at ≡ zeroFrom s next
+      unfolding any
+      zero-on = simp (rest-on, going)
 
-    pub starts-entry : (l n : ℕ) → k .head ≡ Entry l n → startsFrom s at ≡ at ∷ startsFrom s (k .next)
-    unfolding those
-    starts-entry l n x = simp (rest-on, entry-accepted s at l n (head-is ∙ x))
+      pub starts-entry : accepted s at ≡ true → startsFrom s at ≡ at ∷ startsFrom s next
+      unfolding those
+      starts-entry x = simp (rest-on, x)
 
-    pub starts-other : k .head ≡ Other → startsFrom s at ≡ startsFrom s (k .next)
-    unfolding those
-    starts-other x = simp (rest-on, other-refused s at (head-is ∙ x))
+      pub starts-other : accepted s at ≡ false → startsFrom s at ≡ startsFrom s next
+      unfolding those
+      starts-other x = simp (rest-on, x)
 
-    pub tally-entry : (count l n : ℕ) → k .head ≡ Entry l n → tallyFrom s (k .next) (count + 1) ≡ tallyFrom s at count
-    tally-entry count l n x = simp (zero-on, starts-entry l n x) (ap (λ (m : ℕ). if zeroFrom s (k .next) then ZeroClaim else Accepted m) (omega arith))
+      pub tally-entry : (count : ℕ) → accepted s at ≡ true → tallyFrom s next (count + 1) ≡ tallyFrom s at count
+      tally-entry count x = simp (zero-on, starts-entry x) (ap (λ (m : ℕ). if zeroFrom s next then ZeroClaim else Accepted m) (omega arith))
 
-    pub tally-other : (count : ℕ) → k .head ≡ Other → tallyFrom s (k .next) count ≡ tallyFrom s at count
-    tally-other count x = simp (zero-on, starts-other x)
+      pub tally-other : (count : ℕ) → accepted s at ≡ false → tallyFrom s next count ≡ tallyFrom s at count
+      tally-other count x = simp (zero-on, starts-other x)
 
-    pub find-on : (name : List ℕ) → names s name at ≡ false → findFrom s name (k .next) ≡ findFrom s name at
-    unfolding firstOf any
-    find-on name n = simp (rest-on, n, going)
+      pub find-on : (name : List ℕ) → names s name at ≡ false → findFrom s name next ≡ findFrom s name at
+      unfolding firstOf any
+      find-on name n = simp (rest-on, n, going)
 
 -- a slot written, and the rest still to write
 pub put-turn : (l : List ℕ) (n a : ℕ) (xs : List ℕ) → n < length l → put (set l n a) (n + 1) xs ≡ put l n (a ∷ xs)

@@ -10,9 +10,11 @@ use borrow.Author.Tests.{leb-false, eqb-false, le-ltb}
 use Rattle.le.specs.Le.{if_then_else_, part}
 use Rattle.refusal.specs.Refusal.{limit}
 use Rattle.refusal.specs.declared.Refusal.{Refusal}
+use Rattle.refusal.specs.declared.Refusal.the-variants.{NameNotFound}
 use Rattle.entry.specs.Entry.{claimAt}
 use Rattle.entry.specs.Walk.{stands, stepsFrom, steps, any}
 use Rattle.symbol.specs.Questions.{symbolName}
+use Rattle.symbol.specs.declared.AdsSymbolInfo.{AdsSymbolInfo}
 use Rattle.walk.specs.Walk.{symbolStep}
 use Rattle.walk.specs.declared.Step.{Step}
 use Rattle.walk.specs.declared.Step.the-variants as step
@@ -20,10 +22,11 @@ use Rattle.walk.proofs.Kind.{kind}
 use Rattle.walk.proofs.Whole.{steps-read}
 use Rattle.entry.proofs.Claims.{moves-on}
 use Rattle.entry.proofs.Demand3 as walking
-use Rattle.index.specs.Names.{sameName}
+use Rattle.names.specs.Names.{sameName}
+use Rattle.names.proofs.Laws.{same-either}
 use Rattle.index.specs.Steps.{byRecord, accepted, names, those}
-use Rattle.index.specs.Index.{starts, firstOf, find}
-use Rattle.index.specs.Meaning.{Ascends, done, next, StartsAscend, named, FoundIsFirst, RefusedIsNowhere}
+use Rattle.index.specs.Index.{starts, firstOf, find, findIndexed}
+use Rattle.index.specs.Meaning.{Ascends, done, next, StartsAscend, named, Finds, FoundIsFirst, RefusedIsNowhere, AnyCase}
 use Rattle.index.specs.declared.FindAnswer.{FindAnswer}
 use Rattle.index.specs.declared.FindAnswer.the-variants.{Found, Refused}
 
@@ -100,12 +103,16 @@ small : (b : Bool) (why : Refusal) (y : FindAnswer) (at : ℕ) → (if b then Re
 small true why y at h = absurd (let u : _≡_ {A = ℕ} 0 1 = cc in omega arith)
 small false why y at h = h
 
-pub found-is-first : FoundIsFirst
-unfolding find
-found-is-first s name at h =
-    let f = small (ltb limit (length s)) _ _ at h in
-    let r = first-is (names s name) (steps s) _ at (refused (any (stands s) (steps s)) _ _ at) f in
+found : (s name places : List ℕ) (b : Bool) (large : Refusal) (other : FindAnswer) (at : ℕ) → ((other ≡ Found at) → ⊥)
+    → (if b then Refused large else firstOf (names s name) places other) ≡ Found at → Finds s name places at
+found s name places b large other at never h =
+    let r = first-is (names s name) places other at never (small b large _ at h) in
     record { before = r .0; after = r .1; among = r .2; has = sym (names-told s name at) ∙ r .3; first = sym (any-same (names s name) (named s name) (names-told s name) (r .0)) ∙ r .4 }
+
+pub found-is-first : FoundIsFirst
+unfolding find findIndexed
+found-is-first s name at =
+    (λ h. found s name (steps s) (ltb limit (length s)) _ _ at (refused (any (stands s) (steps s)) _ _ at) h, λ slots h. found s name slots (ltb limit (length s)) _ _ at (refused true _ NameNotFound at) h)
 
 -- what is not found stands nowhere
 none-is : (test : ℕ → Bool) (l : List ℕ) (other : FindAnswer) (why : Refusal) → firstOf test l other ≡ Refused why → (any test l ≡ false) × (other ≡ Refused why)
@@ -118,8 +125,35 @@ none-is test (x ∷ l) other why h = turn (none-is test l other why) (test x) h
     turn on true k = absurd (let u : _≡_ {A = ℕ} 0 1 = cc in omega arith)
     turn on false k = on k
 
+nowhere : (s name places : List ℕ) (other : FindAnswer) (why : Refusal) → firstOf (names s name) places other ≡ Refused why → any (named s name) places ≡ false
+nowhere s name places other why h = sym (any-same (names s name) (named s name) (names-told s name) places) ∙ none-is (names s name) places other why h .0
+
 pub refused-is-nowhere : RefusedIsNowhere
-unfolding find
-refused-is-nowhere s name why small h =
-    let r = none-is (names s name) (steps s) _ why (simp (le-ltb limit (length s) small) at h) in
-    sym (any-same (names s name) (named s name) (names-told s name) (steps s)) ∙ r .0
+unfolding find findIndexed
+refused-is-nowhere s name why small =
+    let t = le-ltb limit (length s) small in
+    (λ h. nowhere s name (steps s) _ why (simp t at h), λ slots h. nowhere s name slots _ why (simp t at h))
+
+-- the case that a name is typed in makes no difference
+names-either : (s name typed : List ℕ) → sameName name typed ≡ true → (at : ℕ) → names s typed at ≡ names s name at
+unfolding names
+names-either s name typed e at = by (symbolStep s at .step)
+  where
+    own : AdsSymbolInfo → List ℕ
+    own info = part (part s at (info .length)) 30 (info .«name_len»)
+
+    by : (t : Step) → byRecord t (λ info. sameName (own info) typed) false ≡ byRecord t (λ info. sameName (own info) name) false
+    by step.Finished = refl
+    by (step.Refused why) = refl
+    by (step.Record info) = sym (same-either name typed (own info) e)
+
+first-same : (f g : ℕ → Bool) → ((at : ℕ) → f at ≡ g at) → (l : List ℕ) (other : FindAnswer) → firstOf f l other ≡ firstOf g l other
+unfolding firstOf
+first-same f g h [] other = refl
+first-same f g h (x ∷ l) other = simp (h x, first-same f g h l other)
+
+pub any-case : AnyCase
+unfolding find findIndexed
+any-case s name typed e =
+    let same = first-same (names s typed) (names s name) (names-either s name typed e) in
+    (simp (same (steps s)), λ slots. simp (same slots))

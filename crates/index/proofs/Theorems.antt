@@ -22,7 +22,7 @@ use Rattle.symbol.specs.declared.AdsSymbolInfo.{AdsSymbolInfo}
 use Rattle.walk.specs.Walk.{symbolStep}
 use Rattle.walk.specs.declared.Step.{Step}
 use Rattle.walk.specs.declared.Step.the-variants as step
-use Rattle.index.specs.Names.{sameName}
+use Rattle.names.specs.Names.{sameName}
 use Rattle.index.specs.Steps.{byRecord, accepted, names, those}
 use Rattle.index.specs.Index.{starts, indexing, firstOf, find, findIndexed}
 use Rattle.index.specs.declared.FindAnswer.{FindAnswer}

@@ -10,9 +10,9 @@ use Rattle.refusal.specs.declared.Refusal.{Refusal}
 use Rattle.entry.specs.Entry.{claimAt}
 use Rattle.entry.specs.Walk.{steps, any}
 use Rattle.symbol.specs.Questions.{symbolName}
-use Rattle.index.specs.Names.{sameName}
+use Rattle.names.specs.Names.{sameName}
 use Rattle.index.specs.Steps.{accepted}
-use Rattle.index.specs.Index.{starts, find}
+use Rattle.index.specs.Index.{starts, find, findIndexed}
 use Rattle.index.specs.declared.FindAnswer.the-variants.{Found, Refused}
 
 -- each place is above the one before it, and the first is at least so large
@@ -28,17 +28,22 @@ StartsAscend = (s : List ℕ) → Ascends 0 (starts s)
 unfoldable pub named : List ℕ → List ℕ → ℕ → Bool
 named s name at = if accepted s at then sameName (symbolName (part s at (claimAt s at .next - at))) name else false
 
--- what is found is a step of the walk, has the name, and no step before it has
-pub record Finds (s name : List ℕ) (at : ℕ) : Type 0 where
+-- a place is one of some places, has the name, and none before it has
+pub record Finds (s name places : List ℕ) (at : ℕ) : Type 0 where
   pub before : List ℕ
   pub after : List ℕ
-  pub among : steps s ≡ before ++ (at ∷ after)
+  pub among : places ≡ before ++ (at ∷ after)
   pub has : named s name at ≡ true
   pub first : any (named s name) before ≡ false
 
+-- what is found is the first that has the name: of the steps of the walk, and through an index of the slots, whatever they hold
 abbrev pub FoundIsFirst : Type 0
-FoundIsFirst = (s name : List ℕ) (at : ℕ) → find s name ≡ Found at → Finds s name at
+FoundIsFirst = (s name : List ℕ) (at : ℕ) → (find s name ≡ Found at → Finds s name (steps s) at) × ((slots : List ℕ) → findIndexed s slots name ≡ Found at → Finds s name slots at)
 
--- where an upload within the limit is refused, with 13 or with 10, no step of its walk has the name
+-- where an upload within the limit is refused, with 13 or with 10, no step of its walk has the name, and through an index no slot
 abbrev pub RefusedIsNowhere : Type 0
-RefusedIsNowhere = (s name : List ℕ) (why : Refusal) → length s ≤ limit → find s name ≡ Refused why → any (named s name) (steps s) ≡ false
+RefusedIsNowhere = (s name : List ℕ) (why : Refusal) → length s ≤ limit → (find s name ≡ Refused why → any (named s name) (steps s) ≡ false) × ((slots : List ℕ) → findIndexed s slots name ≡ Refused why → any (named s name) slots ≡ false)
+
+-- a name in any case is found as in any other, without an index and through any slots
+abbrev pub AnyCase : Type 0
+AnyCase = (s name typed : List ℕ) → sameName name typed ≡ true → (find s typed ≡ find s name) × ((slots : List ℕ) → findIndexed s slots typed ≡ findIndexed s slots name)

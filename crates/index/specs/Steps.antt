@@ -7,7 +7,7 @@ use Rattle.symbol.specs.declared.AdsSymbolInfo.{AdsSymbolInfo}
 use Rattle.walk.specs.Walk.{symbolStep}
 use Rattle.walk.specs.declared.Step.{Step}
 use Rattle.walk.specs.declared.Step.the-variants as step
-use Rattle.index.specs.Names.{sameName}
+use Rattle.names.specs.Names.{sameName}
 
 abbrev pub byRecord : {A : Type 0} → Step → (AdsSymbolInfo → A) → A → A
 byRecord step.Finished on other = other

@@ -4,16 +4,14 @@ use refusal::Refusal;
 use refusal::Written;
 ghost use mathlib.Core.Path.{_≡_};
 ghost use Prim.Native.Nat.{_≤_};
-ghost use mathlib.Core.Bool.{false};
+ghost use mathlib.Core.Bool.{true, false};
 ghost use lib.ListN.{length};
 ghost use Rattle.refusal.specs.Refusal.{limit};
 ghost use Rattle.refusal.specs.Writing.{Writes};
 ghost use Rattle.entry.specs.Walk.{stands, steps, any};
 ghost use Rattle.index.specs.Steps.{names};
 ghost use Rattle.index.specs.Index.{starts, indexing, find, findIndexed};
-ghost use Rattle.index.specs.Inside.{headIs, lookAt, tallyOf};
-ghost use Rattle.symbol.specs.Symbol.{symbolEntry};
-ghost use Rattle.walk.specs.Walk.{stepIs};
+ghost use Rattle.index.specs.Inside.{accepts, lookAt, longAs, tallyOf};
 ghost use Rattle.le.specs.Put.{put};
 
 // The start of the entry that was asked for.
@@ -22,14 +20,9 @@ pub enum FindAnswer {
     Refused(Refusal),
 }
 
-// Whether a step gives a record, and then its entry's length and its name's.
-enum Head {
-    Entry { length: usize, name_len: usize },
-    Other,
-}
-
+// Whether a step gives a record, and where the next one begins.
 struct Looked {
-    head: Head,
+    accepted: bool,
     next: usize,
 }
 
@@ -38,20 +31,20 @@ enum Tally {
     ZeroClaim,
 }
 
-fn head_of(e: &[u8]) -> Head
-    ensures { λ r. ⌜ r ≡ headIs (stepIs (symbolEntry (now (e .entry)) .answer)) ⌝ }
+fn accepts(e: &[u8]) -> bool
+    ensures { λ r. ⌜ r ≡ accepts (now (e .entry)) ⌝ }
 {
     let length = e.len();
     if length < 30 {
-        return Head::Other;
+        return false;
     }
     let name_len = le::wide(le::u16_at(e, 24));
     let type_name_len = le::wide(le::u16_at(e, 26));
     let comment_len = le::wide(le::u16_at(e, 28));
     if length < 33 + name_len + type_name_len + comment_len {
-        return Head::Other;
+        return false;
     }
-    Head::Entry { length, name_len }
+    true
 }
 
 fn look_at(bytes: &[u8], at: usize) -> Looked
@@ -62,32 +55,40 @@ fn look_at(bytes: &[u8], at: usize) -> Looked
     let next = claimed.next;
     match met {
         Met::Entry(size) => Looked {
-            head: head_of(le::part_of(bytes, at, size)),
+            accepted: accepts(le::part_of(bytes, at, size)),
             next,
         },
         Met::Finished => Looked {
-            head: Head::Other,
+            accepted: false,
             next,
         },
         Met::Refused(_) => Looked {
-            head: Head::Other,
+            accepted: false,
             next,
         },
     }
 }
 
-// Whether the entry of that head at a place has the name asked for.
-fn named(bytes: &[u8], at: usize, head: Head, name: &[u8]) -> bool
-    requires { ⌜ head ≡ lookAt (now bytes) at .head ⌝ }
+// A first look, which settles most places: small, so that the compiler puts it into the loops.
+fn long_as(bytes: &[u8], at: usize, name: &[u8]) -> bool
+    ensures { λ r. ⌜ r ≡ longAs (now (bytes .entry)) (now (name .entry)) at ⌝ }
+{
+    if le::room(bytes.len(), at) < 30 {
+        return false;
+    }
+    le::wide(le::u16_at(bytes, at + 24)) == name.len()
+}
+
+// Whether the entry at a place has the name asked for, which is as long as its own. The rest of it is looked at only where it has.
+fn named(bytes: &[u8], at: usize, name: &[u8]) -> bool
+    requires { ⌜ longAs (now bytes) (now name) at ≡ true ⌝ }
     ensures { λ r. ⌜ r ≡ names (now (bytes .entry)) (now (name .entry)) at ⌝ }
 {
-    match head {
-        Head::Entry { length, name_len } => {
-            let e = le::part_of(bytes, at, length);
-            le::same_bytes(le::part_of(e, 30, name_len), name)
-        }
-        Head::Other => false,
+    if names::same_name(bytes, at + 30, name) {
+        let looked = look_at(bytes, at);
+        return looked.accepted;
     }
+    false
 }
 
 fn count_accepted(bytes: &[u8]) -> Tally
@@ -97,20 +98,14 @@ fn count_accepted(bytes: &[u8]) -> Tally
     let mut count = 0;
     while at < bytes.len() {
         let looked = look_at(bytes, at);
-        let head = looked.head;
+        let accepted = looked.accepted;
         let next = looked.next;
         if next == at {
             return Tally::ZeroClaim;
         }
         at = next;
-        match head {
-            Head::Entry {
-                length: _,
-                name_len: _,
-            } => {
-                count = count + 1;
-            }
-            Head::Other => {}
+        if accepted {
+            count = count + 1;
         }
     }
     Tally::Accepted(count)
@@ -125,22 +120,16 @@ fn write_starts(bytes: &[u8], slots: &mut [u32])
     let mut count = 0;
     while at < bytes.len() {
         let looked = look_at(bytes, at);
-        let head = looked.head;
+        let accepted = looked.accepted;
         let next = looked.next;
         if next == at {
             return;
         }
         let start = at as u32;
         at = next;
-        match head {
-            Head::Entry {
-                length: _,
-                name_len: _,
-            } => {
-                slots[count] = start;
-                count = count + 1;
-            }
-            Head::Other => {}
+        if accepted {
+            slots[count] = start;
+            count = count + 1;
         }
     }
 }
@@ -175,16 +164,24 @@ pub fn find(bytes: &[u8], name: &[u8]) -> FindAnswer
     }
     let mut at = 0;
     while at < bytes.len() {
-        let looked = look_at(bytes, at);
-        let head = looked.head;
-        let next = looked.next;
-        if named(bytes, at, head, name) {
-            return FindAnswer::Found(at);
-        }
-        if next == at {
+        let here = at;
+        let claimed = entry::claim_at(bytes, here);
+        let met = claimed.met;
+        at = claimed.next;
+        if at == here {
             return FindAnswer::Refused(Refusal::ZeroEntryLength);
         }
-        at = next;
+        match met {
+            Met::Entry(_) => {
+                if long_as(bytes, here, name) {
+                    if named(bytes, here, name) {
+                        return FindAnswer::Found(here);
+                    }
+                }
+            }
+            Met::Finished => {}
+            Met::Refused(_) => {}
+        }
     }
     FindAnswer::Refused(Refusal::NameNotFound)
 }
@@ -199,12 +196,12 @@ pub fn find_indexed(bytes: &[u8], slots: &[u32], name: &[u8]) -> FindAnswer
     let mut i = 0;
     while i < slots.len() {
         let at = slots[i] as usize;
-        let looked = look_at(bytes, at);
-        let head = looked.head;
-        if named(bytes, at, head, name) {
-            return FindAnswer::Found(at);
-        }
         i += 1;
+        if long_as(bytes, at, name) {
+            if named(bytes, at, name) {
+                return FindAnswer::Found(at);
+            }
+        }
     }
     FindAnswer::Refused(Refusal::NameNotFound)
 }

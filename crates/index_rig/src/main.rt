@@ -49,12 +49,22 @@ fn name_len_of(i: usize) -> u8 {
     if i % 5 == 0 { 200 } else { 3 }
 }
 
-// Of the 40 entries of 40 bytes 17 names stand twice.
+// One letter in both cases, and two signs that differ as its cases do.
+fn letter_of(i: usize) -> u8 {
+    match i % 4 {
+        0 => b'v',
+        1 => b'V',
+        2 => b'{',
+        _ => b'[',
+    }
+}
+
+// Of the 40 entries of 40 bytes 17 numbers stand twice, each time with another letter.
 fn put_entry(rig: &mut [u8; 1600], i: usize)
     requires { ⌜ i < 40 ⌝ }
 {
     let at = i * 40;
-    let name = name_of(b'v', (i % 23) as u8);
+    let name = name_of(letter_of(i), (i % 23) as u8);
     rig[at] = claim_of(i);
     rig[at + 24] = name_len_of(i);
     rig[at + 30] = name[0];
@@ -69,10 +79,19 @@ fn find_both(rig: &[u8], slots: &[u32], name: &[u8]) {
     text(b"\n");
 }
 
+fn find_letters(rig: &[u8], slots: &[u32], n: u8)
+    requires { ⌜ n < 100 ⌝ }
+{
+    find_both(rig, slots, &name_of(b'v', n));
+    find_both(rig, slots, &name_of(b'V', n));
+    find_both(rig, slots, &name_of(b'{', n));
+    find_both(rig, slots, &name_of(b'[', n));
+}
+
 fn find_all(rig: &[u8], slots: &[u32]) {
     let mut n = 0;
     while n < 23 {
-        find_both(rig, slots, &name_of(b'v', n));
+        find_letters(rig, slots, n);
         n += 1;
     }
     find_both(rig, slots, &name_of(b'w', 0));

@@ -94,13 +94,13 @@ pub fn zero_at(s: &[u8], at: usize, n: usize) -> bool
     false
 }
 
-fn both(x: bool, y: bool) -> bool
+pub fn both(x: bool, y: bool) -> bool
     ensures { λ r. ⌜ r ≡ (if x then y else false) ⌝ }
 {
     if x { y } else { false }
 }
 
-// It looks at all bytes of slices of one length, so that the compiler takes many at once: names of a rig are short and begin alike.
+// It looks at all bytes of slices of one length, so that the compiler takes many at once.
 pub fn same_bytes(a: &[u8], b: &[u8]) -> bool
     ensures { λ r. ⌜ r ≡ sameBytes (now (a .entry)) (now (b .entry)) ⌝ }
 {

@@ -4,7 +4,7 @@ use lib.ListN.{length}
 use Rattle.index.specs.Inside.{tallyOf}
 use Prim.Native.Nat.{_-_, _≤_}
 use mathlib.Core.Path.{_≡_, _∙_, sym}
-use Rattle.index.proofs.Laws.{tallyFrom, tally-whole, tally-end, tally-zero, tally-entry, tally-other, ahead}
+use Rattle.index.proofs.Laws.{tallyFrom, tally-whole, tally-end, tally-zero, tally-entry, tally-other, ahead, looked-next, looked-accepted}
 use Rattle.index.proofs.count_accepted.Statement.{statement}
 use Rattle.index.proofs.count_accepted.Tie as tie
 
@@ -21,28 +21,22 @@ look-at-requires : tie.Need-look-at-requires Inv-loop μ-loop
 look-at-requires c κs = search needs
 
 returns : tie.Need-returns Inv-loop μ-loop
-returns c = sym (tally-zero _ _ (c .before .before .loop-test .taken) _ (c .before .look-at .ensures) (c .if1 .taken) _) ∙ c .before .before .before .loop .inv .0
-
-enum-told : tie.Need-enum-told Inv-loop μ-loop
-enum-told c = search needs
+returns c = sym (tally-zero _ _ (c .before .before .loop-test .taken) _ (looked-next _ _ _ (c .before .look-at .ensures)) (c .if1 .taken) _) ∙ c .before .before .before .loop .inv .0
 
 add-count : tie.Need-add-count Inv-loop μ-loop
 add-count c = search needs
 
 loop-less : tie.Need-loop-less Inv-loop μ-loop
-loop-less c = omega (arith, ahead _ _ (c .before .before .before .before .loop-test .taken) _ (c .before .before .before .look-at .ensures) (c .before .before .if1 .left))
+loop-less c = omega (arith, ahead _ _ (c .before .before .before .loop-test .taken) _ (looked-next _ _ _ (c .before .before .look-at .ensures)) (c .before .if1 .left))
 
 loop-again : tie.Need-loop-again Inv-loop μ-loop
-loop-again c = (tally-entry _ _ (c .before .before .before .before .loop-test .taken) _ (c .before .before .before .look-at .ensures) (c .before .before .if1 .left) _ _ _ (c .enum-told .given .1) ∙ c .before .before .before .before .before .loop .inv .0, omega (arith, ahead _ _ (c .before .before .before .before .loop-test .taken) _ (c .before .before .before .look-at .ensures) (c .before .before .if1 .left)))
-
-enum-told-2 : tie.Need-enum-told-2 Inv-loop μ-loop
-enum-told-2 c = search needs
+loop-again c = (tally-entry _ _ (c .before .before .before .loop-test .taken) _ (looked-next _ _ _ (c .before .before .look-at .ensures)) (c .before .if1 .left) _ (sym (looked-accepted _ _ _ (c .before .before .look-at .ensures)) ∙ c .if2 .taken) ∙ c .before .before .before .before .loop .inv .0, omega (arith, ahead _ _ (c .before .before .before .loop-test .taken) _ (looked-next _ _ _ (c .before .before .look-at .ensures)) (c .before .if1 .left)))
 
 loop-less-2 : tie.Need-loop-less-2 Inv-loop μ-loop
-loop-less-2 c = omega (arith, ahead _ _ (c .before .before .before .before .loop-test .taken) _ (c .before .before .before .look-at .ensures) (c .before .before .if1 .left))
+loop-less-2 c = omega (arith, ahead _ _ (c .before .before .before .loop-test .taken) _ (looked-next _ _ _ (c .before .before .look-at .ensures)) (c .before .if1 .left))
 
 loop-again-2 : tie.Need-loop-again-2 Inv-loop μ-loop
-loop-again-2 c = (tally-other _ _ (c .before .before .before .before .loop-test .taken) _ (c .before .before .before .look-at .ensures) (c .before .before .if1 .left) _ (c .enum-told2 .given .1) ∙ c .before .before .before .before .before .loop .inv .0, omega (arith, ahead _ _ (c .before .before .before .before .loop-test .taken) _ (c .before .before .before .look-at .ensures) (c .before .before .if1 .left)))
+loop-again-2 c = (tally-other _ _ (c .before .before .before .loop-test .taken) _ (looked-next _ _ _ (c .before .before .look-at .ensures)) (c .before .if1 .left) _ (sym (looked-accepted _ _ _ (c .before .before .look-at .ensures)) ∙ c .if2 .left) ∙ c .before .before .before .before .loop .inv .0, omega (arith, ahead _ _ (c .before .before .before .loop-test .taken) _ (looked-next _ _ _ (c .before .before .look-at .ensures)) (c .before .if1 .left)))
 
 returns-2 : tie.Need-returns-2 Inv-loop μ-loop
 returns-2 c = sym (tally-end _ _ (c .loop-test .left) _) ∙ c .before .loop .inv .0
@@ -56,11 +50,9 @@ count-accepted-spec =
     loop-holds
     look-at-requires
     returns
-    enum-told
     add-count
     loop-less
     loop-again
-    enum-told-2
     loop-less-2
     loop-again-2
     returns-2)

@@ -1,12 +1,12 @@
 use native.Mathlib.Omega.{arith}
 use borrow.Author.Needs.{needs}
-use Rattle.index.specs.declared.Looked.{Looked}
 use borrow.Author.Tests.{lt-ltb}
 use lib.ListN.{length}
+use Rattle.entry.specs.declared.Claimed.{Claimed}
 use Rattle.index.specs.Index.{find}
 use Prim.Native.Nat.{_-_}
 use mathlib.Core.Path.{_≡_, _∙_, sym, ap}
-use Rattle.index.proofs.Laws.{findFrom, find-whole, find-end, find-hit, find-zero, find-on, ahead}
+use Rattle.index.proofs.Laws.{findFrom, find-whole, find-end, find-hit, find-zero, find-on, ahead, finished-nameless, refused-nameless, not-long}
 use Rattle.index.proofs.find.Statement.{statement}
 use Rattle.index.proofs.find.Tie as tie
 
@@ -23,23 +23,53 @@ returns c = simp (lt-ltb _ _ (c .if1 .taken))
 loop-holds : tie.Need-loop-holds Inv-loop μ-loop
 loop-holds c = sym (find-whole _ _ (c .if1 .left))
 
-look-at-requires : tie.Need-look-at-requires Inv-loop μ-loop
-look-at-requires c κs = search needs
-
-named-requires : tie.Need-named-requires Inv-loop μ-loop
-named-requires c κs = ap (λ (x : Looked). x .head) (c .look-at .ensures)
+claim-at-requires : tie.Need-claim-at-requires Inv-loop μ-loop
+claim-at-requires c κs = search needs
 
 returns-2 : tie.Need-returns-2 Inv-loop μ-loop
-returns-2 c = sym (find-hit _ _ (c .before .before .before .loop-test .taken) _ (c .before .before .look-at .ensures) _ (sym (c .before .named .ensures) ∙ c .if2 .taken)) ∙ c .before .before .before .before .loop .inv
+returns-2 c = sym (find-zero _ _ (c .before .before .loop-test .taken) _ (ap (λ (x : Claimed). x .next) (c .before .claim-at .ensures)) (c .if2 .taken) _) ∙ c .before .before .before .loop .inv
+
+enum-told : tie.Need-enum-told Inv-loop μ-loop
+enum-told c = search needs
+
+long-as-requires : tie.Need-long-as-requires Inv-loop μ-loop
+long-as-requires c κs = search needs
+
+named-requires : tie.Need-named-requires Inv-loop μ-loop
+named-requires c κs = sym (c .before .long-as .ensures) ∙ c .if3 .taken
 
 returns-3 : tie.Need-returns-3 Inv-loop μ-loop
-returns-3 c = sym (find-zero _ _ (c .before .before .before .before .loop-test .taken) _ (c .before .before .before .look-at .ensures) (c .if3 .taken) _ (sym (c .before .before .named .ensures) ∙ c .before .if2 .left)) ∙ c .before .before .before .before .before .loop .inv
+returns-3 c = sym (find-hit _ _ (c .before .before .before .before .before .before .before .before .loop-test .taken) _ (sym (c .before .named .ensures) ∙ c .if4 .taken)) ∙ c .before .before .before .before .before .before .before .before .before .loop .inv
 
 loop-less : tie.Need-loop-less Inv-loop μ-loop
-loop-less c = omega (arith, ahead _ _ (c .before .before .before .before .loop-test .taken) _ (c .before .before .before .look-at .ensures) (c .if3 .left))
+loop-less c = omega (arith, ahead _ _ (c .before .before .before .before .before .before .before .before .loop-test .taken) _ (ap (λ (x : Claimed). x .next) (c .before .before .before .before .before .before .before .claim-at .ensures)) (c .before .before .before .before .before .before .if2 .left))
 
 loop-again : tie.Need-loop-again Inv-loop μ-loop
-loop-again c = find-on _ _ (c .before .before .before .before .loop-test .taken) _ (c .before .before .before .look-at .ensures) (c .if3 .left) _ (sym (c .before .before .named .ensures) ∙ c .before .if2 .left) ∙ c .before .before .before .before .before .loop .inv
+loop-again c = find-on _ _ (c .before .before .before .before .before .before .before .before .loop-test .taken) _ (ap (λ (x : Claimed). x .next) (c .before .before .before .before .before .before .before .claim-at .ensures)) (c .before .before .before .before .before .before .if2 .left) _ (sym (c .before .named .ensures) ∙ c .if4 .left) ∙ c .before .before .before .before .before .before .before .before .before .loop .inv
+
+loop-less-2 : tie.Need-loop-less-2 Inv-loop μ-loop
+loop-less-2 c = omega (arith, ahead _ _ (c .before .before .before .before .before .before .loop-test .taken) _ (ap (λ (x : Claimed). x .next) (c .before .before .before .before .before .claim-at .ensures)) (c .before .before .before .before .if2 .left))
+
+loop-again-2 : tie.Need-loop-again-2 Inv-loop μ-loop
+loop-again-2 c = find-on _ _ (c .before .before .before .before .before .before .loop-test .taken) _ (ap (λ (x : Claimed). x .next) (c .before .before .before .before .before .claim-at .ensures)) (c .before .before .before .before .if2 .left) _ (not-long _ _ _ (sym (c .before .long-as .ensures) ∙ c .if3 .left)) ∙ c .before .before .before .before .before .before .before .loop .inv
+
+enum-told-2 : tie.Need-enum-told-2 Inv-loop μ-loop
+enum-told-2 c = search needs
+
+loop-less-3 : tie.Need-loop-less-3 Inv-loop μ-loop
+loop-less-3 c = omega (arith, ahead _ _ (c .before .before .before .before .loop-test .taken) _ (ap (λ (x : Claimed). x .next) (c .before .before .before .claim-at .ensures)) (c .before .before .if2 .left))
+
+loop-again-3 : tie.Need-loop-again-3 Inv-loop μ-loop
+loop-again-3 c = find-on _ _ (c .before .before .before .before .loop-test .taken) _ (ap (λ (x : Claimed). x .next) (c .before .before .before .claim-at .ensures)) (c .before .before .if2 .left) _ (finished-nameless _ _ _ (sym (ap (λ (x : Claimed). x .met) (c .before .before .before .claim-at .ensures)) ∙ c .enum-told2 .given .1)) ∙ c .before .before .before .before .before .loop .inv
+
+enum-told-3 : tie.Need-enum-told-3 Inv-loop μ-loop
+enum-told-3 c = search needs
+
+loop-less-4 : tie.Need-loop-less-4 Inv-loop μ-loop
+loop-less-4 c = omega (arith, ahead _ _ (c .before .before .before .before .loop-test .taken) _ (ap (λ (x : Claimed). x .next) (c .before .before .before .claim-at .ensures)) (c .before .before .if2 .left))
+
+loop-again-4 : tie.Need-loop-again-4 Inv-loop μ-loop
+loop-again-4 c = find-on _ _ (c .before .before .before .before .loop-test .taken) _ (ap (λ (x : Claimed). x .next) (c .before .before .before .claim-at .ensures)) (c .before .before .if2 .left) _ (refused-nameless _ _ _ _ (sym (ap (λ (x : Claimed). x .met) (c .before .before .before .claim-at .ensures)) ∙ c .enum-told3 .given .1)) ∙ c .before .before .before .before .before .loop .inv
 
 returns-4 : tie.Need-returns-4 Inv-loop μ-loop
 returns-4 c = sym (find-end _ _ (c .loop-test .left) _) ∙ c .before .loop .inv
@@ -52,10 +82,20 @@ find-spec =
     μ-loop
     returns
     loop-holds
-    look-at-requires
-    named-requires
+    claim-at-requires
     returns-2
+    enum-told
+    long-as-requires
+    named-requires
     returns-3
     loop-less
     loop-again
+    loop-less-2
+    loop-again-2
+    enum-told-2
+    loop-less-3
+    loop-again-3
+    enum-told-3
+    loop-less-4
+    loop-again-4
     returns-4)

@@ -1,6 +1,5 @@
 use native.Mathlib.Omega.{arith}
 use borrow.Author.Needs.{needs}
-use Rattle.index.specs.declared.Looked.{Looked}
 use borrow.Author.Tests.{lt-ltb, le-ltb}
 use lib.ListN.{length, drop}
 use Rattle.refusal.specs.declared.Refusal.the-variants.{NameNotFound}
@@ -8,8 +7,8 @@ use Rattle.index.specs.declared.FindAnswer.the-variants.{Refused}
 use Rattle.index.specs.Steps.{names}
 use Rattle.index.specs.Index.{firstOf, findIndexed}
 use Prim.Native.Nat.{_-_}
-use mathlib.Core.Path.{_≡_, _∙_, sym, ap}
-use Rattle.index.proofs.Laws.{first-turn, first-end}
+use mathlib.Core.Path.{_≡_, _∙_, sym}
+use Rattle.index.proofs.Laws.{first-turn, first-end, not-long}
 use Rattle.index.proofs.find_indexed.Statement.{statement}
 use Rattle.index.proofs.find_indexed.Tie as tie
 
@@ -36,23 +35,29 @@ shared-slice-read-at c = search needs
 cast-at : tie.Need-cast-at Inv-loop μ-loop
 cast-at c = omega (arith, c .shared-slice-known4 .given (c .before .before .loop .i))
 
-look-at-requires : tie.Need-look-at-requires Inv-loop μ-loop
-look-at-requires c κs = search needs
-
-named-requires : tie.Need-named-requires Inv-loop μ-loop
-named-requires c κs = ap (λ (x : Looked). x .head) (c .look-at .ensures)
-
-returns-2 : tie.Need-returns-2 Inv-loop μ-loop
-returns-2 c = sym (first-turn _ _ _ _ (c .before .before .before .before .loop-test .taken) ∙ simp (← c .before .named .ensures, c .if2 .taken)) ∙ c .before .before .before .before .before .loop .inv
-
 add-i : tie.Need-add-i Inv-loop μ-loop
 add-i c = search needs
+
+long-as-requires : tie.Need-long-as-requires Inv-loop μ-loop
+long-as-requires c κs = search needs
+
+named-requires : tie.Need-named-requires Inv-loop μ-loop
+named-requires c κs = sym (c .before .long-as .ensures) ∙ c .if2 .taken
+
+returns-2 : tie.Need-returns-2 Inv-loop μ-loop
+returns-2 c = sym (first-turn _ _ _ _ (c .before .before .before .before .before .loop-test .taken) ∙ simp (← c .before .named .ensures, c .if3 .taken)) ∙ c .before .before .before .before .before .before .loop .inv
 
 loop-less : tie.Need-loop-less Inv-loop μ-loop
 loop-less c = search needs
 
 loop-again : tie.Need-loop-again Inv-loop μ-loop
-loop-again c = sym (first-turn _ _ _ _ (c .before .before .before .before .loop-test .taken) ∙ simp (← c .before .named .ensures, c .if2 .left)) ∙ c .before .before .before .before .before .loop .inv
+loop-again c = sym (first-turn _ _ _ _ (c .before .before .before .before .before .loop-test .taken) ∙ simp (← c .before .named .ensures, c .if3 .left)) ∙ c .before .before .before .before .before .before .loop .inv
+
+loop-less-2 : tie.Need-loop-less-2 Inv-loop μ-loop
+loop-less-2 c = search needs
+
+loop-again-2 : tie.Need-loop-again-2 Inv-loop μ-loop
+loop-again-2 c = sym (first-turn _ _ _ _ (c .before .before .before .loop-test .taken) ∙ simp (not-long _ _ _ (sym (c .before .long-as .ensures) ∙ c .if2 .left))) ∙ c .before .before .before .before .loop .inv
 
 returns-3 : tie.Need-returns-3 Inv-loop μ-loop
 returns-3 c = sym (first-end _ _ _ _ (c .loop-test .left)) ∙ c .before .loop .inv
@@ -68,10 +73,12 @@ find-indexed-spec =
     mul-at
     shared-slice-read-at
     cast-at
-    look-at-requires
+    add-i
+    long-as-requires
     named-requires
     returns-2
-    add-i
     loop-less
     loop-again
+    loop-less-2
+    loop-again-2
     returns-3)

@@ -7,7 +7,7 @@ use mathlib.Core.Bool.{false}
 use mathlib.Core.Path.{_≡_, _∙_, sym, ap, refl}
 use Rattle.le.proofs.Laws.{put-none}
 use Rattle.le.specs.Put.{put}
-use Rattle.index.proofs.Laws.{startsFrom, zeroFrom, whole, starts-whole, starts-end, starts-entry, starts-other, zero-here, zero-on, ahead, put-turn}
+use Rattle.index.proofs.Laws.{startsFrom, zeroFrom, whole, starts-whole, starts-end, starts-entry, starts-other, zero-here, zero-on, ahead, looked-next, looked-accepted, put-turn}
 use Rattle.le.proofs.Laws.{not-both}
 use Rattle.index.proofs.write_starts.Statement.{statement}
 use Rattle.index.proofs.write_starts.Tie as tie
@@ -28,37 +28,31 @@ same-length : tie.Need-same-length Inv-loop μ-loop
 same-length c = search needs
 
 returns : tie.Need-returns Inv-loop μ-loop
-returns c = absurd (not-both (zero-here _ _ (c .before .before .loop-test .taken) _ (c .before .look-at .ensures) (c .if1 .taken)) (c .before .before .before .loop .inv .3))
+returns c = absurd (not-both (zero-here _ _ (c .before .before .loop-test .taken) _ (looked-next _ _ _ (c .before .look-at .ensures)) (c .if1 .taken)) (c .before .before .before .loop .inv .3))
 
 cast-start : tie.Need-cast-start Inv-loop μ-loop
 cast-start c = search needs
-
-enum-told : tie.Need-enum-told Inv-loop μ-loop
-enum-told c = search needs
 
 mul-slots : tie.Need-mul-slots Inv-loop μ-loop
 mul-slots c = search needs
 
 slice-write-slots : tie.Need-slice-write-slots Inv-loop μ-loop
-slice-write-slots c = omega (arith, ap length (starts-entry _ _ (c .before .before .before .before .loop-test .taken) _ (c .before .before .before .look-at .ensures) (c .before .before .if1 .left) _ _ (c .enum-told .given .1)))
+slice-write-slots c = omega (arith, ap length (starts-entry _ _ (c .before .before .before .loop-test .taken) _ (looked-next _ _ _ (c .before .before .look-at .ensures)) (c .before .if1 .left) (sym (looked-accepted _ _ _ (c .before .before .look-at .ensures)) ∙ c .if2 .taken)))
 
 add-count : tie.Need-add-count Inv-loop μ-loop
 add-count c = search needs
 
 loop-less : tie.Need-loop-less Inv-loop μ-loop
-loop-less c = omega (arith, ahead _ _ (c .before .before .before .before .loop-test .taken) _ (c .before .before .before .look-at .ensures) (c .before .before .if1 .left))
+loop-less c = omega (arith, ahead _ _ (c .before .before .before .loop-test .taken) _ (looked-next _ _ _ (c .before .before .look-at .ensures)) (c .before .if1 .left))
 
 loop-again : tie.Need-loop-again Inv-loop μ-loop
-loop-again c = (put-turn _ _ _ _ (omega (arith, ap length (starts-entry _ _ (c .before .before .before .before .loop-test .taken) _ (c .before .before .before .look-at .ensures) (c .before .before .if1 .left) _ _ (c .enum-told .given .1)))) ∙ ap (put _ _) (sym (starts-entry _ _ (c .before .before .before .before .loop-test .taken) _ (c .before .before .before .look-at .ensures) (c .before .before .if1 .left) _ _ (c .enum-told .given .1))) ∙ c .before .before .before .before .before .loop .inv .0, simp length-set (omega (arith, ap length (starts-entry _ _ (c .before .before .before .before .loop-test .taken) _ (c .before .before .before .look-at .ensures) (c .before .before .if1 .left) _ _ (c .enum-told .given .1)))), simp length-set (c .before .before .before .before .before .loop .inv .2), sym (zero-on _ _ (c .before .before .before .before .loop-test .taken) _ (c .before .before .before .look-at .ensures) (c .before .before .if1 .left)) ∙ c .before .before .before .before .before .loop .inv .3)
-
-enum-told-2 : tie.Need-enum-told-2 Inv-loop μ-loop
-enum-told-2 c = search needs
+loop-again c = (put-turn _ _ _ _ (omega (arith, ap length (starts-entry _ _ (c .before .before .before .loop-test .taken) _ (looked-next _ _ _ (c .before .before .look-at .ensures)) (c .before .if1 .left) (sym (looked-accepted _ _ _ (c .before .before .look-at .ensures)) ∙ c .if2 .taken)))) ∙ ap (put _ _) (sym (starts-entry _ _ (c .before .before .before .loop-test .taken) _ (looked-next _ _ _ (c .before .before .look-at .ensures)) (c .before .if1 .left) (sym (looked-accepted _ _ _ (c .before .before .look-at .ensures)) ∙ c .if2 .taken))) ∙ c .before .before .before .before .loop .inv .0, simp length-set (omega (arith, ap length (starts-entry _ _ (c .before .before .before .loop-test .taken) _ (looked-next _ _ _ (c .before .before .look-at .ensures)) (c .before .if1 .left) (sym (looked-accepted _ _ _ (c .before .before .look-at .ensures)) ∙ c .if2 .taken)))), simp length-set (c .before .before .before .before .loop .inv .2), sym (zero-on _ _ (c .before .before .before .loop-test .taken) _ (looked-next _ _ _ (c .before .before .look-at .ensures)) (c .before .if1 .left)) ∙ c .before .before .before .before .loop .inv .3)
 
 loop-less-2 : tie.Need-loop-less-2 Inv-loop μ-loop
-loop-less-2 c = omega (arith, ahead _ _ (c .before .before .before .before .loop-test .taken) _ (c .before .before .before .look-at .ensures) (c .before .before .if1 .left))
+loop-less-2 c = omega (arith, ahead _ _ (c .before .before .before .loop-test .taken) _ (looked-next _ _ _ (c .before .before .look-at .ensures)) (c .before .if1 .left))
 
 loop-again-2 : tie.Need-loop-again-2 Inv-loop μ-loop
-loop-again-2 c = (ap (put _ _) (sym (starts-other _ _ (c .before .before .before .before .loop-test .taken) _ (c .before .before .before .look-at .ensures) (c .before .before .if1 .left) (c .enum-told2 .given .1))) ∙ c .before .before .before .before .before .loop .inv .0, omega (arith, ap length (starts-other _ _ (c .before .before .before .before .loop-test .taken) _ (c .before .before .before .look-at .ensures) (c .before .before .if1 .left) (c .enum-told2 .given .1))), c .before .before .before .before .before .loop .inv .2, sym (zero-on _ _ (c .before .before .before .before .loop-test .taken) _ (c .before .before .before .look-at .ensures) (c .before .before .if1 .left)) ∙ c .before .before .before .before .before .loop .inv .3)
+loop-again-2 c = (ap (put _ _) (sym (starts-other _ _ (c .before .before .before .loop-test .taken) _ (looked-next _ _ _ (c .before .before .look-at .ensures)) (c .before .if1 .left) (sym (looked-accepted _ _ _ (c .before .before .look-at .ensures)) ∙ c .if2 .left))) ∙ c .before .before .before .before .loop .inv .0, omega (arith, ap length (starts-other _ _ (c .before .before .before .loop-test .taken) _ (looked-next _ _ _ (c .before .before .look-at .ensures)) (c .before .if1 .left) (sym (looked-accepted _ _ _ (c .before .before .look-at .ensures)) ∙ c .if2 .left))), c .before .before .before .before .loop .inv .2, sym (zero-on _ _ (c .before .before .before .loop-test .taken) _ (looked-next _ _ _ (c .before .before .look-at .ensures)) (c .before .if1 .left)) ∙ c .before .before .before .before .loop .inv .3)
 
 same-length-2 : tie.Need-same-length-2 Inv-loop μ-loop
 same-length-2 c = search needs
@@ -77,13 +71,11 @@ write-starts-spec =
     same-length
     returns
     cast-start
-    enum-told
     mul-slots
     slice-write-slots
     add-count
     loop-less
     loop-again
-    enum-told-2
     loop-less-2
     loop-again-2
     same-length-2

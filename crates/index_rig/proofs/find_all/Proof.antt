@@ -12,14 +12,8 @@ abbrev μ-loop : tie.MeasureT-loop
 loop-holds : tie.Need-loop-holds Inv-loop μ-loop
 loop-holds c = search needs
 
-name-of-requires : tie.Need-name-of-requires Inv-loop μ-loop
-name-of-requires c κs = search needs
-
-slice-aggregate-find-both : tie.Need-slice-aggregate-find-both Inv-loop μ-loop
-slice-aggregate-find-both c = search needs
-
-find-both-requires : tie.Need-find-both-requires Inv-loop μ-loop
-find-both-requires c κs = search needs
+find-letters-requires : tie.Need-find-letters-requires Inv-loop μ-loop
+find-letters-requires c κs = search needs
 
 add-n : tie.Need-add-n Inv-loop μ-loop
 add-n c = search needs
@@ -30,14 +24,14 @@ loop-less c = search needs
 loop-again : tie.Need-loop-again Inv-loop μ-loop
 loop-again c = search needs
 
-name-of-requires-2 : tie.Need-name-of-requires-2 Inv-loop μ-loop
-name-of-requires-2 c κs = search needs
+name-of-requires : tie.Need-name-of-requires Inv-loop μ-loop
+name-of-requires c κs = search needs
 
-slice-aggregate-find-both-2 : tie.Need-slice-aggregate-find-both-2 Inv-loop μ-loop
-slice-aggregate-find-both-2 c = search needs
+slice-aggregate-find-both : tie.Need-slice-aggregate-find-both Inv-loop μ-loop
+slice-aggregate-find-both c = search needs
 
-find-both-requires-2 : tie.Need-find-both-requires-2 Inv-loop μ-loop
-find-both-requires-2 c κs = search needs
+find-both-requires : tie.Need-find-both-requires Inv-loop μ-loop
+find-both-requires c κs = search needs
 
 returns : tie.Need-returns Inv-loop μ-loop
 returns c = search needs
@@ -49,13 +43,11 @@ find-all-spec =
     Inv-loop
     μ-loop
     loop-holds
-    name-of-requires
-    slice-aggregate-find-both
-    find-both-requires
+    find-letters-requires
     add-n
     loop-less
     loop-again
-    name-of-requires-2
-    slice-aggregate-find-both-2
-    find-both-requires-2
+    name-of-requires
+    slice-aggregate-find-both
+    find-both-requires
     returns)
