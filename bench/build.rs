@@ -1,10 +1,20 @@
-//! Links the archive that tools/bench names.
+//! Links the archive that tools/bench names and, where BEFORE named one, an earlier archive under names of its own.
+use std::env::var;
+
+fn link(folder: &str, name: &str) {
+    println!("cargo:rerun-if-changed={folder}/lib{name}.a");
+    println!("cargo:rustc-link-search=native={folder}");
+    println!("cargo:rustc-link-lib=static={name}");
+}
 
 fn main() {
-    let folder =
-        std::env::var("VINDASKOT_ARCHIVE").expect("run tools/bench, which builds the archive");
     println!("cargo:rerun-if-env-changed=VINDASKOT_ARCHIVE");
-    println!("cargo:rerun-if-changed={folder}/libvindaskot.a");
-    println!("cargo:rustc-link-search=native={folder}");
-    println!("cargo:rustc-link-lib=static=vindaskot");
+    println!("cargo:rerun-if-env-changed=VINDASKOT_BEFORE");
+    println!("cargo:rustc-check-cfg=cfg(before)");
+    let folder = var("VINDASKOT_ARCHIVE").expect("run tools/bench, which builds the archive");
+    link(&folder, "vindaskot");
+    if let Ok(folder) = var("VINDASKOT_BEFORE") {
+        link(&folder, "before");
+        println!("cargo:rustc-cfg=before");
+    }
 }

@@ -203,33 +203,54 @@ pub fn index_build(bytes: &[u8], slots: &mut [u32]) -> usize {
     done("index_build", status, answer)
 }
 
-pub fn find(bytes: &[u8], name: &[u8]) -> usize {
+/// `vindaskot_find` of this archive, or of an earlier one.
+pub type Find =
+    unsafe extern "C" fn(*const u8, usize, *const u8, usize, answer: &mut [u64; 2]) -> u32;
+
+/// `vindaskot_find_indexed` likewise.
+pub type FindIndexed = unsafe extern "C" fn(
+    *const u8,
+    usize,
+    *const u32,
+    usize,
+    *const u8,
+    usize,
+    answer: &mut [u64; 2],
+) -> u32;
+
+pub const FIND: Find = sys::vindaskot_find;
+pub const FIND_INDEXED: FindIndexed = sys::vindaskot_find_indexed;
+
+#[cfg(before)]
+pub mod before {
+    unsafe extern "C" {
+        #[link_name = "before_vindaskot_find"]
+        pub fn find(b: *const u8, n: usize, name: *const u8, len: usize, a: &mut [u64; 2]) -> u32;
+        #[link_name = "before_vindaskot_find_indexed"]
+        pub fn find_indexed(
+            bytes: *const u8,
+            bytes_len: usize,
+            slots: *const u32,
+            slots_len: usize,
+            name: *const u8,
+            name_len: usize,
+            answer: &mut [u64; 2],
+        ) -> u32;
+    }
+}
+
+pub fn find(by: Find, bytes: &[u8], name: &[u8]) -> usize {
     let mut answer = [0; 2];
-    let status = unsafe {
-        sys::vindaskot_find(
-            bytes.as_ptr(),
-            bytes.len(),
-            name.as_ptr(),
-            name.len(),
-            &mut answer,
-        )
-    };
+    let (upload, asked) = (bytes.as_ptr(), name.as_ptr());
+    let status = unsafe { by(upload, bytes.len(), asked, name.len(), &mut answer) };
     done("find", status, answer)
 }
 
-pub fn find_indexed(bytes: &[u8], slots: &[u32], name: &[u8]) -> usize {
+pub fn find_indexed(by: FindIndexed, bytes: &[u8], slots: &[u32], name: &[u8]) -> usize {
     let mut answer = [0; 2];
-    let status = unsafe {
-        sys::vindaskot_find_indexed(
-            bytes.as_ptr(),
-            bytes.len(),
-            slots.as_ptr(),
-            slots.len(),
-            name.as_ptr(),
-            name.len(),
-            &mut answer,
-        )
-    };
+    let (upload, starts, asked) = (bytes.as_ptr(), slots.as_ptr(), name.as_ptr());
+    let (n, m, len) = (bytes.len(), slots.len(), name.len());
+    let status = unsafe { by(upload, n, starts, m, asked, len, &mut answer) };
     done("find_indexed", status, answer)
 }
 

@@ -12,6 +12,28 @@ use std::hint::black_box;
 /// Names asked in a pass.
 const PART: usize = 60;
 
+/// The rows of finding, and which of `Ways::runs` each compares.
+const ROWS: [(&str, usize, Option<usize>); 6] = [
+    (
+        "find each name (the Rust: the Vec from its start)",
+        0,
+        Some(1),
+    ),
+    ("  the same (the Rust: a HashMap, made before)", 0, Some(2)),
+    (
+        "  in capitals (the Rust: the Vec, eq_ignore_ascii_case)",
+        3,
+        Some(4),
+    ),
+    ("  without an index", 5, None),
+    ("  the first row (BEFORE in place of the Rust)", 0, Some(6)),
+    (
+        "  without an index (BEFORE in place of the Rust)",
+        5,
+        Some(7),
+    ),
+];
+
 /// What a Rust user keeps of an upload to find in it later. The iterator does not tell where an entry starts, so this is its own
 /// step.
 pub type Kept = Vec<(usize, AdsSymbolInfo)>;
@@ -56,25 +78,90 @@ pub fn stepped(upload: &[u8], name: &str) -> usize {
 }
 
 pub fn linear(kept: &Kept, name: &str) -> usize {
-    match kept.iter().find(|(_, r)| r.name() == name) {
+    start_of(kept, |own| own == name)
+}
+
+/// The same by W-201's rule, which the Rust leaves to its caller.
+fn in_any_case(kept: &Kept, name: &str) -> usize {
+    start_of(kept, |own| own.eq_ignore_ascii_case(name))
+}
+
+fn start_of(kept: &Kept, is: impl Fn(&str) -> bool) -> usize {
+    match kept.iter().find(|(_, r)| is(r.name())) {
         Some((at, _)) => *at,
         None => wrong("the Rust finds no such name"),
     }
 }
 
+/// A name of the rig as the upload has it, and as an operator types it.
+struct Asked<'a> {
+    name: &'a str,
+    typed: String,
+}
+
 /// Every name of the rig, once, in an order that is not the upload's.
-fn asked(seed: u64, rig: &Rig) -> Vec<&str> {
+fn asked(seed: u64, rig: &Rig) -> Vec<Asked<'_>> {
     let names = rig
         .symbols
         .iter()
         .map(|s| std::str::from_utf8(&s.name).unwrap());
-    let mut names: Vec<&str> = names.collect();
+    let mut names: Vec<Asked> = names
+        .map(|name| Asked {
+            name,
+            typed: name.to_ascii_uppercase(),
+        })
+        .collect();
     Dice::new(seed).shuffle(&mut names);
     names
 }
 
-fn sum_of<'a>(names: &[&'a str], find: impl Fn(&'a str) -> usize) -> u64 {
+fn sum_of<'a>(names: &'a [Asked<'a>], find: impl Fn(&'a Asked<'a>) -> usize) -> u64 {
     names.iter().map(|name| find(black_box(name)) as u64).sum()
+}
+
+/// Everything that is kept of an upload to find names in it.
+struct Ways<'a> {
+    upload: &'a [u8],
+    slots: &'a [u32],
+    kept: &'a Kept,
+    map: HashMap<&'a str, usize>,
+}
+
+impl Ways<'_> {
+    fn indexed<'a>(
+        &'a self,
+        by: c::FindIndexed,
+        names: &'a [Asked<'a>],
+        typed: bool,
+    ) -> Contender<'a> {
+        plain(move || {
+            sum_of(names, |n| {
+                let asked = if typed { &n.typed } else { n.name };
+                c::find_indexed(by, self.upload, self.slots, asked.as_bytes())
+            })
+        })
+    }
+
+    fn walked<'a>(&'a self, by: c::Find, names: &'a [Asked<'a>]) -> Contender<'a> {
+        plain(move || sum_of(names, |n| c::find(by, self.upload, n.name.as_bytes())))
+    }
+
+    /// Each way to find some names, in the order of the rows; the last are an earlier archive's, where one is linked.
+    fn runs<'a>(&'a self, names: &'a [Asked<'a>]) -> Vec<Contender<'a>> {
+        let kept = self.kept;
+        vec![
+            self.indexed(c::FIND_INDEXED, names, false),
+            plain(move || sum_of(names, |n| linear(kept, n.name))),
+            plain(move || sum_of(names, |n| self.map[n.name])),
+            self.indexed(c::FIND_INDEXED, names, true),
+            plain(move || sum_of(names, |n| in_any_case(kept, &n.typed))),
+            self.walked(c::FIND, names),
+            #[cfg(before)]
+            self.indexed(c::before::find_indexed, names, false),
+            #[cfg(before)]
+            self.walked(c::before::find, names),
+        ]
+    }
 }
 
 fn indexing(report: &Report, rig: &Rig, slots: &mut [u32]) -> [f64; 2] {
@@ -86,22 +173,26 @@ fn indexing(report: &Report, rig: &Rig, slots: &mut [u32]) -> [f64; 2] {
     [times[0].least, times[1].least]
 }
 
-/// All names by all three ways. A pass asks a part of them only, so that it is over before another program takes the core.
-fn finding(report: &Report, seed: u64, rig: &Rig, slots: &[u32]) -> [Times; 3] {
+/// All names by all ways. A pass asks a part of them only, so that it is over before another program takes the core.
+fn finding(report: &Report, seed: u64, rig: &Rig, slots: &[u32]) -> Vec<Times> {
     let upload = rig.upload.as_slice();
-    let kept = collect(upload);
-    let map: HashMap<&str, usize> = kept.iter().map(|(at, r)| (r.name(), *at)).collect();
+    let kept = &collect(upload);
+    let map = kept.iter().map(|(at, r)| (r.name(), *at)).collect();
+    let ways = Ways {
+        upload,
+        slots,
+        kept,
+        map,
+    };
     let names = asked(seed, rig);
     let parts = names.chunks(PART);
-    let allowed = report.allowed * 4 / parts.len() as u32;
-    let mut all = [Times::default(); 3];
+    let allowed = report.allowed * 8 / parts.len() as u32;
+    let mut all = vec![Times::default(); ways.runs(&[]).len()];
     for part in parts {
-        let runs = vec![
-            plain(|| sum_of(part, |name| c::find_indexed(upload, slots, name.as_bytes()))),
-            plain(|| sum_of(part, |name| linear(&kept, name))),
-            plain(|| sum_of(part, |name| map[name])),
-        ];
-        for (sum, times) in all.iter_mut().zip(race(allowed, "find each name", runs)) {
+        for (sum, times) in all
+            .iter_mut()
+            .zip(race(allowed, "find each name", ways.runs(part)))
+        {
             sum.least += times.least;
             sum.median += times.median;
         }
@@ -113,21 +204,18 @@ pub fn rows(report: &mut Report, seed: u64, what: &str, rig: &Rig) {
     report.heading(what, "ns an entry, ns a find");
     let mut slots = vec![0; rig.symbols.len()];
     let indexed = indexing(report, rig, &mut slots);
-    let [ours, vec, map] = finding(report, seed, rig, &slots);
+    let times = finding(report, seed, rig, &slots);
     let finds = rig.symbols.len();
-    report.row(
-        "find each name (the Rust: the Vec from its start)",
-        finds,
-        ours,
-        vec,
-    );
-    report.row(
-        "  the same (the Rust: a HashMap, made before)",
-        finds,
-        ours,
-        map,
-    );
-    let (ours, theirs) = (indexed[0] + ours.least, indexed[1] + vec.least);
+    for (row, ours, theirs) in ROWS {
+        match theirs.map(|n| times.get(n)) {
+            None => report.alone(row, finds, times[ours]),
+            Some(Some(theirs)) => {
+                report.row(row, finds, times[ours], *theirs);
+            }
+            Some(None) => {}
+        }
+    }
+    let (ours, theirs) = (indexed[0] + times[0].least, indexed[1] + times[1].least);
     report.goals.index_and_finds.push((what.into(), ours));
     report.say(&format!(
         "index and {finds} finds together: {ours:.3} s, the Rust {theirs:.3} s"

@@ -74,10 +74,10 @@ fn finding(report: &Report, rig: &Rig) -> [Line; 3] {
     let kept = collect(upload);
     let last = &rig.symbols[rig.symbols.len() - 1].name;
     let name = std::str::from_utf8(last).unwrap();
-    let ours = plain(|| c::find_indexed(upload, &slots, black_box(last)) as u64);
+    let ours = plain(|| c::find_indexed(c::FIND_INDEXED, upload, &slots, black_box(last)) as u64);
     let theirs = plain(|| linear(&kept, black_box(name)) as u64);
     let found = timed(report, "find the last, index", rig, ours, theirs);
-    let ours = plain(|| c::find(upload, black_box(last)) as u64);
+    let ours = plain(|| c::find(c::FIND, upload, black_box(last)) as u64);
     let theirs = plain(|| stepped(upload, black_box(name)) as u64);
     let sought = timed(report, "find the last, no index", rig, ours, theirs);
     [indexed, found, sought]

@@ -71,7 +71,9 @@ fn main() {
     let rig = Rig::new(seed, SYMBOLS, LIMIT);
     let alike = Rig::alike(seed, SYMBOLS);
     verify::check(&rig);
+    let ends_alike = Rig::ends_alike(seed, SYMBOLS);
     verify::check(&alike);
+    verify::check(&ends_alike);
     println!("machine: {}; seed {seed}", machine());
     println!(
         "input: {} symbols, {} bytes, walked back equal",
@@ -84,6 +86,8 @@ fn main() {
     walk::rows(&mut report, &rig);
     find::rows(&mut report, seed, "index and finding", &rig);
     find::rows(&mut report, seed, "index and finding, names alike", &alike);
+    let what = "index and finding, names that end alike";
+    find::rows(&mut report, seed, what, &ends_alike);
     text::rows(&mut report, seed);
     write::rows(&mut report, &rig);
     growth::rows(&mut report, seed);

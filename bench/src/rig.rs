@@ -243,10 +243,23 @@ impl Rig {
 
     /// The hardest names for a search: all of one length, and alike but for the digits near their end.
     pub fn alike(seed: u64, symbols: usize) -> Self {
+        Self::named(seed, symbols, |n| {
+            format!("MAIN.stRig.stLens.aCurve[{n:05}].fZoom")
+        })
+    }
+
+    /// The hardest for a search that begins at the end.
+    pub fn ends_alike(seed: u64, symbols: usize) -> Self {
+        Self::named(seed, symbols, |n| {
+            format!("AX{n:05}.stLens.aCurve.stPoint.fPositionRaw")
+        })
+    }
+
+    fn named(seed: u64, symbols: usize, name: impl Fn(usize) -> String) -> Self {
         let mut dice = Dice::new(seed);
         let all = (0..symbols).map(|number| {
             let mut s = symbol(number, 4 * number as u32, &mut dice);
-            s.name = format!("MAIN.stRig.stLens.aCurve[{number:05}].fZoom").into_bytes();
+            s.name = name(number).into_bytes();
             s
         });
         Self::of(all, usize::MAX)
