@@ -69,13 +69,19 @@ fn thread_time() -> f64 {
 }
 
 /// A pass, and how long it took: the time that went by or, where other programs took the core meanwhile, the time that the
-/// thread ran. Every pass of every contender must have the same checksum.
+/// thread ran. On some virtual machines the thread's clock stands still now and then: what is far too little is not taken.
+/// Every pass of every contender must have the same checksum.
 fn pass(what: &str, run: &mut Contender, sum: Option<u64>) -> (u64, f64) {
     let ran = thread_time();
     let began = Instant::now();
     let pass = black_box(run());
     let went_by = began.elapsed().as_secs_f64();
-    let took = went_by.min(thread_time() - ran);
+    let ran = thread_time() - ran;
+    let took = if ran < went_by / 10.0 {
+        went_by
+    } else {
+        went_by.min(ran)
+    };
     drop(pass.left);
     if sum.is_some_and(|sum| sum != pass.sum) {
         wrong(&format!("{what}: checksums differ"));
