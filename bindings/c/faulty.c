@@ -1,6 +1,7 @@
 /* Wrong versions of exported functions, one a number, to show that the boundary tests find such faults.
  *
- *   cc -DFAULT=n -c faulty.c       then linked with --wrap for each function that this defines as __wrap_...
+ *   cc -DFAULT=n -c faulty.c       then linked with --wrap for each function that this defines as __wrap_..., by its
+ *                                  text or by SEARCHES
  *
  * tools/c-tests builds and runs each, and demands that boundary fails; with number 0, a control, it must pass.
  */
@@ -71,6 +72,21 @@ static uint32_t search(const uint8_t *bytes, size_t bytes_len, bool indexed, con
     }
     return 13;
 }
+
+/* One of the two functions, by that search. */
+#define SEARCHES(function) SEARCHES_##function
+#define SEARCHES_vindaskot_find                                                                                        \
+    uint32_t __wrap_vindaskot_find(const uint8_t *bytes, size_t bytes_len, const uint8_t *name, size_t name_len,       \
+                                   uint64_t *answer)                                                                   \
+    {                                                                                                                  \
+        return search(bytes, bytes_len, false, NULL, 0, name, name_len, answer);                                       \
+    }
+#define SEARCHES_vindaskot_find_indexed                                                                                \
+    uint32_t __wrap_vindaskot_find_indexed(const uint8_t *bytes, size_t bytes_len, const uint32_t *slots,              \
+                                           size_t slots_len, const uint8_t *name, size_t name_len, uint64_t *answer)   \
+    {                                                                                                                  \
+        return search(bytes, bytes_len, true, slots, slots_len, name, name_len, answer);                               \
+    }
 #endif
 
 #if FAULT == 0 || (FAULT > 23 && FAULT != 28 && FAULT != 34 && FAULT != 35 && FAULT != 37)
@@ -347,11 +363,7 @@ static bool same(const uint8_t *own, const uint8_t *asked, size_t place, size_t 
     (void)len;
     return own[place] == asked[place];
 }
-uint32_t __wrap_vindaskot_find(const uint8_t *bytes, size_t bytes_len, const uint8_t *name, size_t name_len,
-                               uint64_t *answer)
-{
-    return search(bytes, bytes_len, false, NULL, 0, name, name_len, answer);
-}
+SEARCHES(vindaskot_find)
 
 #elif FAULT == 24 /* a capital asked finds a small letter, and a small one no capital */
 static bool same(const uint8_t *own, const uint8_t *asked, size_t place, size_t len)
@@ -359,11 +371,7 @@ static bool same(const uint8_t *own, const uint8_t *asked, size_t place, size_t 
     (void)len;
     return own[place] == asked[place] || own[place] == small(asked[place]);
 }
-uint32_t __wrap_vindaskot_find_indexed(const uint8_t *bytes, size_t bytes_len, const uint32_t *slots, size_t slots_len,
-                                       const uint8_t *name, size_t name_len, uint64_t *answer)
-{
-    return search(bytes, bytes_len, true, slots, slots_len, name, name_len, answer);
-}
+SEARCHES(vindaskot_find_indexed)
 
 #elif FAULT == 25 /* the letters begin one byte early, at 40 */
 static bool same(const uint8_t *own, const uint8_t *asked, size_t place, size_t len)
@@ -372,11 +380,7 @@ static bool same(const uint8_t *own, const uint8_t *asked, size_t place, size_t 
     uint8_t x = own[place], y = asked[place];
     return small(x) == small(y) || ((x ^ y) == 0x20 && (x == '@' || y == '@'));
 }
-uint32_t __wrap_vindaskot_find(const uint8_t *bytes, size_t bytes_len, const uint8_t *name, size_t name_len,
-                               uint64_t *answer)
-{
-    return search(bytes, bytes_len, false, NULL, 0, name, name_len, answer);
-}
+SEARCHES(vindaskot_find)
 
 #elif FAULT == 26 /* the letters end one byte late, at 5B */
 static bool same(const uint8_t *own, const uint8_t *asked, size_t place, size_t len)
@@ -385,11 +389,7 @@ static bool same(const uint8_t *own, const uint8_t *asked, size_t place, size_t 
     uint8_t x = own[place], y = asked[place];
     return small(x) == small(y) || ((x ^ y) == 0x20 && (x == '[' || y == '['));
 }
-uint32_t __wrap_vindaskot_find_indexed(const uint8_t *bytes, size_t bytes_len, const uint32_t *slots, size_t slots_len,
-                                       const uint8_t *name, size_t name_len, uint64_t *answer)
-{
-    return search(bytes, bytes_len, true, slots, slots_len, name, name_len, answer);
-}
+SEARCHES(vindaskot_find_indexed)
 
 #elif FAULT == 27 /* accented letters, C0 to DE, have cases too */
 static bool same(const uint8_t *own, const uint8_t *asked, size_t place, size_t len)
@@ -398,11 +398,7 @@ static bool same(const uint8_t *own, const uint8_t *asked, size_t place, size_t 
     uint8_t x = own[place], y = asked[place], least = x < y ? x : y;
     return small(x) == small(y) || ((x ^ y) == 0x20 && least >= 0xC0 && least <= 0xDE);
 }
-uint32_t __wrap_vindaskot_find(const uint8_t *bytes, size_t bytes_len, const uint8_t *name, size_t name_len,
-                               uint64_t *answer)
-{
-    return search(bytes, bytes_len, false, NULL, 0, name, name_len, answer);
-}
+SEARCHES(vindaskot_find)
 
 #elif FAULT == 28 /* the case bit of any byte is passed over */
 static bool same(const uint8_t *own, const uint8_t *asked, size_t place, size_t len)
@@ -410,33 +406,21 @@ static bool same(const uint8_t *own, const uint8_t *asked, size_t place, size_t 
     (void)len;
     return ((own[place] ^ asked[place]) & 0xDF) == 0;
 }
-uint32_t __wrap_vindaskot_find_indexed(const uint8_t *bytes, size_t bytes_len, const uint32_t *slots, size_t slots_len,
-                                       const uint8_t *name, size_t name_len, uint64_t *answer)
-{
-    return search(bytes, bytes_len, true, slots, slots_len, name, name_len, answer);
-}
+SEARCHES(vindaskot_find_indexed)
 
 #elif FAULT == 29 /* names of 16 bytes and more have their cases told apart */
 static bool same(const uint8_t *own, const uint8_t *asked, size_t place, size_t len)
 {
     return own[place] == asked[place] || (len < 16 && small(own[place]) == small(asked[place]));
 }
-uint32_t __wrap_vindaskot_find(const uint8_t *bytes, size_t bytes_len, const uint8_t *name, size_t name_len,
-                               uint64_t *answer)
-{
-    return search(bytes, bytes_len, false, NULL, 0, name, name_len, answer);
-}
+SEARCHES(vindaskot_find)
 
 #elif FAULT == 30 /* of a name in blocks of 16 bytes from its end, what is left at its start is not compared */
 static bool same(const uint8_t *own, const uint8_t *asked, size_t place, size_t len)
 {
     return small(own[place]) == small(asked[place]) || (len > 16 && place < len % 16);
 }
-uint32_t __wrap_vindaskot_find_indexed(const uint8_t *bytes, size_t bytes_len, const uint32_t *slots, size_t slots_len,
-                                       const uint8_t *name, size_t name_len, uint64_t *answer)
-{
-    return search(bytes, bytes_len, true, slots, slots_len, name, name_len, answer);
-}
+SEARCHES(vindaskot_find_indexed)
 
 #elif FAULT == 31 /* a letter is told by its low seven bits */
 static bool same(const uint8_t *own, const uint8_t *asked, size_t place, size_t len)
@@ -445,11 +429,7 @@ static bool same(const uint8_t *own, const uint8_t *asked, size_t place, size_t 
     uint8_t x = own[place], y = asked[place];
     return small(x) == small(y) || ((x ^ y) == 0x20 && small(x & 0x7F) == small(y & 0x7F));
 }
-uint32_t __wrap_vindaskot_find(const uint8_t *bytes, size_t bytes_len, const uint8_t *name, size_t name_len,
-                               uint64_t *answer)
-{
-    return search(bytes, bytes_len, false, NULL, 0, name, name_len, answer);
-}
+SEARCHES(vindaskot_find)
 
 #elif FAULT == 32 /* an entry that is refused is found by its name */
 static bool same(const uint8_t *own, const uint8_t *asked, size_t place, size_t len)
@@ -457,11 +437,7 @@ static bool same(const uint8_t *own, const uint8_t *asked, size_t place, size_t 
     (void)len;
     return small(own[place]) == small(asked[place]);
 }
-uint32_t __wrap_vindaskot_find(const uint8_t *bytes, size_t bytes_len, const uint8_t *name, size_t name_len,
-                               uint64_t *answer)
-{
-    return search(bytes, bytes_len, false, NULL, 0, name, name_len, answer);
-}
+SEARCHES(vindaskot_find)
 
 #elif FAULT == 33 /* a slot of a refused entry that has the name ends the search */
 static bool same(const uint8_t *own, const uint8_t *asked, size_t place, size_t len)
@@ -469,11 +445,7 @@ static bool same(const uint8_t *own, const uint8_t *asked, size_t place, size_t 
     (void)len;
     return small(own[place]) == small(asked[place]);
 }
-uint32_t __wrap_vindaskot_find_indexed(const uint8_t *bytes, size_t bytes_len, const uint32_t *slots, size_t slots_len,
-                                       const uint8_t *name, size_t name_len, uint64_t *answer)
-{
-    return search(bytes, bytes_len, true, slots, slots_len, name, name_len, answer);
-}
+SEARCHES(vindaskot_find_indexed)
 
 #elif FAULT == 34 /* where the first symbol of a name has it in another case, the last one is found */
 uint32_t __real_vindaskot_find(const uint8_t *, size_t, const uint8_t *, size_t, uint64_t *);
@@ -556,11 +528,7 @@ static bool same(const uint8_t *own, const uint8_t *asked, size_t place, size_t 
 {
     return small(own[place]) == small(asked[place]) || (len > 64 && place == 20);
 }
-uint32_t __wrap_vindaskot_find(const uint8_t *bytes, size_t bytes_len, const uint8_t *name, size_t name_len,
-                               uint64_t *answer)
-{
-    return search(bytes, bytes_len, false, NULL, 0, name, name_len, answer);
-}
+SEARCHES(vindaskot_find)
 
 #elif FAULT == 39 /* a longer name whose length agrees in its last byte is found by its start */
 static bool same(const uint8_t *own, const uint8_t *asked, size_t place, size_t len)
@@ -568,11 +536,7 @@ static bool same(const uint8_t *own, const uint8_t *asked, size_t place, size_t 
     (void)len;
     return small(own[place]) == small(asked[place]);
 }
-uint32_t __wrap_vindaskot_find_indexed(const uint8_t *bytes, size_t bytes_len, const uint32_t *slots, size_t slots_len,
-                                       const uint8_t *name, size_t name_len, uint64_t *answer)
-{
-    return search(bytes, bytes_len, true, slots, slots_len, name, name_len, answer);
-}
+SEARCHES(vindaskot_find_indexed)
 
 #elif FAULT == 0
 /* No fault but a control: the search that 23 to 33, 38 and 39 share, with the right comparison. */
@@ -581,16 +545,8 @@ static bool same(const uint8_t *own, const uint8_t *asked, size_t place, size_t 
     (void)len;
     return small(own[place]) == small(asked[place]);
 }
-uint32_t __wrap_vindaskot_find(const uint8_t *bytes, size_t bytes_len, const uint8_t *name, size_t name_len,
-                               uint64_t *answer)
-{
-    return search(bytes, bytes_len, false, NULL, 0, name, name_len, answer);
-}
-uint32_t __wrap_vindaskot_find_indexed(const uint8_t *bytes, size_t bytes_len, const uint32_t *slots, size_t slots_len,
-                                       const uint8_t *name, size_t name_len, uint64_t *answer)
-{
-    return search(bytes, bytes_len, true, slots, slots_len, name, name_len, answer);
-}
+SEARCHES(vindaskot_find)
+SEARCHES(vindaskot_find_indexed)
 
 #else
 #error "no such fault"
