@@ -1,5 +1,5 @@
 -- One turn of each loop over a walk: of its steps, and of what is read off them. Assumes nothing.
-use Prim.Native.Nat.{ℕ, zero, suc, _+_, _-_, _<_, _≤_}
+use Prim.Native.Nat.{ℕ, zero, suc, _+_, _-_, _*_, _<_, _≤_}
 use native.Mathlib.Nat.{sub-zero, zero-add, add-zero}
 use native.Mathlib.Omega.{arith}
 use native.Mathlib.Numerals.{add-one}
@@ -9,28 +9,28 @@ use mathlib.Core.List.{List, [], _∷_}
 use lib.Dec.{ltb, leb, eqb}
 use lib.ListN.{length, drop, set, getD, drop-of-length-le}
 use lib.Seq.{drop-cons}
-use borrow.Author.Tests.{le-leb, lt-leb, lt-ltb, le-ltb, ltb-false, leb-false, eqb-true, eqb-false, eq-eqb, ne-eqb}
+use borrow.Author.Tests.{le-leb, lt-leb, lt-ltb, le-ltb, ltb-true, ltb-false, leb-false, eqb-true, eqb-false, eq-eqb, ne-eqb}
 use Rattle.le.specs.Le.{if_then_else_, le2, part}
 use Rattle.le.specs.Put.{put}
 use Rattle.le.proofs.Laws.{put-one, put-then, length-part, le2-part, part-part, not-both}
-use Rattle.le.proofs.Same.{same-so-far}
-use Rattle.names.proofs.Laws.{other-length}
+use Rattle.le.proofs.Same.{never, same-so-far}
+use Rattle.names.specs.Near.{low, endsNear}
+use Rattle.names.proofs.Laws.{low-small, other-length, ends-differ, ends-none, ends-last}
 use Rattle.refusal.specs.Refusal.{limit}
 use Rattle.refusal.specs.Writing.{Bytes, Refuse}
-use Rattle.entry.specs.Entry.{claimAt, byMet}
+use Rattle.entry.specs.Entry.{claimAt}
 use Rattle.entry.specs.declared.Met.{Met}
 use Rattle.entry.specs.declared.Met.the-variants as met
 use Rattle.entry.proofs.Claims.{meets, moves-on}
 use Rattle.symbol.specs.Symbol.{symbolEntry, sectionsOf, infoOf, infoRecord, stringsEnd, refused}
 use Rattle.refusal.specs.declared.Refusal.{Refusal}
 use Rattle.refusal.specs.declared.Refusal.the-variants.{TooShort, EntryLengthMismatch, TooLarge, ZeroEntryLength, NameNotFound}
-use Rattle.walk.specs.Walk.{symbolStep, stepIs, finished, entry}
-use Rattle.walk.specs.Walk as walk
+use Rattle.walk.specs.Walk.{symbolStep, stepIs}
 use Rattle.entry.specs.Walk.{stands, stepsFrom, steps, any}
 use Rattle.names.specs.Names.{sameName}
 use Rattle.index.specs.Steps.{byRecord, accepted, names, those}
 use Rattle.index.specs.Index.{starts, indexing, firstOf, find}
-use Rattle.index.specs.Inside.{lookAt, longAs, tallyOf}
+use Rattle.index.specs.Inside.{lookAt, likely, tallyOf}
 use Rattle.index.specs.declared.FindAnswer.{FindAnswer}
 use Rattle.index.specs.declared.FindAnswer.the-variants.{Found, Refused}
 use Rattle.index.specs.declared.Looked.{Looked}
@@ -63,7 +63,7 @@ pub whole : (s : List ℕ) → steps s ≡ rest s 0
 unfolding steps
 whole s = rw sub-zero
 
-pub rest-end : (s : List ℕ) (at : ℕ) → length s ≤ at → rest s at ≡ []
+rest-end : (s : List ℕ) (at : ℕ) → length s ≤ at → rest s at ≡ []
 unfolding stepsFrom
 rest-end s at h = let e : length s - at ≡ 0 = omega arith in rw e
 
@@ -75,7 +75,7 @@ rest-from s at (suc n) h k =
     let b : at < claimAt s at .next = omega (arith, moves-on s at h, eqb-false (claimAt s at .next) at q) in
     same-steps s n (length s - claimAt s at .next) (claimAt s at .next) (omega arith) (omega arith)))
 
-pub rest-step : (s : List ℕ) (at : ℕ) → at < length s → rest s at ≡ at ∷ (if stands s at then [] else rest s (claimAt s at .next))
+rest-step : (s : List ℕ) (at : ℕ) → at < length s → rest s at ≡ at ∷ (if stands s at then [] else rest s (claimAt s at .next))
 rest-step s at h = rest-from s at (length s - at) h (omega arith)
 
 -- an entry is accepted where its header and its strings are there, whatever its sections hold; then its length and its name's are these
@@ -91,33 +91,31 @@ light {A} f x e = by (ltb (length e) 30) (ltb (length e) (stringsEnd e))
     by false true = refl
     by false false = refl
 
-either : (t : Bool) → (if t then false else false) ≡ false
-either true = refl
-either false = refl
-
 -- the bytes from a place on, taken for an entry, have that name
 abbrev carries : List ℕ → List ℕ → ℕ → Bool
-carries s name at = if longAs s name at then sameName (part s (at + 30) (length name)) name else false
+carries s name at = if likely s name at then sameName (part s (at + 30) (length name)) name else false
 
 -- where the name of an entry is there, the bytes at the entry's place have it
 module _ (s name : List ℕ) (at size : ℕ) (room : at + size ≤ length s) where
   carries-own : 33 + le2 (part s at size) 24 ≤ size → sameName (part (part s at size) 30 (le2 (part s at size) 24)) name ≡ carries s name at
-  unfolding longAs
+  unfolding likely
   carries-own h =
       let n : le2 (part s at size) 24 ≡ le2 s (at + 24) = le2-part s at size 24 (omega arith) in
       let there : at + 30 + le2 s (at + 24) ≤ length s = omega (arith, n) in
-      ap (λ (l : List ℕ). sameName l name) (part-part s at size 30 (le2 (part s at size) 24) (omega arith)) ∙ simp (n, le-ltb (length s - at) 30 (omega arith)) (by there (eqb (le2 s (at + 24)) (length name)) refl)
+      ap (λ (l : List ℕ). sameName l name) (part-part s at size 30 (le2 (part s at size) 24) (omega arith)) ∙ simp n (by there (ltb (length s - at) (30 + length name)) (eqb (le2 s (at + 24)) (length name)) (endsNear (part s (at + 30) (length name)) name) refl refl refl)
     where
-      by : at + 30 + le2 s (at + 24) ≤ length s → (t : Bool) → eqb (le2 s (at + 24)) (length name) ≡ t
-          → sameName (part s (at + 30) (le2 s (at + 24))) name ≡ (if t then sameName (part s (at + 30) (length name)) name else false)
-      by there true e = ap (λ (k : ℕ). sameName (part s (at + 30) k) name) (eqb-true (le2 s (at + 24)) (length name) e)
-      by there false e = other-length (part s (at + 30) (le2 s (at + 24))) name (λ l. eqb-false (le2 s (at + 24)) (length name) e (sym (length-part s (at + 30) (le2 s (at + 24)) there) ∙ l))
+      by : at + 30 + le2 s (at + 24) ≤ length s → (few long ends : Bool) → ltb (length s - at) (30 + length name) ≡ few → eqb (le2 s (at + 24)) (length name) ≡ long → endsNear (part s (at + 30) (length name)) name ≡ ends
+          → sameName (part s (at + 30) (le2 s (at + 24))) name ≡ (if (if few then false else if long then ends else false) then sameName (part s (at + 30) (length name)) name else false)
+      by there few false ends e f g = other-length (part s (at + 30) (le2 s (at + 24))) name (λ l. eqb-false (le2 s (at + 24)) (length name) f (sym (length-part s (at + 30) (le2 s (at + 24)) there) ∙ l)) ∙ simp (never few)
+      by there true true ends e f g = absurd (omega (arith, there, ltb-true (length s - at) (30 + length name) e, eqb-true (le2 s (at + 24)) (length name) f))
+      by there false true true e f g = ap (λ (k : ℕ). sameName (part s (at + 30) k) name) (eqb-true (le2 s (at + 24)) (length name) f)
+      by there false true false e f g = ap (λ (k : ℕ). sameName (part s (at + 30) k) name) (eqb-true (le2 s (at + 24)) (length name) f) ∙ ends-differ (part s (at + 30) (length name)) name g
 
   named-by : (p q : Bool) → ltb (length (part s at size)) 30 ≡ p → ltb (length (part s at size)) (stringsEnd (part s at size)) ≡ q
       → (if p then false else if q then false else sameName (part (part s at (length (part s at size))) 30 (le2 (part s at size) 24)) name)
       ≡ (if carries s name at then (if p then false else if q then false else true) else false)
-  named-by true q e f = sym (either (carries s name at))
-  named-by false true e f = sym (either (carries s name at))
+  named-by true q e f = sym (never (carries s name at))
+  named-by false true e f = sym (never (carries s name at))
   named-by false false e f =
       let l = length-part s at size room in
       let strings : 33 + le2 (part s at size) 24 ≤ size = omega (arith, l, ltb-false (length (part s at size)) (stringsEnd (part s at size)) f) in
@@ -128,15 +126,13 @@ name-first : (s name : List ℕ) (at : ℕ) → names s name at ≡ (if carries 
 unfolding names accepted symbolStep
 name-first s name at = by (claimAt s at .met) refl
   where
-    by : (m : Met) → claimAt s at .met ≡ m
-        → byRecord (byMet m (finished (claimAt s at .next)) (λ size. entry (part s at size) (claimAt s at .next)) (λ why. walk.refused why (claimAt s at .next)) .step) (λ info. sameName (part (part s at (info .length)) 30 (info .«name_len»)) name) false
-        ≡ (if carries s name at then byRecord (byMet m (finished (claimAt s at .next)) (λ size. entry (part s at size) (claimAt s at .next)) (λ why. walk.refused why (claimAt s at .next)) .step) (λ info. true) false else false)
-    by met.Finished e = sym (either (carries s name at))
-    by (met.Refused why) e = sym (either (carries s name at))
+    by : (m : Met) → claimAt s at .met ≡ m → names s name at ≡ (if carries s name at then accepted s at else false)
+    by met.Finished e = simp e (sym (never (carries s name at)))
+    by (met.Refused why) e = simp e (sym (never (carries s name at)))
     by (met.Entry size) e =
-        light (λ l n. sameName (part (part s at l) 30 n) name) false (part s at size)
+        simp e (light (λ l n. sameName (part (part s at l) 30 n) name) false (part s at size)
         ∙ named-by s name at size (meets s at size e .room) (ltb (length (part s at size)) 30) (ltb (length (part s at size)) (stringsEnd (part s at size))) refl refl
-        ∙ ap (λ (t : Bool). if carries s name at then t else false) (sym (light (λ l n. true) false (part s at size)))
+        ∙ ap (λ (t : Bool). if carries s name at then t else false) (sym (light (λ l n. true) false (part s at size))))
 
 -- an accepted entry moves the cursor
 module _ (s : List ℕ) (at : ℕ) where
@@ -146,25 +142,23 @@ module _ (s : List ℕ) (at : ℕ) where
 
   accepted-moves : accepted s at ≡ true → at < claimAt s at .next
   unfolding accepted symbolStep
-  accepted-moves h = by (claimAt s at .met) refl h
+  accepted-moves h = by (claimAt s at .met) refl
     where
-      by : (m : Met) → claimAt s at .met ≡ m
-          → byRecord (byMet m (finished (claimAt s at .next)) (λ size. entry (part s at size) (claimAt s at .next)) (λ why. walk.refused why (claimAt s at .next)) .step) (λ info. true) false ≡ true
-          → at < claimAt s at .next
-      by met.Finished e k = absurd (not-both k refl)
-      by (met.Refused why) e k = absurd (not-both k refl)
-      by (met.Entry size) e k =
+      by : (m : Met) → claimAt s at .met ≡ m → at < claimAt s at .next
+      by met.Finished e = absurd (not-both h (simp e))
+      by (met.Refused why) e = absurd (not-both h (simp e))
+      by (met.Entry size) e =
           let m = meets s at size e in
-          let i = moved-by size (ltb (length (part s at size)) 30) (ltb (length (part s at size)) (stringsEnd (part s at size))) (m .room) refl (sym (light (λ l n. true) false (part s at size)) ∙ k) in
+          let i = moved-by size (ltb (length (part s at size)) 30) (ltb (length (part s at size)) (stringsEnd (part s at size))) (m .room) refl (sym (light (λ l n. true) false (part s at size)) ∙ simp e at h) in
           omega (arith, m .next)
 
 module _ (s name : List ℕ) (at : ℕ) where
   -- a place that does not move the cursor has no name
-  pub zero-nameless : claimAt s at .next ≡ at → names s name at ≡ false
+  zero-nameless : claimAt s at .next ≡ at → names s name at ≡ false
   zero-nameless z = by (accepted s at) refl
     where
       by : (t : Bool) → accepted s at ≡ t → names s name at ≡ false
-      by false e = name-first s name at ∙ simp e (either (carries s name at))
+      by false e = name-first s name at ∙ simp e (never (carries s name at))
       by true e = absurd (omega (arith, z, accepted-moves s at e))
 
   -- nor has one where no entry is met
@@ -176,20 +170,38 @@ module _ (s name : List ℕ) (at : ℕ) where
   unfolding names symbolStep
   refused-nameless why e = simp e
 
-  -- nor has one whose name would be of another length; else the name decides, and then the entry
-  pub not-long : longAs s name at ≡ false → names s name at ≡ false
-  not-long h = name-first s name at ∙ simp h
+  -- nor has one where the name is not likely; else the name decides, and then the entry
+  pub not-likely : likely s name at ≡ false → names s name at ≡ false
+  not-likely h = name-first s name at ∙ simp h
 
-  pub as-long : longAs s name at ≡ true → names s name at ≡ (if sameName (part s (at + 30) (length name)) name then accepted s at else false)
-  as-long h = name-first s name at ∙ simp h
+  pub name-decides : likely s name at ≡ true → names s name at ≡ (if sameName (part s (at + 30) (length name)) name then accepted s at else false)
+  name-decides h = name-first s name at ∙ simp h
 
-  long-by : (p q : Bool) → (if p then false else q) ≡ true → p ≡ false
-  long-by true q h = absurd (not-both h refl)
-  long-by false q h = refl
+  likely-by : (p q : Bool) → (if p then false else q) ≡ true → p ≡ false
+  likely-by true q h = absurd (not-both h refl)
+  likely-by false q h = refl
 
-  pub long-room : longAs s name at ≡ true → 30 ≤ length s - at
-  unfolding longAs
-  long-room h = ltb-false (length s - at) 30 (long-by (ltb (length s - at) 30) (eqb (le2 s (at + 24)) (length name)) h)
+  pub likely-room : likely s name at ≡ true → 30 + length name ≤ length s - at
+  unfolding likely
+  likely-room h = ltb-false (length s - at) (30 + length name) (likely-by (ltb (length s - at) (30 + length name)) _ h)
+
+-- two numbers in one
+both-by : (x n a b : ℕ) → a < 32 → b < 32 → (p q : Bool) → eqb x n ≡ p → eqb a b ≡ q → eqb (x * 32 + a) (n * 32 + b) ≡ (if p then q else false)
+both-by x n a b h k true true e f =
+    let same : x * 32 + a ≡ n * 32 + b = omega (arith, eqb-true x n e, eqb-true a b f) in
+    eq-eqb _ _ same
+both-by x n a b h k true false e f = ne-eqb (x * 32 + a) (n * 32 + b) (λ (s : x * 32 + a ≡ n * 32 + b). eqb-false a b f (omega (arith, eqb-true x n e, s)))
+both-by x n a b h k false q e f = ne-eqb (x * 32 + a) (n * 32 + b) (λ (s : x * 32 + a ≡ n * 32 + b). eqb-false x n e (omega (arith, s)))
+
+-- the first look at once: at a name of no bytes, and at one that has a last byte
+module _ (s name : List ℕ) (at : ℕ) (room : 30 + length name ≤ length s - at) where
+  pub likely-none : length name ≡ 0 → likely s name at ≡ eqb (le2 s (at + 24)) 0
+  unfolding likely
+  likely-none z = simp (le-ltb (length s - at) (30 + length name) room, ends-none s name (at + 30) z) (same-so-far (eqb (le2 s (at + 24)) (length name)) ∙ ap (eqb (le2 s (at + 24))) z)
+
+  pub likely-last : (last : ℕ) → last + 1 ≡ length name → likely s name at ≡ eqb (le2 s (at + 24) * 32 + low (getD s (at + 30 + last) 0)) (length name * 32 + low (getD name last 0))
+  unfolding likely
+  likely-last last e = simp (le-ltb (length s - at) (30 + length name) room, ends-last s name (at + 30) last e) (sym (both-by (le2 s (at + 24)) (length name) (low (getD s (at + 30 + last) 0)) (low (getD name last 0)) (low-small (getD s (at + 30 + last) 0)) (low-small (getD name last 0)) _ _ refl refl))
 
 -- the inner and the public definitions, from a place on
 abbrev pub startsFrom : List ℕ → ℕ → List ℕ

@@ -4,7 +4,8 @@ use mathlib.Core.Bool.{Bool, true, false}
 use mathlib.Core.List.{List}
 use lib.Dec.{ltb, eqb}
 use lib.ListN.{length}
-use Rattle.le.specs.Le.{if_then_else_, le2}
+use Rattle.le.specs.Le.{if_then_else_, le2, part}
+use Rattle.names.specs.Near.{endsNear}
 use Rattle.entry.specs.Entry.{claimAt}
 use Rattle.symbol.specs.Symbol.{symbolEntry}
 use Rattle.walk.specs.Walk.{stepIs}
@@ -22,9 +23,12 @@ accepts e = byRecord (stepIs (symbolEntry e .answer)) (λ info. true) false
 unfoldable pub lookAt : List ℕ → ℕ → Looked
 lookAt s at = record { accepted = accepted s at; next = claimAt s at .next }
 
--- the bytes from a place on, taken for an entry, have a name as long as one that is asked for
-unfoldable pub longAs : List ℕ → List ℕ → ℕ → Bool
-longAs s name at = if ltb (length s - at) 30 then false else eqb (le2 s (at + 24)) (length name)
+-- the bytes from a place on, taken for an entry, have room for the name asked for, tell its length and are near it at its last byte
+unfoldable pub likely : List ℕ → List ℕ → ℕ → Bool
+likely s name at =
+    if ltb (length s - at) (30 + length name) then false
+    else if eqb (le2 s (at + 24)) (length name) then endsNear (part s (at + 30) (length name)) name
+    else false
 
 -- how many entries are accepted, unless a zero claim is met
 unfoldable pub tallyOf : List ℕ → Tally

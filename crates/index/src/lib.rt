@@ -11,7 +11,7 @@ ghost use Rattle.refusal.specs.Writing.{Writes};
 ghost use Rattle.entry.specs.Walk.{stands, steps, any};
 ghost use Rattle.index.specs.Steps.{names};
 ghost use Rattle.index.specs.Index.{starts, indexing, find, findIndexed};
-ghost use Rattle.index.specs.Inside.{accepts, lookAt, longAs, tallyOf};
+ghost use Rattle.index.specs.Inside.{accepts, lookAt, likely, tallyOf};
 ghost use Rattle.le.specs.Put.{put};
 
 // The start of the entry that was asked for.
@@ -69,19 +69,41 @@ fn look_at(bytes: &[u8], at: usize) -> Looked
     }
 }
 
-// A first look, which settles most places: small, so that the compiler puts it into the loops.
-fn long_as(bytes: &[u8], at: usize, name: &[u8]) -> bool
-    ensures { λ r. ⌜ r ≡ longAs (now (bytes .entry)) (now (name .entry)) at ⌝ }
+// A first look, which settles most places: small, so that the compiler puts it into the loop.
+fn likely(bytes: &[u8], at: usize, name: &[u8]) -> bool
+    ensures { λ r. ⌜ r ≡ likely (now (bytes .entry)) (now (name .entry)) at ⌝ }
 {
-    if le::room(bytes.len(), at) < 30 {
+    let n = name.len();
+    if le::room(bytes.len(), at) < 30 + n {
         return false;
     }
-    le::wide(le::u16_at(bytes, at + 24)) == name.len()
+    if le::wide(le::u16_at(bytes, at + 24)) != n {
+        return false;
+    }
+    names::ends_near(bytes, at + 30, name)
 }
 
-// Whether the entry at a place has the name asked for, which is as long as its own. The rest of it is looked at only where it has.
+// The same for a walk from length to length, with the length and the low bits as one number: one test is guessed wrong less often than two, and the walk leaves time to look at the byte every time. Within the limit the number has room.
+fn likely_at_once(bytes: &[u8], at: usize, name: &[u8]) -> bool
+    requires { ⌜ length (now bytes) ≤ limit ⌝ }
+    ensures { λ r. ⌜ r ≡ likely (now (bytes .entry)) (now (name .entry)) at ⌝ }
+{
+    let n = name.len();
+    if le::room(bytes.len(), at) < 30 + n {
+        return false;
+    }
+    let long = le::wide(le::u16_at(bytes, at + 24));
+    if n == 0 {
+        return long == 0;
+    }
+    let last = n - 1;
+    let own = long * 32 + names::low(bytes[at + 30 + last]) as usize;
+    own == n * 32 + names::low(name[last]) as usize
+}
+
+// Whether the entry at a place has the name asked for, where that is likely. The rest of it is looked at only where it has.
 fn named(bytes: &[u8], at: usize, name: &[u8]) -> bool
-    requires { ⌜ longAs (now bytes) (now name) at ≡ true ⌝ }
+    requires { ⌜ likely (now bytes) (now name) at ≡ true ⌝ }
     ensures { λ r. ⌜ r ≡ names (now (bytes .entry)) (now (name .entry)) at ⌝ }
 {
     if names::same_name(bytes, at + 30, name) {
@@ -173,7 +195,7 @@ pub fn find(bytes: &[u8], name: &[u8]) -> FindAnswer
         }
         match met {
             Met::Entry(_) => {
-                if long_as(bytes, here, name) {
+                if likely_at_once(bytes, here, name) {
                     if named(bytes, here, name) {
                         return FindAnswer::Found(here);
                     }
@@ -197,7 +219,7 @@ pub fn find_indexed(bytes: &[u8], slots: &[u32], name: &[u8]) -> FindAnswer
     while i < slots.len() {
         let at = slots[i] as usize;
         i += 1;
-        if long_as(bytes, at, name) {
+        if likely(bytes, at, name) {
             if named(bytes, at, name) {
                 return FindAnswer::Found(at);
             }

@@ -1,18 +1,19 @@
--- Laws of folding and of the same name, by which all else knows them. Assumes nothing.
+-- Laws of folding, of the same name and of names that are near, by which all else knows them. Assumes nothing.
 use Prim.Native.Nat.{ℕ, zero, suc, _+_, _-_, _<_, _≤_}
+use native.Mathlib.Nat.{mod-lt}
 use native.Mathlib.Omega.{arith}
 use mathlib.Core.Path.{_≡_, refl, sym, ap, ap₂, _∙_}
 use mathlib.Core.Bool.{Bool, true, false}
-use mathlib.Core.List.{List, [], _∷_, _++_}
-use lib.Dec.{eqb}
-use lib.ListN.{length, take, drop, getD, length-map, List·getD-map, length-drop}
-use lib.Seq.{drop-drop}
-use borrow.Author.Tests.{lt-ltb, le-ltb}
+use mathlib.Core.List.{List, [], _∷_, map}
+use lib.Dec.{ltb, eqb}
+use lib.ListN.{length, take, drop, getD, length-map, List·getD-map}
+use borrow.Author.Tests.{lt-ltb, le-ltb, eq-eqb}
 use Rattle.le.specs.Le.{if_then_else_, part}
 use Rattle.le.specs.Same.{sameBytes}
-use Rattle.le.proofs.Laws.{length-part, getD-part, drop-part, part-rest, part-part, not-both}
-use Rattle.le.proofs.Same.{same-refl, same-equal, same-lengths, same-turn, same-end, same-step}
+use Rattle.le.proofs.Laws.{getD-part, not-both}
+use Rattle.le.proofs.Same.{same-refl, same-equal, same-lengths}
 use Rattle.names.specs.Names.{fold, folded, sameName}
+use Rattle.names.specs.Near.{low, lows, near, endsNear}
 
 -- a byte, by where it stands
 pub fold-below : (b : ℕ) → b < 65 → fold b ≡ b
@@ -27,7 +28,7 @@ pub fold-letter : (b : ℕ) → 65 ≤ b → b ≤ 90 → fold b ≡ b + 32
 unfolding fold
 fold-letter b h k = simp (le-ltb b 65 h, le-ltb 90 b k)
 
--- a name: its length, its bytes, its parts
+-- a name: its length, its bytes
 pub folded-long : (name : List ℕ) → length (folded name) ≡ length name
 unfolding folded
 folded-long name = length-map name fold
@@ -35,22 +36,6 @@ folded-long name = length-map name fold
 pub folded-byte : (name : List ℕ) (i : ℕ) → getD (folded name) i 0 ≡ fold (getD name i 0)
 unfolding folded fold
 folded-byte name i = List·getD-map fold name i 0
-
-folded-drop : (n : ℕ) (name : List ℕ) → folded (drop n name) ≡ drop n (folded name)
-unfolding folded
-folded-drop zero name = refl
-folded-drop (suc n) [] = refl
-folded-drop (suc n) (b ∷ name) = folded-drop n name
-
-folded-take : (n : ℕ) (name : List ℕ) → folded (take n name) ≡ take n (folded name)
-unfolding folded
-folded-take zero name = refl
-folded-take (suc n) [] = refl
-folded-take (suc n) (b ∷ name) = ap (λ (l : List ℕ). fold b ∷ l) (folded-take n name)
-
-folded-part : (name : List ℕ) (at n : ℕ) → folded (part name at n) ≡ part (folded name) at n
-unfolding part
-folded-part name at n = folded-take n (drop at name) ∙ ap (take n) (folded-drop at name)
 
 -- names are the same exactly where they are equal once folded
 module _ (own asked : List ℕ) where
@@ -72,114 +57,83 @@ module _ (own asked : List ℕ) where
   unfolding sameName
   other-length h = same-lengths (folded own) (folded asked) (λ e. h (sym (folded-long own) ∙ e ∙ folded-long asked))
 
--- of a run of two names, what is left from a byte on
-abbrev pub runFrom : List ℕ → ℕ → List ℕ → ℕ → ℕ → ℕ → Bool
-runFrom a at b from n i = sameBytes (drop i (folded (part a at n))) (drop i (folded (part b from n)))
+-- both cases of a letter have the same low bits
+low-fold : (b : ℕ) → low (fold b) ≡ low b
+unfolding fold low
+low-fold b = by (ltb b 65) (ltb 90 b)
+  where
+    by : (p q : Bool) → low (if p then b else if q then b else b + 32) ≡ low b
+    by true q = refl
+    by false true = refl
+    by false false = omega arith
 
-pub run-whole : (a : List ℕ) (at : ℕ) (b : List ℕ) (from n : ℕ) → runFrom a at b from n 0 ≡ sameName (part a at n) (part b from n)
-unfolding sameName
-run-whole a at b from n = refl
+pub low-small : (b : ℕ) → low b < 32
+unfolding low
+low-small b = mod-lt b (omega arith)
 
--- one byte of a run that is there, and its end
-module _ (n : ℕ) where
-  run-byte : (s : List ℕ) (at i : ℕ) → i < n → getD (folded (part s at n)) i 0 ≡ fold (getD s (at + i) 0)
-  run-byte s at i l = folded-byte (part s at n) i ∙ ap fold (getD-part s at n i 0 l)
+lows-folded : (name : List ℕ) → lows (folded name) ≡ lows name
+unfolding lows folded
+lows-folded [] = refl
+lows-folded (b ∷ name) = ap₂ (λ (x : ℕ) (l : List ℕ). x ∷ l) (low-fold b) (lows-folded name)
 
-  run-long : (s : List ℕ) (at : ℕ) → at + n ≤ length s → length (folded (part s at n)) ≡ n
-  run-long s at l = folded-long (part s at n) ∙ length-part s at n l
+-- parts of what is told of a list's bytes
+module _ (f : ℕ → ℕ) where
+  map-drop : (n : ℕ) (l : List ℕ) → map f (drop n l) ≡ drop n (map f l)
+  map-drop zero l = refl
+  map-drop (suc n) [] = refl
+  map-drop (suc n) (b ∷ l) = map-drop n l
 
-  module _ (a : List ℕ) (at : ℕ) (b : List ℕ) (from : ℕ) (h : at + n ≤ length a) (k : from + n ≤ length b) where
-    -- what was the same so far, and the next bytes
-    pub run-turn : (same again : Bool) (x y i : ℕ) → i < n → x ≡ fold (getD a (at + i) 0) → y ≡ fold (getD b (from + i) 0) → again ≡ (if same then eqb x y else false)
-        → (if again then runFrom a at b from n (i + 1) else false) ≡ (if same then runFrom a at b from n i else false)
-    run-turn same again x y i l p q e =
-        let turn = same-turn (folded (part a at n)) (folded (part b from n)) i (omega (arith, run-long a at h)) (omega (arith, run-long b from k)) in
-        simp (e, p, q, same-step, turn, run-byte a at i l, run-byte b from i l)
+  map-take : (n : ℕ) (l : List ℕ) → map f (take n l) ≡ take n (map f l)
+  map-take zero l = refl
+  map-take (suc n) [] = refl
+  map-take (suc n) (b ∷ l) = ap (λ (m : List ℕ). f b ∷ m) (map-take n l)
 
-    pub run-end : (i : ℕ) → n ≤ i → runFrom a at b from n i ≡ true
-    run-end i l = same-end (folded (part a at n)) (folded (part b from n)) i (omega (arith, run-long a at h)) (omega (arith, run-long b from k))
+pub lows-drop : (n : ℕ) (name : List ℕ) → lows (drop n name) ≡ drop n (lows name)
+unfolding lows
+lows-drop n name = map-drop low n name
 
--- what runs tell of the names
+pub lows-part : (name : List ℕ) (at n : ℕ) → lows (part name at n) ≡ part (lows name) at n
+unfolding lows part
+lows-part name at n = map-take low n (drop at name) ∙ ap (take n) (map-drop low at name)
+
+-- names are near exactly where their low bits are equal
 module _ (own asked : List ℕ) where
-  -- where they are the same, so is every run; where a run differs, so do they
-  pub run-same : (at n : ℕ) → sameName own asked ≡ true → sameName (part own at n) (part asked at n) ≡ true
-  run-same at n e = folded-same (part own at n) (part asked at n) (folded-part own at n ∙ ap (λ (l : List ℕ). part l at n) (same-folded own asked e) ∙ sym (folded-part asked at n))
+  pub near-lows : near own asked ≡ true → lows own ≡ lows asked
+  unfolding near
+  near-lows e = same-equal (lows own) (lows asked) e
 
-  pub run-differs : (at n : ℕ) → sameName (part own at n) (part asked at n) ≡ false → sameName own asked ≡ false
-  run-differs at n e = by (sameName own asked) refl
-    where
-      by : (t : Bool) → sameName own asked ≡ t → t ≡ false
-      by false p = refl
-      by true p = absurd (not-both (run-same at n p) e)
+  pub lows-near : lows own ≡ lows asked → near own asked ≡ true
+  unfolding near
+  lows-near e = rw e (same-refl (lows asked))
 
-  -- a run, and what stands right behind it, or what stands behind a place within it
-  pub run-joins : (at n left : ℕ) → left ≤ at + n → sameName (part own at n) (part asked at n) ≡ true → sameName (drop left own) (drop left asked) ≡ true → sameName (drop at own) (drop at asked) ≡ true
-  run-joins at n left h p q = folded-same (drop at own) (drop at asked) (joined own ∙ ap₂ (λ (x y : List ℕ). x ++ drop (at + n - left) y) first rest ∙ sym (joined asked))
-    where
-      first : part (folded own) at n ≡ part (folded asked) at n
-      first = sym (folded-part own at n) ∙ same-folded (part own at n) (part asked at n) p ∙ folded-part asked at n
+pub unless : (p q : Bool) → (p ≡ true → q ≡ true) → q ≡ false → p ≡ false
+unless true q h e = absurd (not-both (h refl) e)
+unless false q h e = refl
 
-      rest : drop left (folded own) ≡ drop left (folded asked)
-      rest = sym (folded-drop left own) ∙ same-folded (drop left own) (drop left asked) q ∙ folded-drop left asked
+-- the same name is near, so what is not near is another
+module _ (own asked : List ℕ) where
+  same-near : sameName own asked ≡ true → near own asked ≡ true
+  same-near e = lows-near own asked (sym (lows-folded own) ∙ ap lows (same-folded own asked e) ∙ lows-folded asked)
 
-      joined : (s : List ℕ) → folded (drop at s) ≡ part (folded s) at n ++ drop (at + n - left) (drop left (folded s))
-      joined s =
-          let e : left + (at + n - left) ≡ at + n = omega arith in
-          folded-drop at s ∙ drop-part (folded s) at n ∙ ap (λ (l : List ℕ). part (folded s) at n ++ l) (ap (λ (k : ℕ). drop k (folded s)) (sym e) ∙ sym (drop-drop (at + n - left) left (folded s)))
+  pub not-near : near own asked ≡ false → sameName own asked ≡ false
+  not-near = unless (sameName own asked) (near own asked) same-near
 
-  -- a run to their ends
-  pub run-rest : (at n : ℕ) → length own - at ≤ n → length asked - at ≤ n → sameName (part own at n) (part asked at n) ≡ sameName (drop at own) (drop at asked)
-  run-rest at n h k = ap₂ sameName (part-rest own at n h) (part-rest asked at n k)
+  -- of the bytes at a place
+  same-low : (i : ℕ) → sameName own asked ≡ true → low (getD own i 0) ≡ low (getD asked i 0)
+  same-low i e = sym (low-fold (getD own i 0)) ∙ ap low (sym (folded-byte own i) ∙ ap (λ (l : List ℕ). getD l i 0) (same-folded own asked e) ∙ folded-byte asked i) ∙ low-fold (getD asked i 0)
 
-  -- the first run decides, where all behind a place within it is the same
-  pub run-last : (n left : ℕ) → left ≤ n → sameName (drop left own) (drop left asked) ≡ true → sameName (part own 0 n) (part asked 0 n) ≡ sameName own asked
-  run-last n left h q = by (sameName (part own 0 n) (part asked 0 n)) refl
-    where
-      by : (t : Bool) → sameName (part own 0 n) (part asked 0 n) ≡ t → t ≡ sameName own asked
-      by true p = sym (run-joins 0 n left (omega arith) p q)
-      by false p = sym (run-differs 0 n p)
+  pub ends-differ : endsNear own asked ≡ false → sameName own asked ≡ false
+  unfolding endsNear
+  ends-differ = unless (sameName own asked) (eqb (low (getD own (length asked - 1) 0)) (low (getD asked (length asked - 1) 0))) (λ e. eq-eqb _ _ (same-low (length asked - 1) e))
 
--- a name at a place, by runs of it
-module _ (s name : List ℕ) (at : ℕ) where
-  run-at : (k m : ℕ) → k + m ≤ length name → sameName (part (part s at (length name)) k m) (part name k m) ≡ sameName (part s (at + k) m) (part name k m)
-  run-at k m h = ap (λ (l : List ℕ). sameName l (part name k m)) (part-part s at (length name) k m h)
+-- the end of a name at a place: of none, and of one that has a last byte
+pub ends-none : (s name : List ℕ) (at : ℕ) → length name ≡ 0 → endsNear (part s at (length name)) name ≡ true
+unfolding endsNear part
+ends-none s [] at z = eq-eqb (low 0) (low 0) refl
+ends-none s (b ∷ name) at z = absurd (omega arith)
 
-  -- where there are too few bytes; all of it in one run
-  pub too-short : length s - at < length name → sameName (part s at (length name)) name ≡ false
-  too-short h =
-      let l : length (part s at (length name)) ≡ length s - at = ap length (part-rest s at (length name) (omega arith)) ∙ length-drop at s in
-      other-length (part s at (length name)) name (λ e. omega (arith, l, e))
-
-  pub all-at : sameName (part s at (length name)) (part name 0 (length name)) ≡ sameName (part s at (length name)) name
-  all-at = ap (sameName (part s at (length name))) (part-rest name 0 (length name) (omega arith))
-
-  -- where a run differs
-  pub differs-at : (k m : ℕ) → k + m ≤ length name → sameName (part s (at + k) m) (part name k m) ≡ false → sameName (part s at (length name)) name ≡ false
-  differs-at k m h e = run-differs (part s at (length name)) name k m (run-at k m h ∙ e)
-
-  pub first-differs : (m : ℕ) → m ≤ length name → sameName (part s at m) (part name 0 m) ≡ false → sameName (part s at (length name)) name ≡ false
-  first-differs m h e = let z : at + 0 ≡ at = omega arith in differs-at 0 m (omega arith) (ap (λ (i : ℕ). sameName (part s i m) (part name 0 m)) z ∙ e)
-
-  -- what is the same from a place in the name on
-  abbrev pub sameFrom : ℕ → Type 0
-  sameFrom k = sameName (drop k (part s at (length name))) (drop k name) ≡ true
-
-  -- the last run, and one more before what is known
-  pub ends-so : (k m : ℕ) → at + length name ≤ length s → k + m ≡ length name → sameName (part s (at + k) m) (part name k m) ≡ true → sameFrom k
-  ends-so k m r h e = sym (run-rest (part s at (length name)) name k m (omega (arith, length-part s at (length name) r)) (omega arith)) ∙ run-at k m (omega arith) ∙ e
-
-  pub goes-on : (k m left : ℕ) → left ≤ k + m → k + m ≤ length name → sameName (part s (at + k) m) (part name k m) ≡ true → sameFrom left → sameFrom k
-  goes-on k m left l h e f = run-joins (part s at (length name)) name k m left l (run-at k m h ∙ e) f
-
-  -- the first run decides, where all behind a place within it is the same
-  pub begins-so : (m k : ℕ) → k ≤ m → m ≤ length name → sameFrom k → sameName (part s at m) (part name 0 m) ≡ sameName (part s at (length name)) name
-  begins-so m k h l f =
-      let e : at + 0 ≡ at = omega arith in
-      ap (λ (i : ℕ). sameName (part s i m) (part name 0 m)) (sym e) ∙ sym (run-at 0 m (omega arith)) ∙ run-last (part s at (length name)) name m k h f
-
-  -- the last run and the first, where they are all of it
-  pub two-ends : (w : ℕ) → at + length name ≤ length s → w ≤ length name → length name ≤ w + w → (last first ends : Bool)
-      → last ≡ sameName (part s (at + (length name - w)) w) (part name (length name - w) w) → first ≡ sameName (part s at w) (part name 0 w) → ends ≡ (if last then first else false)
-      → ends ≡ sameName (part s at (length name)) name
-  two-ends w room h l true first ends e f g = g ∙ f ∙ begins-so w (length name - w) (omega arith) h (ends-so (length name - w) w room (omega arith) (sym e))
-  two-ends w room h l false first ends e f g = g ∙ sym (differs-at (length name - w) w (omega arith) (sym e))
+pub ends-last : (s name : List ℕ) (at last : ℕ) → last + 1 ≡ length name → endsNear (part s at (length name)) name ≡ eqb (low (getD s (at + last) 0)) (low (getD name last 0))
+unfolding endsNear
+ends-last s name at last e =
+    let l : length name - 1 ≡ last = omega arith in
+    simp (l, getD-part s at (length name) last 0 (omega arith))

@@ -6,7 +6,7 @@ use Rattle.entry.specs.declared.Claimed.{Claimed}
 use Rattle.index.specs.Index.{find}
 use Prim.Native.Nat.{_-_}
 use mathlib.Core.Path.{_≡_, _∙_, sym, ap}
-use Rattle.index.proofs.Laws.{findFrom, find-whole, find-end, find-hit, find-zero, find-on, ahead, finished-nameless, refused-nameless, not-long}
+use Rattle.index.proofs.Laws.{findFrom, find-whole, find-end, find-hit, find-zero, find-on, ahead, finished-nameless, refused-nameless, not-likely}
 use Rattle.index.proofs.find.Statement.{statement}
 use Rattle.index.proofs.find.Tie as tie
 
@@ -32,11 +32,11 @@ returns-2 c = sym (find-zero _ _ (c .before .before .loop-test .taken) _ (ap (λ
 enum-told : tie.Need-enum-told Inv-loop μ-loop
 enum-told c = search needs
 
-long-as-requires : tie.Need-long-as-requires Inv-loop μ-loop
-long-as-requires c κs = search needs
+likely-at-once-requires : tie.Need-likely-at-once-requires Inv-loop μ-loop
+likely-at-once-requires c κs = search needs
 
 named-requires : tie.Need-named-requires Inv-loop μ-loop
-named-requires c κs = sym (c .before .long-as .ensures) ∙ c .if3 .taken
+named-requires c κs = sym (c .before .likely-at-once .ensures) ∙ c .if3 .taken
 
 returns-3 : tie.Need-returns-3 Inv-loop μ-loop
 returns-3 c = sym (find-hit _ _ (c .before .before .before .before .before .before .before .before .loop-test .taken) _ (sym (c .before .named .ensures) ∙ c .if4 .taken)) ∙ c .before .before .before .before .before .before .before .before .before .loop .inv
@@ -51,7 +51,7 @@ loop-less-2 : tie.Need-loop-less-2 Inv-loop μ-loop
 loop-less-2 c = omega (arith, ahead _ _ (c .before .before .before .before .before .before .loop-test .taken) _ (ap (λ (x : Claimed). x .next) (c .before .before .before .before .before .claim-at .ensures)) (c .before .before .before .before .if2 .left))
 
 loop-again-2 : tie.Need-loop-again-2 Inv-loop μ-loop
-loop-again-2 c = find-on _ _ (c .before .before .before .before .before .before .loop-test .taken) _ (ap (λ (x : Claimed). x .next) (c .before .before .before .before .before .claim-at .ensures)) (c .before .before .before .before .if2 .left) _ (not-long _ _ _ (sym (c .before .long-as .ensures) ∙ c .if3 .left)) ∙ c .before .before .before .before .before .before .before .loop .inv
+loop-again-2 c = find-on _ _ (c .before .before .before .before .before .before .loop-test .taken) _ (ap (λ (x : Claimed). x .next) (c .before .before .before .before .before .claim-at .ensures)) (c .before .before .before .before .if2 .left) _ (not-likely _ _ _ (sym (c .before .likely-at-once .ensures) ∙ c .if3 .left)) ∙ c .before .before .before .before .before .before .before .loop .inv
 
 enum-told-2 : tie.Need-enum-told-2 Inv-loop μ-loop
 enum-told-2 c = search needs
@@ -85,7 +85,7 @@ find-spec =
     claim-at-requires
     returns-2
     enum-told
-    long-as-requires
+    likely-at-once-requires
     named-requires
     returns-3
     loop-less

@@ -8,7 +8,7 @@ use Rattle.index.specs.Steps.{names}
 use Rattle.index.specs.Index.{firstOf, findIndexed}
 use Prim.Native.Nat.{_-_}
 use mathlib.Core.Path.{_≡_, _∙_, sym}
-use Rattle.index.proofs.Laws.{first-turn, first-end, not-long}
+use Rattle.index.proofs.Laws.{first-turn, first-end, not-likely}
 use Rattle.index.proofs.find_indexed.Statement.{statement}
 use Rattle.index.proofs.find_indexed.Tie as tie
 
@@ -38,11 +38,11 @@ cast-at c = omega (arith, c .shared-slice-known4 .given (c .before .before .loop
 add-i : tie.Need-add-i Inv-loop μ-loop
 add-i c = search needs
 
-long-as-requires : tie.Need-long-as-requires Inv-loop μ-loop
-long-as-requires c κs = search needs
+likely-requires : tie.Need-likely-requires Inv-loop μ-loop
+likely-requires c κs = search needs
 
 named-requires : tie.Need-named-requires Inv-loop μ-loop
-named-requires c κs = sym (c .before .long-as .ensures) ∙ c .if2 .taken
+named-requires c κs = sym (c .before .likely .ensures) ∙ c .if2 .taken
 
 returns-2 : tie.Need-returns-2 Inv-loop μ-loop
 returns-2 c = sym (first-turn _ _ _ _ (c .before .before .before .before .before .loop-test .taken) ∙ simp (← c .before .named .ensures, c .if3 .taken)) ∙ c .before .before .before .before .before .before .loop .inv
@@ -57,7 +57,7 @@ loop-less-2 : tie.Need-loop-less-2 Inv-loop μ-loop
 loop-less-2 c = search needs
 
 loop-again-2 : tie.Need-loop-again-2 Inv-loop μ-loop
-loop-again-2 c = sym (first-turn _ _ _ _ (c .before .before .before .loop-test .taken) ∙ simp (not-long _ _ _ (sym (c .before .long-as .ensures) ∙ c .if2 .left))) ∙ c .before .before .before .before .loop .inv
+loop-again-2 c = sym (first-turn _ _ _ _ (c .before .before .before .loop-test .taken) ∙ simp (not-likely _ _ _ (sym (c .before .likely .ensures) ∙ c .if2 .left))) ∙ c .before .before .before .before .loop .inv
 
 returns-3 : tie.Need-returns-3 Inv-loop μ-loop
 returns-3 c = sym (first-end _ _ _ _ (c .loop-test .left)) ∙ c .before .loop .inv
@@ -74,7 +74,7 @@ find-indexed-spec =
     shared-slice-read-at
     cast-at
     add-i
-    long-as-requires
+    likely-requires
     named-requires
     returns-2
     loop-less
