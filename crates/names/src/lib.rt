@@ -52,7 +52,17 @@ fn near_run(a: &[u8], at: usize, b: &[u8], from: usize, n: usize) -> bool
     same
 }
 
-// Whether a name of at most 16 bytes is near what stands at a place: its last bytes and its first ones, which may overlap.
+// Whether a name is near what stands at a place, by its last w bytes and its first w, which are all of it and may overlap.
+fn near_ends(bytes: &[u8], at: usize, name: &[u8], w: usize) -> bool
+    requires { ⌜ (at + length (now name) ≤ length (now bytes)) × ((w ≤ length (now name)) × (length (now name) ≤ w + w)) ⌝ }
+    ensures { λ r. ⌜ r ≡ near (part (now (bytes .entry)) at (length (now (name .entry)))) (now (name .entry)) ⌝ }
+{
+    let left = name.len() - w;
+    let last = near_run(bytes, at + left, name, left, w);
+    le::both(last, near_run(bytes, at, name, 0, w))
+}
+
+// The same of a name of at most 16 bytes: a width that is known makes a run one comparison.
 fn near_short(bytes: &[u8], at: usize, name: &[u8]) -> bool
     requires { ⌜ (at + length (now name) ≤ length (now bytes)) × (length (now name) ≤ 16) ⌝ }
     ensures { λ r. ⌜ r ≡ near (part (now (bytes .entry)) at (length (now (name .entry)))) (now (name .entry)) ⌝ }
@@ -62,18 +72,12 @@ fn near_short(bytes: &[u8], at: usize, name: &[u8]) -> bool
         return near_run(bytes, at, name, 0, n);
     }
     if n < 4 {
-        let left = n - 2;
-        let last = near_run(bytes, at + left, name, left, 2);
-        return le::both(last, near_run(bytes, at, name, 0, 2));
+        return near_ends(bytes, at, name, 2);
     }
     if n < 8 {
-        let left = n - 4;
-        let last = near_run(bytes, at + left, name, left, 4);
-        return le::both(last, near_run(bytes, at, name, 0, 4));
+        return near_ends(bytes, at, name, 4);
     }
-    let left = n - 8;
-    let last = near_run(bytes, at + left, name, left, 8);
-    le::both(last, near_run(bytes, at, name, 0, 8))
+    near_ends(bytes, at, name, 8)
 }
 
 // Whether a name is near what stands at a place, by runs of the 16 bytes that a processor compares at once: the last of them, since the names of a rig begin alike, then the first, then the others from the end.
