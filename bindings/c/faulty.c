@@ -25,8 +25,15 @@ static bool begins(const uint8_t *bytes, const uint64_t *slots, const uint8_t *w
 #endif
 
 #if FAULT == 0 || (FAULT > 22 && FAULT < 34) || FAULT > 37
-/* Whether two names of a length are the same at a place, as a fault has it. */
-static bool same(const uint8_t *own, const uint8_t *asked, size_t place, size_t len);
+/* Whether a byte of a name and the byte asked are the same, at a place of names of a length, as a fault has it. */
+static bool same(uint8_t x, uint8_t y, size_t place, size_t len);
+
+#define SAME_WHERE(condition)                                                                                          \
+    static bool same(uint8_t x, uint8_t y, size_t place, size_t len)                                                   \
+    {                                                                                                                  \
+        (void)place, (void)len;                                                                                        \
+        return condition;                                                                                              \
+    }
 
 static bool as_long(size_t own, size_t asked)
 {
@@ -39,7 +46,7 @@ static bool has_name(const uint8_t *bytes, size_t bytes_len, size_t at, const ui
     if (bytes_len < 30 || at > bytes_len - 30 || bytes_len - at - 30 < name_len ||
         !as_long((size_t)(bytes[at + 24] | bytes[at + 25] << 8), name_len))
         return false;
-    while (place < name_len && same(bytes + at + 30, name, place, name_len))
+    while (place < name_len && same(bytes[at + 30 + place], name[place], place, name_len))
         place++;
     return place == name_len;
 }
@@ -358,93 +365,47 @@ uint32_t __wrap_vindaskot_symbol_attribute_named(const uint8_t *bytes, size_t by
 }
 
 #elif FAULT == 23 /* a symbol is found by the very bytes of its name alone */
-static bool same(const uint8_t *own, const uint8_t *asked, size_t place, size_t len)
-{
-    (void)len;
-    return own[place] == asked[place];
-}
+SAME_WHERE(x == y)
 SEARCHES(vindaskot_find)
 
 #elif FAULT == 24 /* a capital asked finds a small letter, and a small one no capital */
-static bool same(const uint8_t *own, const uint8_t *asked, size_t place, size_t len)
-{
-    (void)len;
-    return own[place] == asked[place] || own[place] == small(asked[place]);
-}
+SAME_WHERE(x == y || x == small(y))
 SEARCHES(vindaskot_find_indexed)
 
 #elif FAULT == 25 /* the letters begin one byte early, at 40 */
-static bool same(const uint8_t *own, const uint8_t *asked, size_t place, size_t len)
-{
-    (void)len;
-    uint8_t x = own[place], y = asked[place];
-    return small(x) == small(y) || ((x ^ y) == 0x20 && (x == '@' || y == '@'));
-}
+SAME_WHERE(small(x) == small(y) || ((x ^ y) == 0x20 && (x == '@' || y == '@')))
 SEARCHES(vindaskot_find)
 
 #elif FAULT == 26 /* the letters end one byte late, at 5B */
-static bool same(const uint8_t *own, const uint8_t *asked, size_t place, size_t len)
-{
-    (void)len;
-    uint8_t x = own[place], y = asked[place];
-    return small(x) == small(y) || ((x ^ y) == 0x20 && (x == '[' || y == '['));
-}
+SAME_WHERE(small(x) == small(y) || ((x ^ y) == 0x20 && (x == '[' || y == '[')))
 SEARCHES(vindaskot_find_indexed)
 
 #elif FAULT == 27 /* accented letters, C0 to DE, have cases too */
-static bool same(const uint8_t *own, const uint8_t *asked, size_t place, size_t len)
-{
-    (void)len;
-    uint8_t x = own[place], y = asked[place], least = x < y ? x : y;
-    return small(x) == small(y) || ((x ^ y) == 0x20 && least >= 0xC0 && least <= 0xDE);
-}
+SAME_WHERE(small(x) == small(y) || ((x ^ y) == 0x20 && (x & y) >= 0xC0 && (x & y) <= 0xDE))
 SEARCHES(vindaskot_find)
 
 #elif FAULT == 28 /* the case bit of any byte is passed over */
-static bool same(const uint8_t *own, const uint8_t *asked, size_t place, size_t len)
-{
-    (void)len;
-    return ((own[place] ^ asked[place]) & 0xDF) == 0;
-}
+SAME_WHERE(((x ^ y) & 0xDF) == 0)
 SEARCHES(vindaskot_find_indexed)
 
 #elif FAULT == 29 /* names of 16 bytes and more have their cases told apart */
-static bool same(const uint8_t *own, const uint8_t *asked, size_t place, size_t len)
-{
-    return own[place] == asked[place] || (len < 16 && small(own[place]) == small(asked[place]));
-}
+SAME_WHERE(x == y || (len < 16 && small(x) == small(y)))
 SEARCHES(vindaskot_find)
 
 #elif FAULT == 30 /* of a name in blocks of 16 bytes from its end, what is left at its start is not compared */
-static bool same(const uint8_t *own, const uint8_t *asked, size_t place, size_t len)
-{
-    return small(own[place]) == small(asked[place]) || (len > 16 && place < len % 16);
-}
+SAME_WHERE(small(x) == small(y) || (len > 16 && place < len % 16))
 SEARCHES(vindaskot_find_indexed)
 
 #elif FAULT == 31 /* a letter is told by its low seven bits */
-static bool same(const uint8_t *own, const uint8_t *asked, size_t place, size_t len)
-{
-    (void)len;
-    uint8_t x = own[place], y = asked[place];
-    return small(x) == small(y) || ((x ^ y) == 0x20 && small(x & 0x7F) == small(y & 0x7F));
-}
+SAME_WHERE(small(x) == small(y) || ((x ^ y) == 0x20 && small(x & 0x7F) == small(y & 0x7F)))
 SEARCHES(vindaskot_find)
 
 #elif FAULT == 32 /* an entry that is refused is found by its name */
-static bool same(const uint8_t *own, const uint8_t *asked, size_t place, size_t len)
-{
-    (void)len;
-    return small(own[place]) == small(asked[place]);
-}
+SAME_WHERE(small(x) == small(y))
 SEARCHES(vindaskot_find)
 
 #elif FAULT == 33 /* a slot of a refused entry that has the name ends the search */
-static bool same(const uint8_t *own, const uint8_t *asked, size_t place, size_t len)
-{
-    (void)len;
-    return small(own[place]) == small(asked[place]);
-}
+SAME_WHERE(small(x) == small(y))
 SEARCHES(vindaskot_find_indexed)
 
 #elif FAULT == 34 /* where the first symbol of a name has it in another case, the last one is found */
@@ -524,27 +485,16 @@ uint32_t __wrap_vindaskot_find(const uint8_t *bytes, size_t bytes_len, const uin
 }
 
 #elif FAULT == 38 /* of names of more than 64 bytes one byte is not compared */
-static bool same(const uint8_t *own, const uint8_t *asked, size_t place, size_t len)
-{
-    return small(own[place]) == small(asked[place]) || (len > 64 && place == 20);
-}
+SAME_WHERE(small(x) == small(y) || (len > 64 && place == 20))
 SEARCHES(vindaskot_find)
 
 #elif FAULT == 39 /* a longer name whose length agrees in its last byte is found by its start */
-static bool same(const uint8_t *own, const uint8_t *asked, size_t place, size_t len)
-{
-    (void)len;
-    return small(own[place]) == small(asked[place]);
-}
+SAME_WHERE(small(x) == small(y))
 SEARCHES(vindaskot_find_indexed)
 
 #elif FAULT == 0
 /* No fault but a control: the search that 23 to 33, 38 and 39 share, with the right comparison. */
-static bool same(const uint8_t *own, const uint8_t *asked, size_t place, size_t len)
-{
-    (void)len;
-    return small(own[place]) == small(asked[place]);
-}
+SAME_WHERE(small(x) == small(y))
 SEARCHES(vindaskot_find)
 SEARCHES(vindaskot_find_indexed)
 
