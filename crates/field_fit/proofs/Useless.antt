@@ -1,4 +1,4 @@
--- The smallest field is fit; with it demand 3 shuts the useless versions out.
+-- The largest numbers are typed. The smallest field is fit; with it demand 3 shuts the useless versions out.
 use native.Mathlib.Omega.{arith}
 use mathlib.Core.Path.{_≡_, refl}
 use mathlib.Core.Bool.{false}
@@ -10,7 +10,19 @@ use Rattle.guid.specs.Guid.{zeros16}
 use Rattle.field_walk.specs.Told.{stepTold, cursorOf}
 use Rattle.wire.specs.Wire.{lengthsOf, stringsOf, attributesOf, stringsChecked, entryOf, entryWriting}
 use Rattle.field_writer.specs.Writing.{numbersOf, headerOf, guidOf, maskOf, sectionsOf, fieldBytes, fieldChecked, fieldWriting}
-use Rattle.field_fit.specs.Demand3.{Parts, bytesOf, writingOf, Typed, Agrees, Fit, fieldMeant, FieldsShutOut}
+use Rattle.field_fit.specs.Demand3.{Parts, bytesOf, writingOf, Typed, LargestTyped, Agrees, Fit, fieldMeant, FieldsShutOut}
+
+pub largest-typed : LargestTyped
+largest-typed p here e h = record {
+  version = rw e (omega arith);
+  hash = rw e (omega arith);
+  type-hash = rw e (omega arith);
+  size = rw e (omega arith);
+  offset = rw e (omega arith);
+  type-id = rw e (omega arith);
+  flags = rw e (omega arith);
+  guid = h;
+}
 
 -- every number 0, no flag set, no name
 abbrev smallest : Parts

@@ -1,7 +1,7 @@
 -- Demand 3 for fields, stated: fit fields, written one after another, each entry grown by any bytes at its end, come back from the walk.
 use Prim.Native.Nat.{ℕ, _<_}
 use mathlib.Core.Path.{_≡_}
-use mathlib.Core.Bool.{false}
+use mathlib.Core.Bool.{Bool, false}
 use mathlib.Core.List.{List, map}
 use mathlib.Core.Option.{none, some}
 use lib.ListN.{length, take}
@@ -44,6 +44,23 @@ pub record Typed (p : Parts) : Type 0 where
   pub type-id : p .numbers .«type_id» < 4294967296
   pub flags : p .numbers .flags .0 < 4294967296
   pub guid : length (p .guid) ≡ 16
+
+-- and no more than they say: the largest number that each of them holds is typed
+abbrev largest : Bool → FieldNumbers
+largest here =
+    record {
+      version = 0xFFFFFFFF;
+      «hash_value» = 0xFFFFFFFF;
+      «type_hash_value» = 0xFFFFFFFF;
+      size = 0xFFFFFFFF;
+      offset = 0xFFFFFFFF;
+      «type_id» = 0xFFFFFFFF;
+      flags = record { 0 = 0xFFFFFFFF };
+      «has_guid» = here;
+    }
+
+abbrev pub LargestTyped : Type 0
+LargestTyped = (p : Parts) (here : Bool) → p .numbers ≡ largest here → length (p .guid) ≡ 16 → Typed p
 
 -- 01, "Fit records": every field that the field writer accepts with the method flag clear, the GUID present exactly if flagged,
 -- and the attribute block empty and its count 0 unless flagged
