@@ -10,11 +10,12 @@ CHAIN = struct.pack("<IH", 0x01000001, 1) + b"A\0" + struct.pack("<IH", 0x10, 0)
 
 
 def entry(i):
-    """Symbol i, grown: its bytes, and (offset, size, flags, attributes, records) as they were meant."""
+    """Symbol i, grown: its bytes, and (offset, size, flags, high, attributes, records) as they were meant."""
     kind = i % 4
     flags = [0, 0x0008, 0x1000, 0x9008][kind]
+    high = i % 256 * 256 + (i + 85) % 256
     name, kind_name, comment = b"Ax%03d" % i, b"LREAL", b"zoom" if kind == 2 else b""
-    body = struct.pack("<IIIIHHHHH", 0x4020, i, 8, 5, flags, 0, len(name), len(kind_name), len(comment))
+    body = struct.pack("<IIIIHHHHH", 0x4020, i, 8, 5, flags, high, len(name), len(kind_name), len(comment))
     body += name + b"\0" + kind_name + b"\0" + comment + b"\0"
     attributes = records = 0
     if flags & 0x0008:
@@ -27,7 +28,7 @@ def entry(i):
         records = 2
     extra = i % 6
     body += bytes([238]) * extra
-    return struct.pack("<I", len(body) + 4) + body, (i, 8, flags, attributes, records, extra)
+    return struct.pack("<I", len(body) + 4) + body, (i, 8, flags, high, attributes, records, extra)
 
 
 def main():

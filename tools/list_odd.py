@@ -1,22 +1,22 @@
 #!/usr/bin/env python3
-"""Odd frames for the listing, and what 01 says is printed of them.
+"""Odd frames for the listing, and what 01 and W-205 say is printed of them.
 
     tools/list_odd.py          writes crates/list_odd/stdin and crates/list_odd/stdout
     tools/list_odd.py --check  says whether these files are what it would write
     tools/list_odd.py FILE     prints the listing of a file of hexadecimal lines
 
-`rt check list_odd` then runs the proved program on that stdin and compares. The reader below follows 01's text
-and the layouts of TcAdsDef.h; it shares nothing with the crates.
+`rt check list_odd` then runs the proved program on that stdin and compares. The reader below follows 01's text,
+W-205's and the layouts of TcAdsDef.h; it shares nothing with the crates.
 """
 import struct
 import sys
 from pathlib import Path
 
-HEADER = b"line at len group offset size type flags unread attrs refs name typename\n"
+HEADER = b"line at len group offset size type flags unread attrs refs name typename high\n"
 MOST = 16384
 
 
-# What 01 says of a symbol entry.
+# What 01 says of a symbol entry, and W-205 of its bytes 22 and 23.
 
 
 def attribute_end(e, at):
@@ -68,7 +68,7 @@ def symbol(e):
     """The printed fields of an entry's own bytes, or the refusal."""
     if len(e) < 30:
         return None, (2, 30, len(e))
-    _, group, offset, size, kind, flags, _, n, t, k = struct.unpack_from("<IIIIIHHHHH", e, 0)
+    _, group, offset, size, kind, flags, high, n, t, k = struct.unpack_from("<IIIIIHHHHH", e, 0)
     at = 33 + n + t + k
     if len(e) < at:
         return None, (3, at, len(e))
@@ -83,7 +83,7 @@ def symbol(e):
         if extended & 0x0004 and len(e) > at:
             refs, at = chain(e, at)
     name, type_name = e[30 : 30 + n], e[31 + n : 31 + n + t]
-    return (len(e), group, offset, size, kind, flags, len(e) - at, attrs, refs, name, type_name), None
+    return (len(e), group, offset, size, kind, flags, len(e) - at, attrs, refs, name, type_name, high), None
 
 
 # What it says of a walk, a line and the input.
@@ -137,11 +137,11 @@ def listing(data):
 # The odd frames.
 
 
-def entry(name=b"Z", kind=b"INT", comment=b"", flags=0, tail=b"", claim=None, numbers=(0x4020, 8, 2, 2), lengths=None):
+def entry(name=b"Z", kind=b"INT", comment=b"", flags=0, tail=b"", claim=None, numbers=(0x4020, 8, 2, 2), lengths=None, high=0):
     lengths = lengths or (len(name), len(kind), len(comment))
     body = name + b"\0" + kind + b"\0" + comment + b"\0" + tail
     claim = 30 + len(body) if claim is None else claim
-    return struct.pack("<IIIIIHHHHH", claim, *numbers, flags, 0, *lengths) + body
+    return struct.pack("<IIIIIHHHHH", claim, *numbers, flags, high, *lengths) + body
 
 
 def attribute(name, value):
@@ -213,8 +213,12 @@ def odd_lines():
     yield hexed(entry(flags=0x8000, tail=b"\4\0\0\0" + refactor(0x01000001, b"A") + b"\2\0\0\0\5\0A\0"))
     yield hexed(entry(flags=0x8000, tail=b"\4\0\0\0") + entry(flags=0x8000, tail=b"\4\0\0") + entry(flags=0x8000, tail=b"\3\0\0\0" + refactor(0, b"A")))
     yield hexed(entry(flags=0x9008, tail=guid + b"\2\0" + attrs + b"\4\0\0\0" + refactor(0x01000000, b"Old") + refactor(0, b"Older") + b"rest"))
-    yield hexed(entry(flags=0xFFFF, numbers=(0xFFFFFFFF, 0xFFFFFFFF, 0xFFFFFFFF, 0xFFFFFFFF), tail=guid + b"\0\0" + b"\xff\xff\xff\xff"))
+    yield hexed(entry(flags=0xFFFF, high=0xFFFF, numbers=(0xFFFFFFFF, 0xFFFFFFFF, 0xFFFFFFFF, 0xFFFFFFFF), tail=guid + b"\0\0" + b"\xff\xff\xff\xff"))
     yield hexed(entry(tail=b"unread"))
+    # bytes 22 and 23: each alone, both, what would flag every section two bytes before, a name and a type that are empty
+    yield hexed(b"".join(entry(high=h) for h in (1, 255, 256, 0x0102, 0xFF00, 0x8000, 0xFFFF)))
+    yield hexed(entry(high=0x9008, tail=guid) + entry(flags=0x0008, high=0x1000, tail=guid) + entry(name=b"", kind=b"", high=4660))
+    yield hexed(entry(high=0x0102, claim=36) + entry(high=0x0201))
     # the largest frame, one byte more, and a line of many times that
     yield hexed(filled(MOST))
     yield hexed(filled(MOST + 1))

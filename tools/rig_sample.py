@@ -4,7 +4,8 @@
     tools/rig_sample.py        writes samples/rig.bin, and samples/rig.hex, the same as one hexadecimal line
 
 The entries are those that a controller would send: GUIDs beside structured types, attributes, extended flags, the former
-names of renamed symbols, comments in German.
+names of renamed symbols, comments in German. Some have a high, bytes 22 and 23, that is not 0: of two unlike bytes, so that
+exchanging them shows, and of bits that among the flags would mean a GUID and attributes.
 """
 import struct
 import uuid
@@ -34,7 +35,7 @@ def chain(names):
     return out
 
 
-def entry(offset, name, kind, comment="", size=None, attributes=(), former=()):
+def entry(offset, name, kind, comment="", size=None, attributes=(), former=(), high=0):
     type_id, length = TYPES.get(kind, (STRUCT, size))
     flags, tail = 0, b""
     if type_id == STRUCT:
@@ -48,7 +49,7 @@ def entry(offset, name, kind, comment="", size=None, attributes=(), former=()):
         tail += struct.pack("<I", REFACTOR) + chain(former)
     name, kind, comment = text(name), text(kind), text(comment)
     body = name + b"\0" + kind + b"\0" + comment + b"\0" + tail
-    head = struct.pack("<IIIIIHH", 30 + len(body), 0x4040, offset, length, type_id, flags, 0)
+    head = struct.pack("<IIIIIHH", 30 + len(body), 0x4040, offset, length, type_id, flags, high)
     return head + struct.pack("<HHH", len(name), len(kind), len(comment)) + body, length
 
 
@@ -63,15 +64,15 @@ def symbols():
     for axis in ("fSwing", "fBoom", "fPan", "fTilt", "fRoll"):
         yield f"MAIN.stJib.{axis}", "LREAL", "", dict(attributes=[("unit", "°")])
         yield f"MAIN.stJib.{axis}Speed", "LREAL", "", {}
-    yield "MAIN.stJib.nCounterweight", "UINT", "Gegengewicht über dem Lager", dict(former=["nWeight", "nBallast"])
-    yield "MAIN.stJib.bTrackLock", "BOOL", "", {}
-    yield "MAIN.stLens", "ST_BoxLens", "Kastenobjektiv, geprüft", dict(size=128, attributes=lens, former=["stOptic"])
+    yield "MAIN.stJib.nCounterweight", "UINT", "Gegengewicht über dem Lager", dict(former=["nWeight", "nBallast"], high=0x00FF)
+    yield "MAIN.stJib.bTrackLock", "BOOL", "", dict(high=0x8000)
+    yield "MAIN.stLens", "ST_BoxLens", "Kastenobjektiv, geprüft", dict(size=128, attributes=lens, former=["stOptic"], high=0x0102)
     for axis in ("fZoom", "fFocus", "fIris"):
         yield f"MAIN.stLens.{axis}", "REAL", "", {}
         yield f"MAIN.stLens.{axis}Raw", "DINT", "", dict(attributes=[("encoder", "1")])
     yield "MAIN.stLens.aTable", "ARRAY [0..31] OF ST_LensPoint", "Stützpunkte", dict(size=512, attributes=lens[:2])
     yield "MAIN.stLens.bExtender", "BOOL", "", dict(former=["bDoubler"])
-    yield "MAIN.stLens.sSerial", "STRING(31)", "", {}
+    yield "MAIN.stLens.sSerial", "STRING(31)", "", dict(high=0x1008)
     yield "MAIN.nState", "DINT", "", {}
 
 

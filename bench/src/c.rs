@@ -33,13 +33,26 @@ fn done(what: &str, status: u32, answer: [u64; 2]) -> usize {
     answer[0] as usize
 }
 
-pub fn symbol_step(
+/// A step of the walk, of this archive or of an earlier one, by the number of its slots.
+pub type SymbolStep<const N: usize> = unsafe extern "C" fn(
+    *const u8,
+    usize,
+    &mut usize,
+    &mut [u64; N],
+    &mut [u8; 16],
+    &mut [u64; 2],
+) -> u32;
+
+pub const SYMBOL_STEP: SymbolStep<{ sys::SYMBOL_SLOTS }> = sys::vindaskot_symbol_step_2;
+
+pub fn symbol_step<const N: usize>(
+    by: SymbolStep<N>,
     bytes: &[u8],
     cursor: &mut usize,
-    told: &mut Told<{ sys::SYMBOL_SLOTS }>,
+    told: &mut Told<N>,
 ) -> u32 {
     let (slots, guid, answer) = (&mut told.slots, &mut told.guid, &mut told.answer);
-    unsafe { sys::vindaskot_symbol_step(bytes.as_ptr(), bytes.len(), cursor, slots, guid, answer) }
+    unsafe { by(bytes.as_ptr(), bytes.len(), cursor, slots, guid, answer) }
 }
 
 pub fn field_read(bytes: &[u8], told: &mut Told<{ sys::FIELD_SLOTS }>) {
@@ -124,36 +137,44 @@ pub fn refactor_write(count: u32, has_next: bool, name: &[u8], out: &mut [u8]) -
     done("refactor_write", status, answer)
 }
 
+/// Writes a symbol by one of the writers. An earlier one takes no `high`.
+macro_rules! symbol_write {
+    ($by:path, $s:ident, $out:ident, $($high:expr)?) => {{
+        let mut answer = [0; 2];
+        let status = unsafe {
+            $by(
+                $s.group,
+                $s.offset,
+                $s.size,
+                $s.type_id,
+                $s.flags,
+                $($high,)?
+                $s.extended,
+                $s.guid.as_ptr(),
+                $s.guid.len(),
+                $s.name.as_ptr(),
+                $s.name.len(),
+                $s.type_name.as_ptr(),
+                $s.type_name.len(),
+                $s.comment.as_ptr(),
+                $s.comment.len(),
+                $s.attributes.len(),
+                $s.block.as_ptr(),
+                $s.block.len(),
+                $s.former.len(),
+                $s.chain.as_ptr(),
+                $s.chain.len(),
+                $out.as_mut_ptr(),
+                $out.len(),
+                &mut answer,
+            )
+        };
+        done("symbol_write", status, answer)
+    }};
+}
+
 pub fn symbol_write(s: &Symbol, out: &mut [u8]) -> usize {
-    let mut answer = [0; 2];
-    let status = unsafe {
-        sys::vindaskot_symbol_write(
-            s.group,
-            s.offset,
-            s.size,
-            s.type_id,
-            s.flags,
-            s.extended,
-            s.guid.as_ptr(),
-            s.guid.len(),
-            s.name.as_ptr(),
-            s.name.len(),
-            s.type_name.as_ptr(),
-            s.type_name.len(),
-            s.comment.as_ptr(),
-            s.comment.len(),
-            s.attributes.len(),
-            s.block.as_ptr(),
-            s.block.len(),
-            s.former.len(),
-            s.chain.as_ptr(),
-            s.chain.len(),
-            out.as_mut_ptr(),
-            out.len(),
-            &mut answer,
-        )
-    };
-    done("symbol_write", status, answer)
+    symbol_write!(sys::vindaskot_symbol_write_2, s, out, s.high)
 }
 
 /// A field with a symbol's strings, GUID and attributes. The three strings and the block come apart: they may have been made
@@ -221,9 +242,60 @@ pub type FindIndexed = unsafe extern "C" fn(
 pub const FIND: Find = sys::vindaskot_find;
 pub const FIND_INDEXED: FindIndexed = sys::vindaskot_find_indexed;
 
+/// An earlier archive's calls, under names of their own. One of interface 1 (cfg `before_1`) knows nothing of `high`: its
+/// symbols have a slot less, and its writer an argument.
 #[cfg(before)]
 pub mod before {
+    use super::{Symbol, done, sys};
+
+    pub const SYMBOL_SLOTS: usize = sys::SYMBOL_SLOTS - cfg!(before_1) as usize;
+
+    pub fn symbol_write(s: &Symbol, out: &mut [u8]) -> usize {
+        #[cfg(before_1)]
+        return symbol_write!(write, s, out,);
+        #[cfg(not(before_1))]
+        return symbol_write!(write, s, out, s.high);
+    }
+
     unsafe extern "C" {
+        #[cfg_attr(before_1, link_name = "before_vindaskot_symbol_step")]
+        #[cfg_attr(not(before_1), link_name = "before_vindaskot_symbol_step_2")]
+        pub fn symbol_step(
+            bytes: *const u8,
+            bytes_len: usize,
+            cursor: &mut usize,
+            slots: &mut [u64; SYMBOL_SLOTS],
+            guid: &mut [u8; 16],
+            answer: &mut [u64; 2],
+        ) -> u32;
+        #[cfg_attr(before_1, link_name = "before_vindaskot_symbol_write")]
+        #[cfg_attr(not(before_1), link_name = "before_vindaskot_symbol_write_2")]
+        fn write(
+            index_group: u32,
+            index_offset: u32,
+            size: u32,
+            data_type_id: u32,
+            flags: u16,
+            #[cfg(not(before_1))] high: u16,
+            extended_flags: u32,
+            guid: *const u8,
+            guid_len: usize,
+            name: *const u8,
+            name_len: usize,
+            type_name: *const u8,
+            type_name_len: usize,
+            comment: *const u8,
+            comment_len: usize,
+            count: usize,
+            block: *const u8,
+            block_len: usize,
+            links: usize,
+            chain: *const u8,
+            chain_len: usize,
+            out: *mut u8,
+            out_len: usize,
+            answer: &mut [u64; 2],
+        ) -> u32;
         #[link_name = "before_vindaskot_find"]
         pub fn find(b: *const u8, n: usize, name: *const u8, len: usize, a: &mut [u64; 2]) -> u32;
         #[link_name = "before_vindaskot_find_indexed"]

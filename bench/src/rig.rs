@@ -85,6 +85,7 @@ pub struct Symbol {
     pub size: u32,
     pub type_id: u32,
     pub flags: u16,
+    pub high: u16,
     pub extended: u32,
     /// 16 bytes, or none.
     pub guid: Vec<u8>,
@@ -187,6 +188,15 @@ fn former_names(dice: &mut Dice) -> Vec<(u32, Vec<u8>)> {
         .collect()
 }
 
+/// Of ten symbols one has a high that is not 0, of dice of its own: all else is as it would be without.
+fn high(number: usize) -> u16 {
+    if number % 10 == 3 {
+        Dice::new(number as u64).roll() as u16 | 1
+    } else {
+        0
+    }
+}
+
 /// GUIDs stand beside structures; of a hundred symbols 75 have a comment, 60 attributes and 2 former names.
 fn symbol(number: usize, offset: u32, dice: &mut Dice) -> Symbol {
     let (name, type_name, type_id, size) = named(number, dice);
@@ -209,6 +219,7 @@ fn symbol(number: usize, offset: u32, dice: &mut Dice) -> Symbol {
         flags: flag(!guid.is_empty(), GUID)
             | flag(!attributes.is_empty(), ATTRIBUTES)
             | flag(renamed, EXTENDED),
+        high: high(number),
         extended: if renamed { REFACTOR } else { 0 },
         guid,
         name: name.into_bytes(),

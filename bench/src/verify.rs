@@ -32,6 +32,7 @@ fn check_numbers(s: &Symbol, told: &Told<{ sys::SYMBOL_SLOTS }>) {
         (sys::SYMBOL_SIZE, s.size as usize),
         (sys::SYMBOL_DATA_TYPE_ID, s.type_id as usize),
         (sys::SYMBOL_FLAGS, s.flags as usize),
+        (sys::SYMBOL_HIGH, s.high as usize),
         (sys::SYMBOL_HAS_GUID, s.guid.len() / 16),
         (sys::SYMBOL_EXTENDED_FLAGS, s.extended as usize),
         (sys::SYMBOL_ATTRIBUTE_COUNT, s.attributes.len()),
@@ -72,6 +73,13 @@ fn check_records(s: &Symbol, entry: &[u8], told: &Told<{ sys::SYMBOL_SLOTS }>) {
 
 fn check_ours(s: &Symbol, entry: &[u8], told: &Told<{ sys::SYMBOL_SLOTS }>) {
     check_numbers(s, told);
+    // The Rust does not tell these bytes.
+    same(
+        &&entry[22..24],
+        &&s.high.to_le_bytes()[..],
+        "bytes 22 and 23",
+        &s.name,
+    );
     same(
         &part(entry, told, sys::SYMBOL_NAME),
         &&s.name[..],
@@ -152,7 +160,7 @@ pub fn check(rig: &Rig) {
     let mut cursor = 0;
     for (s, start) in rig.symbols.iter().zip(&rig.starts) {
         same(&cursor, start, "start", &s.name);
-        let status = c::symbol_step(&rig.upload, &mut cursor, &mut told);
+        let status = c::symbol_step(c::SYMBOL_STEP, &rig.upload, &mut cursor, &mut told);
         same(&status, &sys::DONE, "status", &s.name);
         check_ours(s, &rig.upload[*start..cursor], &told);
         match theirs.next() {
@@ -160,7 +168,7 @@ pub fn check(rig: &Rig) {
             other => wrong(&format!("the Rust's walk: {other:?}")),
         }
     }
-    let status = c::symbol_step(&rig.upload, &mut cursor, &mut told);
+    let status = c::symbol_step(c::SYMBOL_STEP, &rig.upload, &mut cursor, &mut told);
     if status != sys::FINISHED || theirs.next().is_some() {
         wrong("the walk does not end after the last symbol");
     }

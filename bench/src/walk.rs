@@ -11,10 +11,14 @@ use std::hint::black_box;
 /// Of each entry: what both sides can tell of it without text. An unread byte, which the Rust does not tell, would show as a
 /// difference, since written entries have none.
 pub fn ours(upload: &[u8]) -> u64 {
-    let mut told = Told::<{ sys::SYMBOL_SLOTS }>::new();
+    stepped(c::SYMBOL_STEP, upload)
+}
+
+fn stepped<const N: usize>(by: c::SymbolStep<N>, upload: &[u8]) -> u64 {
+    let mut told = Told::<N>::new();
     let (mut cursor, mut sum) = (0, 0);
     loop {
-        match c::symbol_step(upload, &mut cursor, &mut told) {
+        match c::symbol_step(by, upload, &mut cursor, &mut told) {
             sys::DONE => sum += ours_sum(&told),
             sys::FINISHED => return sum,
             status => wrong(&format!("vindaskot_symbol_step refused with {status}")),
@@ -22,21 +26,23 @@ pub fn ours(upload: &[u8]) -> u64 {
     }
 }
 
-fn ours_sum(told: &Told<{ sys::SYMBOL_SLOTS }>) -> u64 {
-    told.slots[sys::SYMBOL_NAME_LEN]
-        + told.slots[sys::SYMBOL_TYPE_NAME_LEN]
-        + (told.slots[sys::SYMBOL_COMMENT_LEN] != 0) as u64
-        + told.slots[sys::SYMBOL_INDEX_GROUP]
+/// Where an earlier archive has no slot for `high`, what comes after that stands a slot before.
+fn ours_sum<const N: usize>(told: &Told<N>) -> u64 {
+    let after_high = |slot: usize| told.slots[slot + N - sys::SYMBOL_SLOTS];
+    told.slots[sys::SYMBOL_INDEX_GROUP]
         + told.slots[sys::SYMBOL_INDEX_OFFSET]
         + told.slots[sys::SYMBOL_SIZE]
         + told.slots[sys::SYMBOL_DATA_TYPE_ID]
         + told.slots[sys::SYMBOL_FLAGS]
-        + told.slots[sys::SYMBOL_HAS_GUID]
+        + after_high(sys::SYMBOL_NAME_LEN)
+        + after_high(sys::SYMBOL_TYPE_NAME_LEN)
+        + (after_high(sys::SYMBOL_COMMENT_LEN) != 0) as u64
+        + after_high(sys::SYMBOL_HAS_GUID)
         + told.guid[0] as u64
-        + told.slots[sys::SYMBOL_ATTRIBUTE_COUNT]
-        + told.slots[sys::SYMBOL_EXTENDED_FLAGS]
-        + told.slots[sys::SYMBOL_REFACTOR_COUNT]
-        + told.slots[sys::SYMBOL_UNREAD]
+        + after_high(sys::SYMBOL_ATTRIBUTE_COUNT)
+        + after_high(sys::SYMBOL_EXTENDED_FLAGS)
+        + after_high(sys::SYMBOL_REFACTOR_COUNT)
+        + after_high(sys::SYMBOL_UNREAD)
 }
 
 pub fn theirs(upload: &[u8]) -> u64 {
@@ -73,7 +79,7 @@ fn ours_text(upload: &[u8], out: &mut [u8]) -> u64 {
     let (mut cursor, mut sum) = (0, 0);
     loop {
         let entry = &upload[cursor..];
-        match c::symbol_step(upload, &mut cursor, &mut told) {
+        match c::symbol_step(c::SYMBOL_STEP, upload, &mut cursor, &mut told) {
             sys::DONE => sum += ours_text_of(entry, &told, out),
             sys::FINISHED => return sum,
             status => wrong(&format!("vindaskot_symbol_step refused with {status}")),
@@ -154,6 +160,13 @@ pub fn rows(report: &mut Report, rig: &Rig) {
     let runs = vec![plain(|| ours(upload)), plain(|| theirs(upload))];
     let times = race(report.allowed, what, runs);
     report.goals.walk = report.row(what, entries, times[0], times[1]);
+    #[cfg(before)]
+    {
+        let what = "  the same (BEFORE in place of the Rust)";
+        let before = plain(|| stepped(c::before::symbol_step, upload));
+        let times = race(report.allowed, what, vec![plain(|| ours(upload)), before]);
+        report.row(what, entries, times[0], times[1]);
+    }
     let what = "walk, all text as UTF-8 on both sides";
     let mut out = vec![0; 4096];
     let runs = vec![

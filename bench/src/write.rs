@@ -235,17 +235,33 @@ fn refactor_row(report: &mut Report, rig: &Rig) {
     report.row(what, ours.len(), times[0], times[1]);
 }
 
+fn symbol_rows(report: &mut Report, rig: &Rig) {
+    let written = |write: fn(&Symbol, &mut [u8]) -> usize| {
+        let mut out = [0; 4096];
+        plain(move || {
+            let each = rig.symbols.iter();
+            each.map(|s| write(black_box(s), &mut out) as u64).sum()
+        })
+    };
+    let runs = vec![
+        written(c::symbol_write),
+        #[cfg(before)]
+        written(c::before::symbol_write),
+    ];
+    let what = "write a symbol";
+    let times = race(report.allowed, what, runs);
+    report.alone(what, rig.symbols.len(), times[0]);
+    if let Some(before) = times.get(1) {
+        let what = "  the same (BEFORE in place of the Rust)";
+        report.row(what, rig.symbols.len(), times[0], *before);
+    }
+}
+
 pub fn rows(report: &mut Report, rig: &Rig) {
     report.heading("writing, and reading fields", "ns an entry or record");
     let fields = fields(rig);
     let mut out = [0; 4096];
-    let what = "write a symbol";
-    let write = |s: &Symbol, out: &mut [u8]| c::symbol_write(black_box(s), out) as u64;
-    let runs = vec![plain(|| {
-        rig.symbols.iter().map(|s| write(s, &mut out)).sum()
-    })];
-    let times = race(report.allowed, what, runs);
-    report.alone(what, rig.symbols.len(), times[0]);
+    symbol_rows(report, rig);
     field_write_rows(report, &fields);
     attribute_row(report, rig);
     refactor_row(report, rig);

@@ -39,6 +39,9 @@ static const char *const groups[GROUPS] = {
     [OTHER_CASE] = "symbols by name, found in another case than asked",
     [EARLIER] = "symbols by name, found before one that has the very bytes asked",
     [NEAR_CASE] = "symbols by name, none there but one that differs in bit 5 alone",
+    [HIGHS_READ] = "bytes 22 and 23 of a symbol, read where they are not zeros",
+    [HIGHS_WRITTEN] = "bytes 22 and 23 of a symbol, written where they are not zeros",
+    [HIGHS_APART] = "bytes 22 and 23 of a symbol, on which nothing else depends",
     [TEXTS] = "text there and back",
 };
 
@@ -123,7 +126,7 @@ static int report(uint64_t cases)
                lacks ? "  A STATUS WAS NEVER SEEN" : "");
         missing += lacks;
     }
-    printf("%12d calls: vindaskot_interface\n", 1);
+    printf("%12d calls: vindaskot_interface_2\n", 1);
     printf("boundary: %llu of %llu checks failed, %llu groups or functions left out; %llu random cases, seed %llu\n",
            (unsigned long long)failures, (unsigned long long)all, (unsigned long long)missing,
            (unsigned long long)cases, (unsigned long long)seed_number);
@@ -136,7 +139,7 @@ int main(int argc, char **argv)
         fputs("usage: boundary CASES [SEED [FIRST]]\n", stderr);
         return 2;
     }
-    if (vindaskot_interface() != VINDASKOT_INTERFACE) {
+    if (vindaskot_interface_2() != VINDASKOT_INTERFACE) {
         fputs("boundary: the archive has another interface than the header\n", stderr);
         return 1;
     }

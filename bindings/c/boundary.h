@@ -7,6 +7,7 @@
  *   boundary_make.c    random numbers, entries, damage
  *   boundary_edges.c   empty slices, every length lent, names that are nearly alike, the limits
  *   boundary_case.c    symbols by names in another case
+ *   boundary_high.c    bytes 22 and 23 of a symbol
  *   boundary_random.c  random cases
  */
 #ifndef BOUNDARY_H
@@ -42,6 +43,9 @@ enum group {
     OTHER_CASE,
     EARLIER,
     NEAR_CASE,
+    HIGHS_READ,
+    HIGHS_WRITTEN,
+    HIGHS_APART,
     TEXTS,
     GROUPS
 };
@@ -70,10 +74,11 @@ struct room {
 };
 
 /* The arguments of both entry writers. A symbol's numbers: group, offset, size, type id. A field's: version, hash, type
- * hash, size, offset, type id. */
+ * hash, size, offset, type id. A field has no `high`. */
 struct parts {
     uint32_t numbers[6];
     uint32_t flags;
+    uint16_t high;
     uint32_t extended;
     struct bytes guid, name, type_name, comment, block, chain;
     size_t count, links;
@@ -292,6 +297,7 @@ void miss_case(struct room name);
 
 void try_edges(void);
 void try_capitals(void);
+void try_highs(void);
 void try_limits(void);
 void try_random(uint64_t from, uint64_t cases, uint64_t seed_number);
 

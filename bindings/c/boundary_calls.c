@@ -25,8 +25,8 @@ static const struct {
     bool guid, cursor, steps;
     uint32_t statuses;
 } functions[FUNCTIONS] = {
-    [SYMBOL_READ] = {"vindaskot_symbol_read", OF_SYMBOL, true, false, false, DIRECT},
-    [SYMBOL_STEP] = {"vindaskot_symbol_step", OF_SYMBOL, true, true, false, STEP},
+    [SYMBOL_READ] = {"vindaskot_symbol_read_2", OF_SYMBOL, true, false, false, DIRECT},
+    [SYMBOL_STEP] = {"vindaskot_symbol_step_2", OF_SYMBOL, true, true, false, STEP},
     [SYMBOL_ATTRIBUTE] = {"vindaskot_symbol_attribute", OF_ATTRIBUTE, false, false, false, DIRECT | NUMBER(14)},
     [SYMBOL_REFACTOR_INFO] = {"vindaskot_symbol_refactor_info", OF_REFACTOR, false, false, false, DIRECT | NUMBER(14)},
     [SYMBOL_ATTRIBUTE_NAMED] = {"vindaskot_symbol_attribute_named", OF_ATTRIBUTE, false, false, false,
@@ -51,7 +51,7 @@ static const struct {
     [REFACTOR_WRITE] = {"vindaskot_refactor_write", 0, false, false, false, DONE | NUMBER(7) | NUMBER(6)},
     [REFACTOR_BLOCK_WRITE] = {"vindaskot_refactor_block_write", 0, false, false, false,
                               DONE | NUMBER(7) | NUMBER(9) | NUMBER(5) | NUMBER(6)},
-    [SYMBOL_WRITE] = {"vindaskot_symbol_write", 0, false, false, false,
+    [SYMBOL_WRITE] = {"vindaskot_symbol_write_2", 0, false, false, false,
                       DONE | NUMBER(1) | NUMBER(7) | NUMBER(9) | NUMBER(8) | NUMBER(5) | NUMBER(6)},
     [FIELD_WRITE] = {"vindaskot_field_write", 0, false, false, false,
                      DONE | NUMBER(1) | NUMBER(7) | NUMBER(9) | NUMBER(5) | NUMBER(6)},
@@ -201,13 +201,13 @@ enum group naming_group(struct told want)
 struct told call_symbol_read(struct bytes b)
 {
     struct frame *f = begin(SYMBOL_READ, 0);
-    return finish(SYMBOL_READ, vindaskot_symbol_read(b.at, b.len, f->slots, f->guid, f->answer));
+    return finish(SYMBOL_READ, vindaskot_symbol_read_2(b.at, b.len, f->slots, f->guid, f->answer));
 }
 
 struct told call_symbol_step(struct bytes b, size_t cursor)
 {
     struct frame *f = begin(SYMBOL_STEP, cursor);
-    return finish(SYMBOL_STEP, vindaskot_symbol_step(b.at, b.len, &f->cursor, f->slots, f->guid, f->answer));
+    return finish(SYMBOL_STEP, vindaskot_symbol_step_2(b.at, b.len, &f->cursor, f->slots, f->guid, f->answer));
 }
 
 struct told call_symbol_attribute(struct bytes b, size_t number)
@@ -327,10 +327,10 @@ struct told call_symbol_write(const struct parts *p, struct room out)
 {
     struct frame *f = begin_out(SYMBOL_WRITE, out);
     const uint32_t *n = p->numbers;
-    uint32_t status = vindaskot_symbol_write(n[0], n[1], n[2], n[3], (uint16_t)p->flags, p->extended, p->guid.at,
-                                             p->guid.len, p->name.at, p->name.len, p->type_name.at, p->type_name.len,
-                                             p->comment.at, p->comment.len, p->count, p->block.at, p->block.len,
-                                             p->links, p->chain.at, p->chain.len, out.at, out.len, f->answer);
+    uint32_t status = vindaskot_symbol_write_2(
+        n[0], n[1], n[2], n[3], (uint16_t)p->flags, p->high, p->extended, p->guid.at, p->guid.len, p->name.at,
+        p->name.len, p->type_name.at, p->type_name.len, p->comment.at, p->comment.len, p->count, p->block.at,
+        p->block.len, p->links, p->chain.at, p->chain.len, out.at, out.len, f->answer);
     return finish_out(SYMBOL_WRITE, status, out, 1);
 }
 

@@ -711,6 +711,7 @@ void try_edges(void)
         long_guids();
         try_names();
         try_capitals();
+        try_highs();
         refused_symbols();
         refused_fields();
         other_statuses();

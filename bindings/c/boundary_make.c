@@ -134,7 +134,7 @@ void put_symbol(struct buffer *to, const struct parts *p)
     for (size_t i = 0; i < 4; i++)
         put_number(to, p->numbers[i], 4);
     put_number(to, p->flags, 2);
-    put_number(to, 0, 2);
+    put_number(to, p->high, 2);
     put_lengths(to, p);
     put_strings(to, p);
     put(to, p->guid);
@@ -262,12 +262,26 @@ static void draft_chain(struct draft *d)
     p->chain = since(&d->pool, start);
 }
 
+/* Mostly two bytes of their own; else none, one of the two, or what would be flags in the word before them. */
+static uint16_t some_high(void)
+{
+    static const uint16_t telling[] = {0x0000,
+                                       0x0001,
+                                       0x0100,
+                                       0xFFFF,
+                                       VINDASKOT_SYMBOL_FLAG_TYPE_GUID,
+                                       VINDASKOT_SYMBOL_FLAG_ATTRIBUTES,
+                                       VINDASKOT_SYMBOL_FLAG_EXTENDED_FLAGS};
+    return one_in(4) ? telling[below(sizeof telling / sizeof *telling)] : (uint16_t)any();
+}
+
 /* A symbol that the writer accepts. */
 void draft_symbol(struct draft *d)
 {
     struct parts *p = &d->parts;
     draft_strings(d);
     p->flags = (uint32_t)any() & 0xFFFF;
+    p->high = some_high();
     if ((p->flags & VINDASKOT_SYMBOL_FLAG_TYPE_GUID) != 0)
         draft_guid(d);
     if ((p->flags & VINDASKOT_SYMBOL_FLAG_ATTRIBUTES) != 0)
@@ -310,7 +324,7 @@ void spoil(struct draft *d)
     struct bytes *strings[] = {&p->name, &p->type_name, &p->comment};
     struct bytes *block = one_in(2) ? &p->block : &p->chain;
     uint8_t *byte = block->len > 0 ? &d->pool.at[(size_t)(block->at - d->pool.at) + below(block->len)] : NULL;
-    switch (below(11)) {
+    switch (below(12)) {
     case 0: p->flags ^= 1u << below(16); break;
     case 1: p->extended ^= 1u << below(32); break;
     case 2: p->count += 1 + below(3); break;
@@ -320,7 +334,8 @@ void spoil(struct draft *d)
     case 6: block->len = below(block->len + 1); break;
     case 7: p->numbers[3] = (uint32_t)any(); break;
     case 8: *strings[below(3)] = (struct bytes){long_one, 65535 + below(4)}; break;
-    case 9:
+    case 9: p->high ^= (uint16_t)(1u << below(16)); break;
+    case 10:
         if (byte != NULL)
             *byte ^= (uint8_t)(1u << below(8));
         break;

@@ -1,6 +1,6 @@
-/* What document 01 and, for finding, request W-201 say the answer is, worked out from the bytes in plain C. It shares
- * no code with the library. Where 01 leaves a choice it follows docs/DECISIONS.md. Slots and flags go by the header's
- * names, so that a header that gives one of them another number is found. */
+/* What document 01, for finding request W-201 and for bytes 22 and 23 request W-205 say the answer is, worked out from
+ * the bytes in plain C. It shares no code with the library. Where 01 leaves a choice it follows docs/DECISIONS.md.
+ * Slots and flags go by the header's names, so that a header that gives one of them another number is found. */
 #include "boundary.h"
 
 const size_t symbol_numbers[4] = {VINDASKOT_SYMBOL_INDEX_GROUP, VINDASKOT_SYMBOL_INDEX_OFFSET, VINDASKOT_SYMBOL_SIZE,
@@ -248,6 +248,7 @@ static struct told symbol_entry(struct bytes e)
     for (size_t i = 0; i < 4; i++)
         s[symbol_numbers[i]] = number_at(e, 4 + 4 * i, 4);
     s[VINDASKOT_SYMBOL_FLAGS] = number_at(e, 20, 2);
+    s[VINDASKOT_SYMBOL_HIGH] = number_at(e, 22, 2);
     s[VINDASKOT_SYMBOL_UNREAD] = left_at(e, symbol_sections(e, at, &told));
     return told;
 }

@@ -160,6 +160,15 @@ static void check_strings(struct bytes e, const uint64_t *slots, const struct ru
     CHECK(PLACES, at <= length && length <= e.len, "strings or an entry past the end");
 }
 
+/* W-205: "Symbol records carry the two bytes as read", worked out from the entry's own bytes. */
+static void check_high(struct bytes e, const uint64_t *slots)
+{
+    const uint64_t low = e.at[22], high = e.at[23];
+    CHECK(low + high > 0 ? HIGHS_READ : READS, slots[VINDASKOT_SYMBOL_HIGH] == low + 256 * high,
+          "bytes 22 and 23, %02X %02X, are told as %llu", (unsigned)low, (unsigned)high,
+          (unsigned long long)slots[VINDASKOT_SYMBOL_HIGH]);
+}
+
 static void try_symbol(struct bytes b)
 {
     struct told told = call_symbol_read(b);
@@ -173,6 +182,7 @@ static void try_symbol(struct bytes b)
     if (told.status != VINDASKOT_DONE)
         return;
     check_strings(b, s, symbol_strings, 30, 24, length);
+    check_high(b, s);
     CHECK(PLACES,
           within(s, symbol_attributes, 4, length) && within(s, symbol_refactors, 7, length) &&
               s[VINDASKOT_SYMBOL_REFACTORS] + s[VINDASKOT_SYMBOL_UNREAD] <= length,
@@ -201,10 +211,12 @@ static size_t steps_of(struct bytes b, size_t cursor, stepping call, stepping mo
     size_t steps = 0;
     *stuck = false;
     while (!*stuck) {
-        struct told told = call(b, cursor);
-        SAME(WALKS, told, model(b, cursor));
+        struct told told = call(b, cursor), want = model(b, cursor);
+        SAME(WALKS, told, want);
         if (told.status == VINDASKOT_FINISHED)
             break;
+        if (told.function == SYMBOL_STEP && want.status == VINDASKOT_DONE)
+            check_high(part(b, cursor, want.cursor - cursor), told.slots);
         steps++;
         *stuck = told.cursor <= cursor;
         CHECK(WALKS, told.cursor >= cursor && told.cursor <= b.len, "a step leads from %zu to %zu of %zu", cursor,
@@ -508,6 +520,13 @@ static bool guid_back(const struct told *told, uint64_t has, struct bytes guid)
     return has == (guid.len == 16) && memcmp(told->guid, guid.len == 16 ? guid.at : zeros, 16) == 0;
 }
 
+/* W-205: "the symbol writer puts them back", where the entry has them. */
+static void check_high_written(struct bytes e, uint16_t high)
+{
+    CHECK(high != 0 ? HIGHS_WRITTEN : WRITES, e.at[22] == high % 256 && e.at[23] == high / 256,
+          "%u is written as %02X %02X", high, e.at[22], e.at[23]);
+}
+
 static void try_symbol_back(const struct draft *d)
 {
     const struct parts *p = &d->parts;
@@ -519,7 +538,7 @@ static void try_symbol_back(const struct draft *d)
           "a written symbol is read with status %u", (unsigned)told.status);
     CHECK(ROUND_TRIPS,
           numbers_back(s, symbol_numbers, p->numbers, 4) && s[VINDASKOT_SYMBOL_FLAGS] == p->flags &&
-              s[VINDASKOT_SYMBOL_EXTENDED_FLAGS] == p->extended &&
+              s[VINDASKOT_SYMBOL_HIGH] == p->high && s[VINDASKOT_SYMBOL_EXTENDED_FLAGS] == p->extended &&
               s[VINDASKOT_SYMBOL_HAS_EXTENDED] == ((p->flags & VINDASKOT_SYMBOL_FLAG_EXTENDED_FLAGS) != 0),
           "a symbol's numbers are read as others");
     CHECK(ROUND_TRIPS, strings_back(e, s, symbol_strings, p), "a symbol's strings are read as others");
@@ -527,6 +546,7 @@ static void try_symbol_back(const struct draft *d)
           guid_back(&told, s[VINDASKOT_SYMBOL_HAS_GUID], p->guid) && s[VINDASKOT_SYMBOL_ATTRIBUTE_COUNT] == p->count &&
               s[VINDASKOT_SYMBOL_REFACTOR_COUNT] == p->links,
           "a symbol's sections are read as others");
+    check_high_written(e, p->high);
     back_attributes(e, d, call_symbol_attribute);
     back_names(e, d, call_symbol_attribute_named);
     back_chain(e, d, call_symbol_refactor_info);

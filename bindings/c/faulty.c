@@ -24,7 +24,7 @@ static bool begins(const uint8_t *bytes, const uint64_t *slots, const uint8_t *w
 }
 #endif
 
-#if FAULT == 0 || (FAULT > 22 && FAULT < 34) || FAULT > 37
+#if FAULT == 0 || (FAULT > 22 && FAULT < 34) || FAULT == 38 || FAULT == 39
 /* Whether a byte of a name and the byte asked are the same, at a place of names of a length, as a fault has it. */
 static bool same(uint8_t x, uint8_t y, size_t place, size_t len);
 
@@ -65,7 +65,7 @@ static uint32_t search(const uint8_t *bytes, size_t bytes_len, bool indexed, con
         return 5;
     for (size_t i = 0, at, next = 0; indexed ? i < slots_len : next < bytes_len; i++) {
         at = next = indexed ? slots[i] : next;
-        bool accepted = vindaskot_symbol_step(bytes, bytes_len, &next, entry, guid, own) == VINDASKOT_DONE;
+        bool accepted = vindaskot_symbol_step_2(bytes, bytes_len, &next, entry, guid, own) == VINDASKOT_DONE;
         bool named = has_name(bytes, bytes_len, at, name, name_len);
         if (named && !accepted && FAULT == 33)
             break;
@@ -96,11 +96,26 @@ static uint32_t search(const uint8_t *bytes, size_t bytes_len, bool indexed, con
     }
 #endif
 
-#if FAULT == 0 || (FAULT > 23 && FAULT != 28 && FAULT != 34 && FAULT != 35 && FAULT != 37)
+#if FAULT == 0 || (FAULT > 23 && FAULT < 40 && FAULT != 28 && FAULT != 34 && FAULT != 35 && FAULT != 37)
 static uint8_t small(uint8_t c)
 {
     return c >= 'A' && c <= 'Z' ? (uint8_t)(c + 32) : c;
 }
+#endif
+
+#if FAULT > 43 && FAULT < 48
+/* What the symbol writer takes, which the faults of it share. */
+#define PARAMETERS                                                                                                     \
+    uint32_t index_group, uint32_t index_offset, uint32_t size, uint32_t data_type_id, uint16_t flags, uint16_t high,  \
+        uint32_t extended_flags, const uint8_t *guid, size_t guid_len, const uint8_t *name, size_t name_len,           \
+        const uint8_t *type_name, size_t type_name_len, const uint8_t *comment, size_t comment_len, size_t count,      \
+        const uint8_t *block, size_t block_len, size_t links, const uint8_t *chain, size_t chain_len, uint8_t *out,    \
+        size_t out_len, uint64_t *answer
+#define ARGUMENTS                                                                                                      \
+    index_group, index_offset, size, data_type_id, flags, high, extended_flags, guid, guid_len, name, name_len,        \
+        type_name, type_name_len, comment, comment_len, count, block, block_len, links, chain, chain_len, out,         \
+        out_len, answer
+uint32_t __real_vindaskot_symbol_write_2(PARAMETERS);
 #endif
 
 #if FAULT == 1 /* a writer changes the byte after what it wrote */
@@ -126,11 +141,11 @@ uint32_t __wrap_vindaskot_decode(const uint8_t *src, size_t src_len, uint8_t *ou
 }
 
 #elif FAULT == 3 /* a refused read changes a slot */
-uint32_t __real_vindaskot_symbol_read(const uint8_t *, size_t, uint64_t *, uint8_t *, uint64_t *);
-uint32_t __wrap_vindaskot_symbol_read(const uint8_t *bytes, size_t bytes_len, uint64_t *slots, uint8_t *guid,
-                                      uint64_t *answer)
+uint32_t __real_vindaskot_symbol_read_2(const uint8_t *, size_t, uint64_t *, uint8_t *, uint64_t *);
+uint32_t __wrap_vindaskot_symbol_read_2(const uint8_t *bytes, size_t bytes_len, uint64_t *slots, uint8_t *guid,
+                                        uint64_t *answer)
 {
-    uint32_t status = __real_vindaskot_symbol_read(bytes, bytes_len, slots, guid, answer);
+    uint32_t status = __real_vindaskot_symbol_read_2(bytes, bytes_len, slots, guid, answer);
     if (status != VINDASKOT_DONE)
         slots[VINDASKOT_SYMBOL_UNREAD] = 0;
     return status;
@@ -166,12 +181,12 @@ uint32_t __wrap_vindaskot_refactor_read(const uint8_t *bytes, size_t bytes_len, 
 }
 
 #elif FAULT == 7 /* a claim beyond the data leaves the cursor where it was */
-uint32_t __real_vindaskot_symbol_step(const uint8_t *, size_t, size_t *, uint64_t *, uint8_t *, uint64_t *);
-uint32_t __wrap_vindaskot_symbol_step(const uint8_t *bytes, size_t bytes_len, size_t *cursor, uint64_t *slots,
-                                      uint8_t *guid, uint64_t *answer)
+uint32_t __real_vindaskot_symbol_step_2(const uint8_t *, size_t, size_t *, uint64_t *, uint8_t *, uint64_t *);
+uint32_t __wrap_vindaskot_symbol_step_2(const uint8_t *bytes, size_t bytes_len, size_t *cursor, uint64_t *slots,
+                                        uint8_t *guid, uint64_t *answer)
 {
     size_t before = *cursor;
-    uint32_t status = __real_vindaskot_symbol_step(bytes, bytes_len, cursor, slots, guid, answer);
+    uint32_t status = __real_vindaskot_symbol_step_2(bytes, bytes_len, cursor, slots, guid, answer);
     if (status == 3 && answer[0] > bytes_len)
         *cursor = before;
     return status;
@@ -419,7 +434,7 @@ uint32_t __wrap_vindaskot_find(const uint8_t *bytes, size_t bytes_len, const uin
     if (status != VINDASKOT_DONE || name_len == 0 || memcmp(bytes + answer[0] + 30, name, name_len) == 0)
         return status;
     for (size_t next = (size_t)answer[0];;) {
-        (void)vindaskot_symbol_step(bytes, bytes_len, &next, slots, guid, own);
+        (void)vindaskot_symbol_step_2(bytes, bytes_len, &next, slots, guid, own);
         if (__real_vindaskot_find(bytes + next, bytes_len - next, name, name_len, own) != VINDASKOT_DONE)
             return status;
         next += (size_t)own[0];
@@ -491,6 +506,99 @@ SEARCHES(vindaskot_find)
 #elif FAULT == 39 /* a longer name whose length agrees in its last byte is found by its start */
 SAME_WHERE(small(x) == small(y))
 SEARCHES(vindaskot_find_indexed)
+
+#elif FAULT == 40 /* bytes 22 and 23 are read with the high one first */
+uint32_t __real_vindaskot_symbol_read_2(const uint8_t *, size_t, uint64_t *, uint8_t *, uint64_t *);
+uint32_t __wrap_vindaskot_symbol_read_2(const uint8_t *bytes, size_t bytes_len, uint64_t *slots, uint8_t *guid,
+                                        uint64_t *answer)
+{
+    uint32_t status = __real_vindaskot_symbol_read_2(bytes, bytes_len, slots, guid, answer);
+    if (status == VINDASKOT_DONE)
+        slots[VINDASKOT_SYMBOL_HIGH] = 256u * bytes[22] + bytes[23];
+    return status;
+}
+
+#elif FAULT == 41 /* the two bytes at 20 are read for those at 22 */
+uint32_t __real_vindaskot_symbol_read_2(const uint8_t *, size_t, uint64_t *, uint8_t *, uint64_t *);
+uint32_t __wrap_vindaskot_symbol_read_2(const uint8_t *bytes, size_t bytes_len, uint64_t *slots, uint8_t *guid,
+                                        uint64_t *answer)
+{
+    uint32_t status = __real_vindaskot_symbol_read_2(bytes, bytes_len, slots, guid, answer);
+    if (status == VINDASKOT_DONE)
+        slots[VINDASKOT_SYMBOL_HIGH] = slots[VINDASKOT_SYMBOL_FLAGS];
+    return status;
+}
+
+#elif FAULT == 42 /* of bytes 22 and 23 the first alone is read */
+uint32_t __real_vindaskot_symbol_read_2(const uint8_t *, size_t, uint64_t *, uint8_t *, uint64_t *);
+uint32_t __wrap_vindaskot_symbol_read_2(const uint8_t *bytes, size_t bytes_len, uint64_t *slots, uint8_t *guid,
+                                        uint64_t *answer)
+{
+    uint32_t status = __real_vindaskot_symbol_read_2(bytes, bytes_len, slots, guid, answer);
+    if (status == VINDASKOT_DONE)
+        slots[VINDASKOT_SYMBOL_HIGH] &= 255;
+    return status;
+}
+
+#elif FAULT == 43 /* a step tells bytes 22 and 23 as zeros */
+uint32_t __real_vindaskot_symbol_step_2(const uint8_t *, size_t, size_t *, uint64_t *, uint8_t *, uint64_t *);
+uint32_t __wrap_vindaskot_symbol_step_2(const uint8_t *bytes, size_t bytes_len, size_t *cursor, uint64_t *slots,
+                                        uint8_t *guid, uint64_t *answer)
+{
+    uint32_t status = __real_vindaskot_symbol_step_2(bytes, bytes_len, cursor, slots, guid, answer);
+    if (status == VINDASKOT_DONE)
+        slots[VINDASKOT_SYMBOL_HIGH] = 0;
+    return status;
+}
+
+#elif FAULT == 44 /* bytes 22 and 23 are written as zeros */
+uint32_t __wrap_vindaskot_symbol_write_2(PARAMETERS)
+{
+    high = 0;
+    return __real_vindaskot_symbol_write_2(ARGUMENTS);
+}
+
+#elif FAULT == 45 /* bytes 22 and 23 are written with the high one first */
+uint32_t __wrap_vindaskot_symbol_write_2(PARAMETERS)
+{
+    high = (uint16_t)(high << 8 | high >> 8);
+    return __real_vindaskot_symbol_write_2(ARGUMENTS);
+}
+
+#elif FAULT == 46 /* the flags are written at 22 too */
+uint32_t __wrap_vindaskot_symbol_write_2(PARAMETERS)
+{
+    high = flags;
+    return __real_vindaskot_symbol_write_2(ARGUMENTS);
+}
+
+#elif FAULT == 47 /* a GUID that is flagged at 22 alone is not given to the writer, which refuses */
+uint32_t __wrap_vindaskot_symbol_write_2(PARAMETERS)
+{
+    bool flagged = guid_len == 0 && (high & VINDASKOT_SYMBOL_FLAG_TYPE_GUID) != 0;
+    out_len = flagged ? 0 : out_len;
+    uint32_t status = __real_vindaskot_symbol_write_2(ARGUMENTS);
+    if (!flagged || status != 6)
+        return status;
+    answer[0] = 1;
+    answer[1] = 0;
+    return 8;
+}
+
+#elif FAULT == 48 /* a GUID that is flagged at 22 alone is read from what is left of the entry */
+uint32_t __real_vindaskot_symbol_read_2(const uint8_t *, size_t, uint64_t *, uint8_t *, uint64_t *);
+uint32_t __wrap_vindaskot_symbol_read_2(const uint8_t *bytes, size_t bytes_len, uint64_t *slots, uint8_t *guid,
+                                        uint64_t *answer)
+{
+    uint32_t status = __real_vindaskot_symbol_read_2(bytes, bytes_len, slots, guid, answer);
+    if (status != VINDASKOT_DONE || (slots[VINDASKOT_SYMBOL_HIGH] & VINDASKOT_SYMBOL_FLAG_TYPE_GUID) == 0 ||
+        slots[VINDASKOT_SYMBOL_HAS_GUID] == 1 || slots[VINDASKOT_SYMBOL_UNREAD] < 16)
+        return status;
+    memcpy(guid, bytes + slots[VINDASKOT_SYMBOL_LENGTH] - slots[VINDASKOT_SYMBOL_UNREAD], 16);
+    slots[VINDASKOT_SYMBOL_HAS_GUID] = 1;
+    slots[VINDASKOT_SYMBOL_UNREAD] -= 16;
+    return status;
+}
 
 #elif FAULT == 0
 /* No fault but a control: the search that 23 to 33, 38 and 39 share, with the right comparison. */

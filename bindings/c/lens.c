@@ -137,7 +137,7 @@ static bool print_lens(const struct upload *upload, const struct index *index)
     }
     const uint8_t *entry = upload->bytes + answer[0];
     size_t len = upload->len - (size_t)answer[0];
-    status = vindaskot_symbol_read(entry, len, slots, guid, answer);
+    status = vindaskot_symbol_read_2(entry, len, slots, guid, answer);
     if (status != VINDASKOT_DONE) {
         print_refusal("symbol", status, answer);
         return false;
@@ -154,10 +154,6 @@ int main(int argc, char **argv)
     const char *path = argc > 1 ? argv[1] : "samples/rig.hex";
     struct upload upload = {NULL, 0};
     struct index index = {NULL, 0};
-    if (vindaskot_interface() != VINDASKOT_INTERFACE) {
-        fputs("the library has another interface than its header\n", stderr);
-        return 1;
-    }
     FILE *file = fopen(path, "rb");
     if (file == NULL) {
         perror(path);

@@ -63,11 +63,34 @@ extern "C" {
 #define VINDASKOT_OUT_OF_STEPS 101u
 #define VINDASKOT_LIMIT 16777216u
 
-/* The interface that this header describes. It changes with the arguments or the slots of any call, which a linker does
- * not see: a program compares vindaskot_interface() with it before its first call. A call that is added changes no
- * other and leaves it as it is: where the library lacks that call, the linker says so. */
-#define VINDASKOT_INTERFACE 1u
-uint32_t vindaskot_interface(void);
+/* The interface that this header describes: a number that changes with the arguments or the slots of any call. These
+ * are known to no linker, so the number stands in names, which a linker sees:
+ *   The archive has one function whose name ends in the number of its interface, and everything that includes this
+ *   header needs it. An archive of another interface, older or newer, does not link; a shared object, whose names a
+ *   linker may leave open, then does not load.
+ *   A call whose arguments or slots change gets the number of the interface in which they changed at the end of its
+ *   name. What was compiled with an earlier header and makes such a call does not link either: this holds for the
+ *   header of interface 1 too, which needs no function with a number.
+ * A call that is added changes no other and leaves the number as it is: where the archive lacks that call, the linker
+ * says so. The function answers VINDASKOT_INTERFACE. */
+#define VINDASKOT_INTERFACE 2u
+uint32_t vindaskot_interface_2(void);
+
+/* What needs that function: a pointer that is never followed. `used` keeps it in the object, and `retain` in a program
+ * from which the linker leaves out the sections that nothing refers to (--gc-sections). Where a compiler has not
+ * `retain`, such a link drops the pointer without a word; where it has neither, any link may. Then an archive of
+ * another interface is refused only for the calls that have another name there. */
+#ifdef __has_attribute
+#if __has_attribute(retain) && defined __ELF__
+#define VINDASKOT_KEPT __attribute__((used, retain))
+#elif __has_attribute(used)
+#define VINDASKOT_KEPT __attribute__((used))
+#endif
+#endif
+#ifndef VINDASKOT_KEPT
+#define VINDASKOT_KEPT
+#endif
+static uint32_t (*const vindaskot_interface_needed)(void) VINDASKOT_KEPT = vindaskot_interface_2;
 
 /* ---- Symbols ---- */
 
@@ -79,6 +102,8 @@ enum {
     VINDASKOT_SYMBOL_SIZE,
     VINDASKOT_SYMBOL_DATA_TYPE_ID,
     VINDASKOT_SYMBOL_FLAGS,
+    VINDASKOT_SYMBOL_HIGH,            /* bytes 22 and 23 of the entry, as sent: the high half of the maker's 32 bits of
+                                       * flags */
     VINDASKOT_SYMBOL_NAME,            /* place */
     VINDASKOT_SYMBOL_NAME_LEN,
     VINDASKOT_SYMBOL_TYPE_NAME,       /* place */
@@ -96,20 +121,21 @@ enum {
     VINDASKOT_SYMBOL_SLOTS
 };
 
-/* Reads the entry at the start of bytes. Refusals: 5, 2, 3, 4, 3. */
-uint32_t vindaskot_symbol_read(const uint8_t *bytes, size_t bytes_len,
-                               uint64_t slots[VINDASKOT_AT_LEAST 20],
-                               uint8_t guid[VINDASKOT_AT_LEAST 16],
-                               uint64_t answer[VINDASKOT_AT_LEAST 2]);
+/* Reads the entry at the start of bytes. Which sections it has is said by slot FLAGS, and nothing depends on slot HIGH.
+ * Refusals: 5, 2, 3, 4, 3. */
+uint32_t vindaskot_symbol_read_2(const uint8_t *bytes, size_t bytes_len,
+                                 uint64_t slots[VINDASKOT_AT_LEAST 21],
+                                 uint8_t guid[VINDASKOT_AT_LEAST 16],
+                                 uint64_t answer[VINDASKOT_AT_LEAST 2]);
 
 /* One step of the walk over an upload: VINDASKOT_FINISHED at the end, VINDASKOT_DONE with the entry at the cursor,
  * or a refusal. Begin with *cursor = 0; it is moved past the entry, and to the end after refusals 5, 3 (a claim
  * beyond the data) and 2 (under 4 bytes left). Only a claim of 0 is refused (2: 30, 0) without a move: a loop stops
  * where *cursor did not change. */
-uint32_t vindaskot_symbol_step(const uint8_t *bytes, size_t bytes_len, size_t *cursor,
-                               uint64_t slots[VINDASKOT_AT_LEAST 20],
-                               uint8_t guid[VINDASKOT_AT_LEAST 16],
-                               uint64_t answer[VINDASKOT_AT_LEAST 2]);
+uint32_t vindaskot_symbol_step_2(const uint8_t *bytes, size_t bytes_len, size_t *cursor,
+                                 uint64_t slots[VINDASKOT_AT_LEAST 21],
+                                 uint8_t guid[VINDASKOT_AT_LEAST 16],
+                                 uint64_t answer[VINDASKOT_AT_LEAST 2]);
 
 /* What an attribute's slots hold. */
 enum {
@@ -132,7 +158,7 @@ enum {
 };
 
 /* The attribute, or the refactor record, of that number, from 0, of the symbol entry at the start of bytes.
- * Refusals: those of vindaskot_symbol_read, then 14. Each call reads the entry anew; to go through all of them, use
+ * Refusals: those of vindaskot_symbol_read_2, then 14. Each call reads the entry anew; to go through all of them, use
  * vindaskot_attribute_read (vindaskot_refactor_read) from slot ATTRIBUTES (REFACTORS) on, ATTRIBUTE_COUNT
  * (REFACTOR_COUNT) times, each from where the NEXT before it led. */
 uint32_t vindaskot_symbol_attribute(const uint8_t *bytes, size_t bytes_len, size_t number,
@@ -145,7 +171,7 @@ uint32_t vindaskot_symbol_refactor_info(const uint8_t *bytes, size_t bytes_len, 
 /* The attribute of that name, of the symbol entry at the start of bytes: the first of those shown whose name is the one
  * asked. The name is Windows-1252, compared byte for byte: another case is another name, and an empty name finds the
  * first attribute whose name is empty. The slots are those that vindaskot_symbol_attribute fills for its number.
- * Refusals: those of vindaskot_symbol_read, then 13. */
+ * Refusals: those of vindaskot_symbol_read_2, then 13. */
 uint32_t vindaskot_symbol_attribute_named(const uint8_t *bytes, size_t bytes_len, const uint8_t *name,
                                           size_t name_len, uint64_t slots[VINDASKOT_AT_LEAST 5],
                                           uint64_t answer[VINDASKOT_AT_LEAST 2]);
@@ -253,17 +279,18 @@ uint32_t vindaskot_refactor_block_write(size_t count, const uint8_t *block, size
                                         uint8_t *out, size_t out_len,
                                         uint64_t answer[VINDASKOT_AT_LEAST 2]);
 
-/* A symbol entry. guid: 16 bytes, or NULL and 0 for none; another length is refusal 1 (16, length) before all else.
- * block: `count` attributes, one after another, as vindaskot_attribute_write makes them. chain: `links` refactor
- * records, one after another, has_next set on all but the last. Refusals: 1, 7, 9, 8, 5, 6. */
-uint32_t vindaskot_symbol_write(uint32_t index_group, uint32_t index_offset, uint32_t size,
-                                uint32_t data_type_id, uint16_t flags, uint32_t extended_flags,
-                                const uint8_t *guid, size_t guid_len, const uint8_t *name,
-                                size_t name_len, const uint8_t *type_name, size_t type_name_len,
-                                const uint8_t *comment, size_t comment_len, size_t count,
-                                const uint8_t *block, size_t block_len, size_t links,
-                                const uint8_t *chain, size_t chain_len, uint8_t *out, size_t out_len,
-                                uint64_t answer[VINDASKOT_AT_LEAST 2]);
+/* A symbol entry. high: bytes 22 and 23, the low byte first; every number is written as it is. guid: 16 bytes, or NULL
+ * and 0 for none; another length is refusal 1 (16, length) before all else. block: `count` attributes, one after
+ * another, as vindaskot_attribute_write makes them. chain: `links` refactor records, one after another, has_next set on
+ * all but the last. Refusals: 1, 7, 9, 8, 5, 6. */
+uint32_t vindaskot_symbol_write_2(uint32_t index_group, uint32_t index_offset, uint32_t size,
+                                  uint32_t data_type_id, uint16_t flags, uint16_t high,
+                                  uint32_t extended_flags, const uint8_t *guid, size_t guid_len,
+                                  const uint8_t *name, size_t name_len, const uint8_t *type_name,
+                                  size_t type_name_len, const uint8_t *comment, size_t comment_len,
+                                  size_t count, const uint8_t *block, size_t block_len, size_t links,
+                                  const uint8_t *chain, size_t chain_len, uint8_t *out, size_t out_len,
+                                  uint64_t answer[VINDASKOT_AT_LEAST 2]);
 
 /* A field entry. guid and block as for symbols; a flagged GUID that is not given is written as 16 zeros, a flagged copy
  * mask as `size` zeros, and attributes that are not flagged are ignored. Refusals: 1, 7, 9, 5, 6. */

@@ -1,4 +1,5 @@
-//! Links libvindaskot.a, after a look whether it is there, made for the target, and not older than what it is made of.
+//! Links libvindaskot.a, after a look whether it is there, made for the target, of this crate's interface, and not older
+//! than what it is made of.
 
 use std::env;
 use std::fs;
@@ -15,9 +16,13 @@ const MACHINES: [(&str, u16); 2] = [("x86_64", 62), ("aarch64", 183)];
 const MADE: &str = "../../target/staticlib";
 const CRATES: &str = "../../crates";
 
+/// Where the archive's functions are declared, and which of them tells its interface by its name.
+const SYS: &str = "src/sys.rs";
+
 fn main() {
     println!("cargo::rerun-if-env-changed=VINDASKOT_LIB_DIR");
     println!("cargo::rerun-if-changed=build.rs");
+    println!("cargo::rerun-if-changed={SYS}");
     let given = env::var_os("VINDASKOT_LIB_DIR").filter(|given| !given.is_empty());
     let folder = whole(given.as_ref().map_or(MADE.into(), PathBuf::from));
     let archive = folder.join(ARCHIVE);
@@ -79,14 +84,34 @@ fn check(archive: &Path) -> Result<(), String> {
         )
     })?;
     match machine(&bytes) {
-        Some(found) if found == wanted => Ok(()),
-        Some(found) => Err(format!(
-            "{shown} is for {}, and the target is {}: set VINDASKOT_LIB_DIR to the folder of an archive for it",
-            machine_name(found),
-            machine_name(wanted),
-        )),
-        None => Err(format!("{shown} is no archive of ELF object files")),
+        Some(found) if found == wanted => {}
+        Some(found) => {
+            return Err(format!(
+                "{shown} is for {}, and the target is {}: set VINDASKOT_LIB_DIR to the folder of an archive for it",
+                machine_name(found),
+                machine_name(wanted),
+            ));
+        }
+        None => return Err(format!("{shown} is no archive of ELF object files")),
     }
+    let needed = needed()?;
+    match functions(&bytes) {
+        Some(functions) if !functions.contains(&needed.as_bytes()) => Err(format!(
+            "{shown} has another interface than this crate, since it lacks {needed}: \
+             make it anew with `rt staticlib vindaskot` in the repository's root"
+        )),
+        // Where the archive has no index, the linker alone asks for the function.
+        _ => Ok(()),
+    }
+}
+
+/// The function that tells the interface by its name: what sys.rs needs of every archive.
+fn needed() -> Result<String, String> {
+    let sys = fs::read_to_string(SYS).map_err(|why| format!("{SYS} can't be read: {why}"))?;
+    let declared = sys.split_once("static NEEDED: ").map(|(_, rest)| rest);
+    let name = declared.and_then(|rest| rest.split_once(';')?.0.rsplit_once(" = "));
+    name.map(|(_, name)| name.to_string())
+        .ok_or_else(|| format!("{SYS} does not say what it needs"))
 }
 
 /// The ELF number of the target's processor, for the targets that the archive's calls are the same on.
@@ -111,16 +136,30 @@ fn machine_name(number: u16) -> String {
     )
 }
 
+/// The members of an archive, each with its name.
+fn members(archive: &[u8]) -> impl Iterator<Item = (&[u8], &[u8])> {
+    let mut rest = archive.strip_prefix(b"!<arch>\n").unwrap_or_default();
+    std::iter::from_fn(move || {
+        let (header, after) = rest.split_at_checked(60)?;
+        let size = std::str::from_utf8(&header[48..58]).ok()?;
+        let size: usize = size.trim_end().parse().ok()?;
+        let member = after.get(..size)?;
+        rest = after.get(size + size % 2..).unwrap_or_default();
+        Some((header[..16].trim_ascii_end(), member))
+    })
+}
+
 /// The processor of the first object file in the archive: its header's 16-bit number at 18.
 fn machine(archive: &[u8]) -> Option<u16> {
-    let mut rest = archive.strip_prefix(b"!<arch>\n")?;
-    loop {
-        let size = std::str::from_utf8(rest.get(48..58)?).ok()?;
-        let size: usize = size.trim_end().parse().ok()?;
-        let member = rest.get(60..60 + size)?;
-        if member.starts_with(b"\x7fELF") {
-            return Some(u16::from_le_bytes([*member.get(18)?, *member.get(19)?]));
-        }
-        rest = rest.get(60 + size + size % 2..)?;
-    }
+    let mut objects = members(archive).filter(|(_, member)| member.starts_with(b"\x7fELF"));
+    let (_, object) = objects.next()?;
+    Some(u16::from_le_bytes([*object.get(18)?, *object.get(19)?]))
+}
+
+/// What the archive's index says that it has: a count, as many places, then the names, each with an end byte.
+fn functions(archive: &[u8]) -> Option<Vec<&[u8]>> {
+    let (_, index) = members(archive).find(|(name, _)| *name == b"/")?;
+    let (count, rest) = index.split_first_chunk()?;
+    let names = rest.get(4 * u32::from_be_bytes(*count) as usize..)?;
+    Some(names.split(|byte| *byte == 0).collect())
 }

@@ -9,7 +9,7 @@ pub enum Failure {
     Refused(String),
     /// The arguments: 2.
     Usage(String),
-    /// The file, or the archive: 2.
+    /// The file: 2.
     File(String),
     /// Standard output can't be written: 2, but 0 where its reader has gone, since it has read what it wanted.
     Output(io::Error),

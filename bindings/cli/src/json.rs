@@ -61,6 +61,7 @@ fn accepted(at: usize, symbol: &AdsSymbolInfo<'_>, out: &mut impl Write) -> io::
         ("offset", symbol.index_offset().as_u32().to_string()),
         ("type_id", symbol.data_type_id().to_string()),
         ("flags", symbol.flags().as_raw().to_string()),
+        ("high", symbol.high().to_string()),
         ("extended_flags", extended),
         ("guid", guid),
         ("attributes", array(attributes)),

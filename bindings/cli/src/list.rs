@@ -10,15 +10,15 @@ use crate::input::Upload;
 use crate::text::{shown, width};
 use crate::words;
 
-const HEADINGS: [&str; 8] = [
-    "place", "name", "type", "size", "group", "offset", "attrs", "unread",
+const HEADINGS: [&str; 9] = [
+    "place", "name", "type", "size", "group", "offset", "attrs", "unread", "high",
 ];
 /// The columns of text; numbers stand at the right of theirs.
-const TEXT: [bool; 8] = [false, true, true, false, false, false, false, false];
+const TEXT: [bool; 9] = [false, true, true, false, false, false, false, false, false];
 
 /// A line of the table: the cells of a symbol, or a place and why the entry there was refused.
 enum Line {
-    Cells([String; 8]),
+    Cells([String; 9]),
     Refused(String, String),
 }
 
@@ -31,7 +31,7 @@ impl Line {
     }
 }
 
-fn cells(at: usize, symbol: &AdsSymbolInfo<'_>) -> [String; 8] {
+fn cells(at: usize, symbol: &AdsSymbolInfo<'_>) -> [String; 9] {
     [
         at.to_string(),
         shown(symbol.name()),
@@ -41,6 +41,7 @@ fn cells(at: usize, symbol: &AdsSymbolInfo<'_>) -> [String; 8] {
         format!("0x{:X}", symbol.index_offset().as_u32()),
         symbol.attributes().len().to_string(),
         symbol.unread().to_string(),
+        symbol.high().to_string(),
     ]
 }
 
@@ -64,7 +65,7 @@ pub fn list(upload: &Upload, out: &mut impl Write) -> Result<bool, Failure> {
     upload.unless_refused(refused, lines.len())
 }
 
-fn widths(lines: &[Line]) -> [usize; 8] {
+fn widths(lines: &[Line]) -> [usize; 9] {
     let mut widths = HEADINGS.map(width);
     for line in lines {
         match line {
@@ -79,7 +80,7 @@ fn widths(lines: &[Line]) -> [usize; 8] {
     widths
 }
 
-fn print(cells: &[String; 8], widths: &[usize; 8], out: &mut impl Write) -> io::Result<()> {
+fn print(cells: &[String; 9], widths: &[usize; 9], out: &mut impl Write) -> io::Result<()> {
     for (column, cell) in cells.iter().enumerate() {
         let gap = if column == 0 { "" } else { "  " };
         let padding = " ".repeat(widths[column] - width(cell));

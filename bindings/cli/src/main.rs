@@ -35,11 +35,6 @@ fn main() -> ExitCode {
 
 /// Does what is asked; whether nothing was refused.
 fn run(out: &mut impl Write) -> Result<bool, Failure> {
-    if !vindaskot::interface_matches() {
-        let why =
-            "the archive that this program was linked with has another interface; build it anew";
-        return Err(Failure::File(why.into()));
-    }
     match arguments::read(lexopt::Parser::from_env())? {
         Request::Help => out.write_all(arguments::HELP.as_bytes())?,
         Request::Version => writeln!(out, "vindaskot {}", env!("CARGO_PKG_VERSION"))?,

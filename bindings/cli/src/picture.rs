@@ -16,7 +16,7 @@ const HEADER: [(&str, usize, &str); 8] = [
     ("size", 4, "35"),
     ("type id", 4, "94"),
     ("flags", 2, "93"),
-    ("bytes 22, 23", 2, "90"),
+    ("high", 2, "90"),
     ("string lengths", 6, "96"),
 ];
 /// Records that stand side by side get these by turns.

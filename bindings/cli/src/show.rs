@@ -32,7 +32,7 @@ pub fn show(
     Ok(true)
 }
 
-fn facts(at: usize, symbol: &AdsSymbolInfo<'_>) -> [(&'static str, String); 10] {
+fn facts(at: usize, symbol: &AdsSymbolInfo<'_>) -> [(&'static str, String); 11] {
     let (group, offset) = (symbol.index_group(), symbol.index_offset());
     let length = symbol.as_bytes().len();
     let absent = || "none".to_string();
@@ -62,6 +62,7 @@ fn facts(at: usize, symbol: &AdsSymbolInfo<'_>) -> [(&'static str, String); 10] 
         ),
         ("type id", symbol.data_type_id().to_string()),
         ("flags", flags::symbol(symbol.flags())),
+        ("high", format!("0x{:04X}", symbol.high())),
         (
             "extended",
             symbol.extended_flags().map_or_else(absent, flags::extended),

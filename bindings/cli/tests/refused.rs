@@ -2,7 +2,7 @@
 
 mod common;
 
-use common::{Session, grown, repository, sample, symbol};
+use common::{Session, grown, repository, sample, symbol, with_high};
 
 fn short(claim: u32) -> Vec<u8> {
     let mut entry = vec![0xEE; claim.max(4) as usize];
@@ -18,10 +18,10 @@ fn all(expected: &str, upload: &[u8]) {
     session.hold(expected);
 }
 
-/// A claim below the header, strings beyond the entry, a claim beyond the data: each in its place.
+/// A claim below the header, strings beyond the entry, a claim beyond the data: each in its place, and none has a high.
 #[test]
 fn refused_entries_in_their_place() {
-    let mut long = symbol(b"MAIN.b", b"LREAL", 8, &[]);
+    let mut long = with_high(symbol(b"MAIN.b", b"LREAL", 8, &[]), 0x0506);
     long[24] = 200;
     let mut last = symbol(b"MAIN.d", b"LREAL", 24, &[]);
     last.pop();
@@ -29,7 +29,7 @@ fn refused_entries_in_their_place() {
         symbol(b"MAIN.a", b"LREAL", 0, &[]),
         short(29),
         long,
-        symbol(b"MAIN.c", b"LREAL", 16, &[]),
+        with_high(symbol(b"MAIN.c", b"LREAL", 16, &[]), 0x0304),
         last,
     ];
     all("refused.txt", &entries.concat());
@@ -139,13 +139,14 @@ fn accented_letters_in_another_case() {
     session.hold("accents.txt");
 }
 
-/// Columns stay in line beside umlauts, a euro and controls, which must not reach a terminal.
+/// Columns stay in line beside umlauts, a euro and controls, which must not reach a terminal, and a number that is wider
+/// than its heading.
 #[test]
 fn widths_of_names() {
     let entries = [
         symbol(b"MAIN.H\xF6he", b"LREAL", 0, &[(b"W\xE4hrung", b"\x80")]),
         symbol(b"MAIN.\x1B[31m\x00\x9D", b"T", 8, &[]),
-        symbol(b"", b"", 16, &[]),
+        with_high(symbol(b"", b"", 16, &[]), 0xFFFE),
         symbol(b"MAIN.\"\\", b"LREAL", 24, &[]),
     ];
     let upload = entries.concat();

@@ -2,7 +2,7 @@
 
 mod common;
 
-use common::{Session, repository, symbol};
+use common::{Session, repository, symbol, with_high};
 
 const SYMBOLS: usize = 9000;
 
@@ -14,13 +14,14 @@ fn name(number: usize) -> String {
     )
 }
 
-/// Each symbol tells its own number in an attribute.
+/// Each symbol tells its own number in an attribute and in its high.
 fn rig() -> Vec<u8> {
     let entry = |number: usize| {
         let (name, value) = (name(number), number.to_string());
         let own: (&[u8], &[u8]) = (b"Number", value.as_bytes());
         let attributes = [(&b"unit"[..], &b"mm"[..]), own];
-        symbol(name.as_bytes(), b"LREAL", 8 * number as u32, &attributes)
+        let entry = symbol(name.as_bytes(), b"LREAL", 8 * number as u32, &attributes);
+        with_high(entry, number as u16)
     };
     (0..SYMBOLS).flat_map(entry).collect()
 }
@@ -53,7 +54,7 @@ fn the_table() {
     for (number, line) in lines[2..].iter().enumerate() {
         let offset = format!("0x{:X}", 8 * number);
         let expected = format!(
-            "{place:>6}  {}  LREAL     8  0x4040  {offset:>7}      2       0",
+            "{place:>6}  {}  LREAL     8  0x4040  {offset:>7}      2       0  {number:>4}",
             name(number)
         );
         assert_eq!(*line, expected);
@@ -75,5 +76,6 @@ fn the_lines_of_json() {
     for (number, line) in text.lines().enumerate() {
         assert!(line.contains(&format!("\"name\":\"{}\"", name(number))));
         assert!(line.contains(&format!("{{\"name\":\"Number\",\"value\":\"{number}\"}}")));
+        assert!(line.contains(&format!("\"flags\":4096,\"high\":{number},")));
     }
 }

@@ -2,7 +2,7 @@
 
 mod common;
 
-use common::{Session, repository};
+use common::{Session, fed, program, repository, sample};
 
 const FORMS: [&str; 2] = ["samples/rig.bin", "samples/rig.hex"];
 
@@ -57,6 +57,50 @@ fn names_in_any_case() {
 #[test]
 fn a_table() {
     both("list.txt", &["list"], &[]);
+}
+
+fn printed(words: &[&str]) -> String {
+    let output = fed(program(&repository(), words), b"");
+    String::from_utf8(output.stdout).unwrap()
+}
+
+/// The last column is what stands in the entry at 22, the low byte first.
+#[test]
+fn high_in_the_table() {
+    let upload = sample();
+    let table = printed(&["list", "samples/rig.bin"]);
+    let mut rows = table.lines().skip(1);
+    let headings = rows.next().unwrap();
+    assert_eq!(headings.split_whitespace().last(), Some("high"));
+    let mut sent = Vec::new();
+    for row in rows {
+        let place = row.split_whitespace().next().unwrap();
+        let entry = &upload[place.parse().unwrap()..];
+        let high = u16::from(entry[22]) + 256 * u16::from(entry[23]);
+        assert!(row.ends_with(&format!(" {high}")), "{row}");
+        sent.push(high);
+    }
+    assert_eq!(sent.len(), 32);
+    sent.retain(|high| *high != 0);
+    assert_eq!(sent, [0x00FF, 0x8000, 0x0102, 0x1008]);
+}
+
+#[test]
+fn high_after_the_flags() {
+    for (name, flags, high) in [
+        ("MAIN.stJib.nCounterweight", "0x8000, ", "0x00FF"),
+        ("MAIN.stJib.bTrackLock", "0x0000, ", "0x8000"),
+        ("MAIN.stLens", "0x9008, ", "0x0102"),
+        ("MAIN.stLens.sSerial", "0x0000, ", "0x1008"),
+        ("MAIN.nState", "0x0000, ", "0x0000"),
+    ] {
+        let shown = printed(&["show", "samples/rig.bin", name]);
+        let mut lines = shown
+            .lines()
+            .skip_while(|line| !line.starts_with("flags  "));
+        assert!(lines.next().unwrap().contains(flags), "{name}");
+        assert_eq!(lines.next().unwrap(), format!("high          {high}"));
+    }
 }
 
 #[test]

@@ -13,9 +13,6 @@ const LENS: &[u8] = b"MAIN.stLens";
 const CURVE_END: &[u8] = b"ZoomCurveEnd";
 
 fn main() -> Result<(), Box<dyn Error>> {
-    if !vindaskot::interface_matches() {
-        return Err("the archive has another interface than this crate".into());
-    }
     let path = env::args().nth(1).ok_or("usage: lens UPLOAD.hex")?;
     let upload = bytes_of(fs::read_to_string(path)?.trim_end())?;
 

@@ -28,10 +28,3 @@ pub use refactor_info::{AdsRefactorInfo, AdsRefactorInfos, RefactorWriter};
 pub use refusal::{LIMIT, Refusal, RefusalKind};
 pub use symbol::{AdsSymbolInfo, AdsSymbolInfoIterator, SymbolNumbers, SymbolParts};
 pub use walk::{WalkEnd, Walked, walk};
-
-/// Whether the archive that was linked has the interface that this crate was written for: its arguments and slots,
-/// which no linker compares.
-pub fn interface_matches() -> bool {
-    // SAFETY: the call takes nothing.
-    unsafe { sys::vindaskot_interface() == sys::INTERFACE }
-}

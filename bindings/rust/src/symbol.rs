@@ -24,6 +24,7 @@ pub struct AdsSymbolInfo<'a> {
     size: u32,
     data_type_id: u32,
     flags: AdsSymbolFlags,
+    high: u16,
     extended_flags: Option<AdsSymbol2Flags>,
     name: &'a [u8],
     type_name: &'a [u8],
@@ -44,7 +45,7 @@ impl<'a> AdsSymbolInfo<'a> {
         let mut answer = [0; 2];
         // SAFETY: data's own pointer and length; slots, guid and answer are lent for the call.
         let status = unsafe {
-            sys::vindaskot_symbol_read(
+            sys::vindaskot_symbol_read_2(
                 data.as_ptr(),
                 data.len(),
                 &mut slots,
@@ -68,6 +69,7 @@ impl<'a> AdsSymbolInfo<'a> {
             size: slots[sys::SYMBOL_SIZE] as u32,
             data_type_id: slots[sys::SYMBOL_DATA_TYPE_ID] as u32,
             flags: AdsSymbolFlags(slots[sys::SYMBOL_FLAGS] as u16),
+            high: slots[sys::SYMBOL_HIGH] as u16,
             extended_flags: (slots[sys::SYMBOL_HAS_EXTENDED] == 1).then_some(extended),
             name: string(sys::SYMBOL_NAME, sys::SYMBOL_NAME_LEN),
             type_name: string(sys::SYMBOL_TYPE_NAME, sys::SYMBOL_TYPE_NAME_LEN),
@@ -109,6 +111,12 @@ impl<'a> AdsSymbolInfo<'a> {
     /// The flags.
     pub const fn flags(&self) -> AdsSymbolFlags {
         self.flags
+    }
+
+    /// The bytes 22 and 23 as sent, low byte first: the high half of the 32 bits of flags that the maker's header has
+    /// there. No other answer depends on them.
+    pub const fn high(&self) -> u16 {
+        self.high
     }
 
     /// The extended flags, if they are there.
@@ -256,6 +264,7 @@ impl<'a> AdsSymbolInfo<'a> {
             size: self.size,
             data_type_id: self.data_type_id,
             flags: self.flags,
+            high: self.high,
             extended_flags: self.extended_flags.unwrap_or_default(),
         }
     }
@@ -296,7 +305,7 @@ pub fn parse_next_entry<'a>(
     let mut answer = [0; 2];
     // SAFETY: data's own pointer and length; cursor, slots, guid and answer are lent for the call.
     let status = unsafe {
-        sys::vindaskot_symbol_step(
+        sys::vindaskot_symbol_step_2(
             data.as_ptr(),
             data.len(),
             cursor,
@@ -361,6 +370,8 @@ pub struct SymbolNumbers {
     pub data_type_id: u32,
     /// The flags, which say what sections there are.
     pub flags: AdsSymbolFlags,
+    /// The bytes 22 and 23, low byte first: the high half of the maker's flags, written as given.
+    pub high: u16,
     /// The extended flags, 0 unless [`AdsSymbolFlags::EXTENDED_FLAGS`] is set.
     pub extended_flags: AdsSymbol2Flags,
 }
@@ -390,12 +401,13 @@ impl SymbolNumbers {
         let mut answer = [0; 2];
         // SAFETY: each pointer stands with its slice's own length; out is borrowed alone, so it overlaps none.
         let status = unsafe {
-            sys::vindaskot_symbol_write(
+            sys::vindaskot_symbol_write_2(
                 self.index_group.0,
                 self.index_offset.0,
                 self.size,
                 self.data_type_id,
                 self.flags.0,
+                self.high,
                 self.extended_flags.0,
                 guid.as_ptr(),
                 guid.len(),

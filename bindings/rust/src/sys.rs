@@ -7,7 +7,11 @@ pub const DONE: u32 = 0;
 pub const FINISHED: u32 = 100;
 pub const OUT_OF_STEPS: u32 = 101;
 pub const LIMIT: usize = 16777216;
-pub const INTERFACE: u32 = 1;
+#[allow(
+    dead_code,
+    reason = "it stands in a name that the linker asks for; tests/header.rs compares them"
+)]
+pub const INTERFACE: u32 = 2;
 
 pub const SYMBOL_LENGTH: usize = 0;
 pub const SYMBOL_INDEX_GROUP: usize = 1;
@@ -15,21 +19,22 @@ pub const SYMBOL_INDEX_OFFSET: usize = 2;
 pub const SYMBOL_SIZE: usize = 3;
 pub const SYMBOL_DATA_TYPE_ID: usize = 4;
 pub const SYMBOL_FLAGS: usize = 5;
-pub const SYMBOL_NAME: usize = 6;
-pub const SYMBOL_NAME_LEN: usize = 7;
-pub const SYMBOL_TYPE_NAME: usize = 8;
-pub const SYMBOL_TYPE_NAME_LEN: usize = 9;
-pub const SYMBOL_COMMENT: usize = 10;
-pub const SYMBOL_COMMENT_LEN: usize = 11;
-pub const SYMBOL_HAS_GUID: usize = 12;
-pub const SYMBOL_ATTRIBUTES: usize = 13;
-pub const SYMBOL_ATTRIBUTE_COUNT: usize = 14;
-pub const SYMBOL_HAS_EXTENDED: usize = 15;
-pub const SYMBOL_EXTENDED_FLAGS: usize = 16;
-pub const SYMBOL_REFACTORS: usize = 17;
-pub const SYMBOL_REFACTOR_COUNT: usize = 18;
-pub const SYMBOL_UNREAD: usize = 19;
-pub const SYMBOL_SLOTS: usize = 20;
+pub const SYMBOL_HIGH: usize = 6;
+pub const SYMBOL_NAME: usize = 7;
+pub const SYMBOL_NAME_LEN: usize = 8;
+pub const SYMBOL_TYPE_NAME: usize = 9;
+pub const SYMBOL_TYPE_NAME_LEN: usize = 10;
+pub const SYMBOL_COMMENT: usize = 11;
+pub const SYMBOL_COMMENT_LEN: usize = 12;
+pub const SYMBOL_HAS_GUID: usize = 13;
+pub const SYMBOL_ATTRIBUTES: usize = 14;
+pub const SYMBOL_ATTRIBUTE_COUNT: usize = 15;
+pub const SYMBOL_HAS_EXTENDED: usize = 16;
+pub const SYMBOL_EXTENDED_FLAGS: usize = 17;
+pub const SYMBOL_REFACTORS: usize = 18;
+pub const SYMBOL_REFACTOR_COUNT: usize = 19;
+pub const SYMBOL_UNREAD: usize = 20;
+pub const SYMBOL_SLOTS: usize = 21;
 
 pub const ATTRIBUTE_NAME: usize = 0;
 pub const ATTRIBUTE_NAME_LEN: usize = 1;
@@ -73,20 +78,26 @@ pub const TYPE_FLAG_COPY_MASK: u32 = 0x0200;
 pub const TYPE_FLAG_METHOD_INFOS: u32 = 0x0800;
 pub const TYPE_FLAG_ATTRIBUTES: u32 = 0x1000;
 
+/// What a program over this crate asks the linker for, whatever it calls: arguments and slots are known to no linker,
+/// so the number of the interface stands in a name, and an archive of another interface does not link. (rustc 1.95 has the
+/// linker keep what is `used`. One that lets it go leaves this to the calls that have changed: their names have a number.)
+#[used]
+pub static NEEDED: unsafe extern "C" fn() -> u32 = vindaskot_interface_2;
+
 unsafe extern "C" {
-    pub fn vindaskot_interface() -> u32;
-    pub fn vindaskot_symbol_read(
+    pub fn vindaskot_interface_2() -> u32;
+    pub fn vindaskot_symbol_read_2(
         bytes: *const u8,
         bytes_len: usize,
-        slots: &mut [u64; 20],
+        slots: &mut [u64; 21],
         guid: &mut [u8; 16],
         answer: &mut [u64; 2],
     ) -> u32;
-    pub fn vindaskot_symbol_step(
+    pub fn vindaskot_symbol_step_2(
         bytes: *const u8,
         bytes_len: usize,
         cursor: &mut usize,
-        slots: &mut [u64; 20],
+        slots: &mut [u64; 21],
         guid: &mut [u8; 16],
         answer: &mut [u64; 2],
     ) -> u32;
@@ -211,12 +222,13 @@ unsafe extern "C" {
         out_len: usize,
         answer: &mut [u64; 2],
     ) -> u32;
-    pub fn vindaskot_symbol_write(
+    pub fn vindaskot_symbol_write_2(
         index_group: u32,
         index_offset: u32,
         size: u32,
         data_type_id: u32,
         flags: u16,
+        high: u16,
         extended_flags: u32,
         guid: *const u8,
         guid_len: usize,

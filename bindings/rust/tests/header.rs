@@ -6,6 +6,10 @@ use std::collections::BTreeMap;
 
 use common::file;
 
+#[allow(dead_code, reason = "the interface's number is all that is looked at")]
+#[path = "../src/sys.rs"]
+mod sys;
+
 /// A C source without its comments, in one line of words.
 fn c_words(source: &str) -> String {
     let mut text = String::new();
@@ -127,7 +131,14 @@ fn the_constants_are_those_of_the_header() {
     assert_eq!(rust_constants(&file("src/sys.rs")), c);
 }
 
+/// The header's number, the name that the linker asks for and the archive's own answer are of one interface.
 #[test]
 fn the_archive_has_the_interface_of_the_header() {
-    assert!(vindaskot::interface_matches());
+    let source = file("src/sys.rs");
+    let (_, declared) = source.split_once("static NEEDED: ").unwrap();
+    let (_, needed) = declared.split_once(" = ").unwrap();
+    let name = format!("vindaskot_interface_{};", sys::INTERFACE);
+    assert!(needed.starts_with(&name), "{name}");
+    // SAFETY: the call takes nothing.
+    assert_eq!(unsafe { (sys::NEEDED)() }, sys::INTERFACE);
 }

@@ -67,7 +67,7 @@ fn l7_the_entry_of_37_bytes() {
     assert_eq!(info.index_group(), IndexGroup(16416));
     assert_eq!(info.index_offset(), IndexOffset(8));
     assert_eq!((info.size(), info.data_type_id()), (2, 2));
-    assert_eq!(info.flags().as_raw(), 0);
+    assert_eq!((info.flags().as_raw(), info.high()), (0, 0));
     assert_eq!(info.extended_flags(), None);
     assert_eq!(info.name(), b"Z");
     assert_eq!(info.type_name(), b"INT");

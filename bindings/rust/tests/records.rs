@@ -181,6 +181,25 @@ fn a_refused_attribute_ends_a_symbols_list_and_refuses_a_field() {
     assert_eq!(refused, Err(refusal(1, 205, 4)));
 }
 
+/// The bits that mean a GUID, attributes and extended flags mean it among the flags, and nothing in `high`.
+#[test]
+fn sections_are_told_by_the_flags_alone() {
+    let mut plain = PlainSymbol::named(b"n");
+    plain.numbers.high = 0x9008;
+    let mut bytes = plain.bytes();
+    bytes.extend([0; 40]);
+    bytes[0] = bytes.len() as u8;
+    let info = AdsSymbolInfo::try_from_slice(&bytes).unwrap();
+    plain.assert_told_by(&info, 40);
+
+    bytes[20..24].rotate_left(2);
+    let info = AdsSymbolInfo::try_from_slice(&bytes).unwrap();
+    assert_eq!((info.flags().as_raw(), info.high()), (0x9008, 0));
+    assert_eq!(info.guid(), Some([0; 16]));
+    assert_eq!(info.extended_flags(), Some(AdsSymbol2Flags(0)));
+    assert_eq!(info.unread(), 40 - 16 - 2 - 4);
+}
+
 #[test]
 fn an_absent_list_has_no_records_wherever_its_place_is() {
     let numbers = FieldNumbers {

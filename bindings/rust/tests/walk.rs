@@ -71,6 +71,21 @@ fn the_rig_names_its_axes_and_its_lens() {
 }
 
 #[test]
+fn the_rig_tells_high_as_it_was_sent() {
+    let upload = rig();
+    let symbols = AdsSymbolInfoIterator::new(&upload).map(Result::unwrap);
+    let sent = symbols.filter(|s| s.high() != 0);
+    let sent: Vec<_> = sent.map(|s| (s.name(), s.high())).collect();
+    let expected: [(&[u8], u16); 4] = [
+        (b"MAIN.stJib.nCounterweight", 0x00FF),
+        (b"MAIN.stJib.bTrackLock", 0x8000),
+        (b"MAIN.stLens", 0x0102),
+        (b"MAIN.stLens.sSerial", 0x1008),
+    ];
+    assert_eq!(sent, expected);
+}
+
+#[test]
 fn starts_are_those_of_the_claims() {
     let mut upload = rig();
     let bounds = bounds(&upload);

@@ -3,10 +3,10 @@
 mod common;
 
 use common::plain::{PlainField, PlainSymbol};
-use common::{Random, refusal, written};
+use common::{Random, refusal, rig, written};
 use vindaskot::{
-    AdsFieldInfo, AdsSymbol2Flags, AdsSymbolFlags, AdsSymbolInfo, AdsTypeFlags, Block,
-    FieldNumbers, FieldParts, Refusal, SymbolNumbers, SymbolParts,
+    AdsFieldInfo, AdsSymbol2Flags, AdsSymbolFlags, AdsSymbolInfo, AdsSymbolInfoIterator,
+    AdsTypeFlags, Block, FieldNumbers, FieldParts, Refusal, SymbolNumbers, SymbolParts,
 };
 
 const ATTRIBUTE: &[u8] = &[1, 1, b'u', 0, 0xB0, 0];
@@ -53,6 +53,38 @@ fn symbols_there_and_back() {
         assert_eq!(parts.refactor_infos.bytes, plain.chain_bytes());
         assert_eq!(written(|out| info.numbers().write(&parts, out)), bytes);
         assert_eq!(info.numbers().wire_size(&parts), Ok(bytes.len()));
+    }
+}
+
+#[test]
+fn the_rig_written_again_is_the_rig() {
+    let upload = rig();
+    let symbols = AdsSymbolInfoIterator::new(&upload).map(Result::unwrap);
+    let again = symbols.map(|s| written(|out| s.numbers().write(&s.parts(), out)));
+    assert_eq!(again.collect::<Vec<_>>().concat(), upload);
+}
+
+/// Each of its values stands at 22, low byte first, changes no other byte, and comes back.
+#[test]
+fn high_there_and_back() {
+    let bare = symbol_flags(0x0625, 0);
+    let parts = SymbolParts {
+        name: b"MAIN.stLens",
+        type_name: b"ST_BoxLens",
+        ..Default::default()
+    };
+    let mut expected = written(|out| bare.write(&parts, out));
+    assert_eq!(expected[20..24], [0x25, 0x06, 0, 0]);
+    for high in 0..=u16::MAX {
+        let numbers = SymbolNumbers { high, ..bare };
+        expected[22] = (high % 256) as u8;
+        expected[23] = (high / 256) as u8;
+        let bytes = written(|out| numbers.write(&parts, out));
+        assert_eq!(bytes, expected);
+        let info = AdsSymbolInfo::try_from_slice(&bytes).unwrap();
+        assert_eq!((info.high(), info.flags()), (high, bare.flags));
+        assert_eq!((info.numbers(), info.parts()), (numbers, parts));
+        assert_eq!(info.unread(), 0);
     }
 }
 

@@ -26,7 +26,8 @@ fn kind(out: &mut [u8], at: usize, info: AdsSymbolInfo) -> usize {
     let flags = info.flags;
     let p = number(out, at, info.size as usize);
     let q = number(out, p, info.data_type_id as usize);
-    number(out, q, flags.0 as usize)
+    let r = number(out, q, flags.0 as usize);
+    number(out, r, info.high as usize)
 }
 
 fn strings(out: &mut [u8], at: usize, e: &[u8]) -> usize {

@@ -56,6 +56,12 @@ fn number(n: usize) {
     io::print_decimal(1, n as u64);
 }
 
+// Another number for each symbol, whose two bytes differ.
+fn high_of(i: u32) -> u16 {
+    let low = i % 256;
+    (low * 256 + (low + 85) % 256) as u16
+}
+
 fn numbers_of(i: u32, flags: u16, extended: u32, has_guid: bool) -> SymbolNumbers {
     SymbolNumbers {
         index_group: IndexGroup(0x4020),
@@ -63,6 +69,7 @@ fn numbers_of(i: u32, flags: u16, extended: u32, has_guid: bool) -> SymbolNumber
         size: 8,
         data_type_id: 5,
         flags: AdsSymbolFlags(flags),
+        high: high_of(i),
         extended_flags: AdsSymbol2Flags(extended),
         has_guid,
     }
@@ -191,6 +198,7 @@ fn show_record(r: AdsSymbolInfo) {
     number(offset.0 as usize);
     number(r.size as usize);
     number(flags.0 as usize);
+    number(r.high as usize);
     number(attributes.count);
     number(chain.count);
     number(r.unread);

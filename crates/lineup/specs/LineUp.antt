@@ -71,6 +71,7 @@ pub record LineUp : Type 0 where
     size = 2;
     «data_type_id» = 2;
     flags = record { 0 = 0 };
+    high = 0;
     «name_len» = 1;
     «type_name_len» = 3;
     «comment_len» = 0;

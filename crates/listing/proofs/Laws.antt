@@ -22,9 +22,12 @@ use Rattle.entry.specs.declared.Claimed.{Claimed}
 use Rattle.entry.specs.Entry.{claimAt}
 use Rattle.entry.specs.Walk.{stands, stepsFrom, steps}
 use Rattle.entry.proofs.Demand3 as walking
+use Rattle.walk.specs.declared.Step.the-variants as step
 use Rattle.walk.specs.declared.Stepped.{Stepped}
+use Rattle.symbol.specs.declared.AdsSymbolInfo.{AdsSymbolInfo}
 use Rattle.walk.specs.Walk.{byStep, symbolStep}
 use Rattle.walk.proofs.Kind.{kind}
+use Rattle.walk.proofs.Whole.{steps-long}
 use Rattle.digits.specs.Text.{Put}
 use Rattle.digits.specs.Frame.{allDigits, frameOf}
 use Rattle.digits.proofs.Laws.{spelt-length, one-put}
@@ -76,6 +79,10 @@ module _ (number : ℕ) (s : List ℕ) (at : ℕ) (x : Stepped) (e : x ≡ symbo
       → (byStep (x .step) [] (λ r. entryLine number at r (part s at (x .cursor .at - at))) (refusalLine number at) ≡ stepText number s at) × (x .cursor .at ≡ stepNext s at)
   unfolding stepText stepNext
   moves p = (simp (← e, ne-eqb _ _ p), simp (← e, ne-eqb _ _ p))
+
+  -- an entry's line has room in 239 bytes for each byte of the entry, since an entry is not short
+  pub long : (info : AdsSymbolInfo) → x .step ≡ step.Record info → at + 33 ≤ x .cursor .at
+  long info h = rw e (steps-long s at info (rw e at h))
 
 -- the loop over a frame: so much text is written, the rest of the text is left, and no more than 239 bytes for each byte
 pub record Begun (number : ℕ) (s old : List ℕ) (start : ℕ) (new : List ℕ) (at said left : ℕ) : Type 0 where

@@ -14,7 +14,7 @@ use Rattle.lines.specs.Lines.{lineFeed}
 use Rattle.rows.specs.Rows.{refusalLine, entryLine}
 use Rattle.walk.specs.Walk.{byStep, symbolStep}
 
--- "line at len group offset size type flags unread attrs refs name typename"
+-- "line at len group offset size type flags unread attrs refs name typename high"
 abbrev pub header : List ℕ
 header =
     108 ∷ 105 ∷ 110 ∷ 101 ∷ 32 ∷
@@ -29,7 +29,8 @@ header =
     97 ∷ 116 ∷ 116 ∷ 114 ∷ 115 ∷ 32 ∷
     114 ∷ 101 ∷ 102 ∷ 115 ∷ 32 ∷
     110 ∷ 97 ∷ 109 ∷ 101 ∷ 32 ∷
-    116 ∷ 121 ∷ 112 ∷ 101 ∷ 110 ∷ 97 ∷ 109 ∷ 101 ∷ 10 ∷ []
+    116 ∷ 121 ∷ 112 ∷ 101 ∷ 110 ∷ 97 ∷ 109 ∷ 101 ∷ 32 ∷
+    104 ∷ 105 ∷ 103 ∷ 104 ∷ 10 ∷ []
 
 -- what is printed of the step at a place of a frame: a step that does not move is a zero claim, refusal 10, any other moves over its entry
 unfoldable pub stepText : ℕ → List ℕ → ℕ → List ℕ

@@ -24,16 +24,16 @@ struct Listed {
 pub fn write_header(out: &mut [u8]) -> Written
     ensures { λ r. ⌜ Writes (Bytes header) (now (out .entry)) (now (out .exit)) r ⌝ }
 {
-    if out.len() < 73 {
+    if out.len() < 78 {
         return Written::Refused(Refusal::OutputTooSmall {
-            needed: 73,
+            needed: 78,
             lent: out.len(),
         });
     }
     Written::Done(le::put_bytes(
         out,
         0,
-        b"line at len group offset size type flags unread attrs refs name typename\n",
+        b"line at len group offset size type flags unread attrs refs name typename high\n",
     ))
 }
 

@@ -47,7 +47,8 @@ counts r =
 
 -- name and type of the entry with these bytes
 unfoldable pub names : List ℕ → List ℕ
-names e = hex (symbolName e) ++ ((space ∷ []) ++ (hex (symbolTypeName e) ++ (lineFeed ∷ [])))
+names e = hex (symbolName e) ++ ((space ∷ []) ++ (hex (symbolTypeName e) ++ (space ∷ [])))
 
+-- high stands last (W-205)
 unfoldable pub entryLine : ℕ → ℕ → AdsSymbolInfo → List ℕ → List ℕ
-entryLine number at r e = placed number at ++ (addressed r ++ (counts r ++ names e))
+entryLine number at r e = placed number at ++ (addressed r ++ (counts r ++ (names e ++ field (r .high) lineFeed)))

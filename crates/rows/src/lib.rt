@@ -60,7 +60,7 @@ fn put_names(out: &mut [u8], at: usize, e: &[u8]) -> usize
     let p = digits::put_hex(out, at, symbol_info::name(e));
     let q = le::put_u8(out, p, b' ');
     let t = digits::put_hex(out, q, symbol_info::type_name(e));
-    le::put_u8(out, t, b'\n')
+    le::put_u8(out, t, b' ')
 }
 
 pub fn put_entry(
@@ -71,11 +71,12 @@ pub fn put_entry(
     info: AdsSymbolInfo,
     e: &[u8],
 ) -> usize
-    requires { ⌜ at + (length (now e) * 4 + 235) ≤ length (now out) ⌝ }
-    ensures { λ r. ⌜ Put (length (now (e .entry)) * 4 + 235) (now (out .entry)) at (entryLine number start info (now (e .entry))) (now (out .exit)) r ⌝ }
+    requires { ⌜ at + (length (now e) * 4 + 256) ≤ length (now out) ⌝ }
+    ensures { λ r. ⌜ Put (length (now (e .entry)) * 4 + 256) (now (out .entry)) at (entryLine number start info (now (e .entry))) (now (out .exit)) r ⌝ }
 {
     let p = put_place(out, at, number, start);
     let q = put_address(out, p, info);
     let t = put_counts(out, q, info);
-    put_names(out, t, e)
+    let u = put_names(out, t, e);
+    digits::put_field(out, u, info.high as usize, b'\n')
 }

@@ -61,7 +61,7 @@ sectionsOf e at flags =
 abbrev pub stringsEnd : List ℕ → ℕ
 stringsEnd e = 33 + le2 e 24 + le2 e 26 + le2 e 28
 
--- the record of an entry with its sections; what remains after them is the unread count
+-- the record of an entry with its sections; the two bytes after the flags are carried as sent (W-205), and what remains after the sections is the unread count
 unfoldable pub infoRecord : List ℕ → Sections → AdsSymbolInfo
 infoRecord e s =
     record {
@@ -71,6 +71,7 @@ infoRecord e s =
       size = le4 e 12;
       «data_type_id» = le4 e 16;
       flags = record { 0 = le2 e 20 };
+      high = le2 e 22;
       «name_len» = le2 e 24;
       «type_name_len» = le2 e 26;
       «comment_len» = le2 e 28;

@@ -40,6 +40,8 @@ pub struct AdsSymbolInfo {
     pub size: u32,
     pub data_type_id: u32,
     pub flags: AdsSymbolFlags,
+    // The two bytes after the flags, as sent: nothing depends on them.
+    pub high: u16,
     pub name_len: u16,
     pub type_name_len: u16,
     pub comment_len: u16,
@@ -128,6 +130,7 @@ fn info_of(e: &[u8], n: u16, t: u16, k: u16, flags: AdsSymbolFlags, s: Sections)
         size: le::u32_at(e, 12),
         data_type_id: le::u32_at(e, 16),
         flags,
+        high: le::u16_at(e, 22),
         name_len: n,
         type_name_len: t,
         comment_len: k,

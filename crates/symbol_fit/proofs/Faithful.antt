@@ -1,5 +1,6 @@
 -- Two fit symbols that mean the same are written as the same bytes.
 use Prim.Native.Nat.{ℕ}
+use native.Mathlib.Omega.{arith}
 use mathlib.Core.Path.{_≡_, refl, ap, _∙_}
 use mathlib.Core.Bool.{Bool, true, false}
 use mathlib.Core.List.{List}
@@ -41,7 +42,8 @@ symbols-faithful p q extra other f g x y e =
     let offset : p .numbers .«index_offset» ≡ q .numbers .«index_offset» = ap (λ (m : Symbol). m .offset) e in
     let size : p .numbers .size ≡ q .numbers .size = ap (λ (m : Symbol). m .size) e in
     let type : p .numbers .«data_type_id» ≡ q .numbers .«data_type_id» = ap (λ (m : Symbol). m .type-id) e in
+    let high : p .numbers .high ≡ q .numbers .high = omega (arith, ap (λ (m : Symbol). m .high) e, f .typed .high, g .typed .high) in
     let name : p .name ≡ q .name = ap (λ (m : Symbol). m .name) e in
     let type-name : p .type-name ≡ q .type-name = ap (λ (m : Symbol). m .type-name) e in
     let comment : p .comment ≡ q .comment = ap (λ (m : Symbol). m .comment) e in
-    simp (group, offset, size, type, flags, name, type-name, comment, guid, records .0, records .1, words, chain)
+    simp (group, offset, size, type, flags, high, name, type-name, comment, guid, records .0, records .1, words, chain)

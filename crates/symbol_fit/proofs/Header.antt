@@ -57,6 +57,10 @@ module _ (p : Parts) (t : Typed p) (a : Accepted p) (extra : List ℕ) (fits : l
   unfolding entryOf headerOf numbersOf le2
   flags = omega arith
 
+  pub high : le2 e 22 ≡ p .numbers .high
+  unfolding entryOf headerOf numbersOf le2
+  high = omega arith
+
   pub name-len : le2 e 24 ≡ length (p .name)
   unfolding entryOf headerOf numbersOf lengthsOf le2
   name-len = omega arith

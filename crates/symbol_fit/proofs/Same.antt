@@ -6,7 +6,7 @@ use mathlib.Core.Path.{_≡_, refl, sym, ap, _∙_}
 use mathlib.Core.List.{List, _++_, append-assoc, map}
 use lib.ListN.{length, length-append}
 use borrow.Author.Tests.{lt-ltb}
-use Rattle.le.specs.Le.{if_then_else_, part}
+use Rattle.le.specs.Le.{if_then_else_, le2, part}
 use Rattle.refusal.specs.Refusal.{limit}
 use Rattle.refusal.specs.Asked.{Given, asks}
 use Rattle.refusal.specs.Writing.{counted, goodFrom}
@@ -144,6 +144,9 @@ module _ (p : Parts) (t : Typed p) (a : Accepted p) (extra : List ℕ) (small : 
   unfolding infoRecord
   length-told = refl
 
+  high-told : le2 e 22 ≡ symbolMeant p extra .high
+  high-told = omega (arith, header.high p t a extra fits)
+
   told-is : symbolTold info (sectionsTold p t a extra fits .guid) e ≡ symbolMeant p extra
   unfolding infoRecord
   told-is =
@@ -154,6 +157,7 @@ module _ (p : Parts) (t : Typed p) (a : Accepted p) (extra : List ℕ) (small : 
         header.size p t a extra fits,
         header.type-id p t a extra fits,
         header.flags p t a extra fits,
+        high-told,
         name-told,
         type-name-told,
         comment-told,

@@ -1,6 +1,7 @@
 -- Demand 3 for symbols, stated: fit symbols, written one after another, each entry grown by any bytes at its end, come back from the walk.
 use Prim.Native.Nat.{ℕ, _<_}
 use mathlib.Core.Path.{_≡_}
+use mathlib.Core.Bool.{Bool}
 use mathlib.Core.List.{List, map}
 use mathlib.Core.Option.{none, some}
 use lib.ListN.{length, take}
@@ -15,6 +16,7 @@ use Rattle.refactor.specs.Told.{renamingsIn}
 use Rattle.symbol.specs.Symbol.{extendedFlags}
 use Rattle.walk.specs.Walk.{symbolStep}
 use Rattle.walk.specs.Told.{Symbol, stepTold, cursorOf}
+use Rattle.symbol_writer.specs.declared.SymbolNumbers.{SymbolNumbers}
 use Rattle.symbol_writer.specs.Writing.{Parts, flagged, symbolBytes, symbolWriting}
 
 -- what the types of the writer's parameters say: each number fits its width, and a GUID has 16 bytes
@@ -24,8 +26,26 @@ pub record Typed (p : Parts) : Type 0 where
   pub size : p .numbers .size < 4294967296
   pub type-id : p .numbers .«data_type_id» < 4294967296
   pub flags : p .numbers .flags .0 < 65536
+  pub high : p .numbers .high < 65536
   pub extended : p .numbers .«extended_flags» .0 < 4294967296
   pub guid : length (p .guid) ≡ 16
+
+-- and no more than they say: the largest number that each of them holds is typed
+abbrev largest : Bool → SymbolNumbers
+largest here =
+    record {
+      «index_group» = record { 0 = 0xFFFFFFFF };
+      «index_offset» = record { 0 = 0xFFFFFFFF };
+      size = 0xFFFFFFFF;
+      «data_type_id» = 0xFFFFFFFF;
+      flags = record { 0 = 0xFFFF };
+      high = 0xFFFF;
+      «extended_flags» = record { 0 = 0xFFFFFFFF };
+      «has_guid» = here;
+    }
+
+abbrev pub LargestTyped : Type 0
+LargestTyped = (p : Parts) (here : Bool) → p .numbers ≡ largest here → length (p .guid) ≡ 16 → Typed p
 
 -- 01, "Fit records": every symbol that the symbol writer accepts
 pub record Fit (p : Parts) : Type 0 where
@@ -41,6 +61,7 @@ symbolMeant p extra =
       size = p .numbers .size;
       type-id = p .numbers .«data_type_id»;
       flags = p .numbers .flags;
+      high = p .numbers .high;
       name = p .name;
       type-name = p .type-name;
       comment = p .comment;

@@ -46,11 +46,11 @@ flagged n bit = has (n .flags .0) bit
 abbrev pub extended : SymbolNumbers → ℕ
 extended n = n .«extended_flags» .0
 
--- bytes 22 and 23 are written 0
+-- the two bytes after the flags are those given (W-205)
 unfoldable pub numbersOf : SymbolNumbers → List ℕ
 numbersOf n =
     bytes4 (n .«index_group» .0)
-    ++ (bytes4 (n .«index_offset» .0) ++ (bytes4 (n .size) ++ (bytes4 (n .«data_type_id») ++ (bytes2 (n .flags .0) ++ bytes2 0))))
+    ++ (bytes4 (n .«index_offset» .0) ++ (bytes4 (n .size) ++ (bytes4 (n .«data_type_id») ++ (bytes2 (n .flags .0) ++ bytes2 (n .high)))))
 
 -- the header after the entry length
 unfoldable pub headerOf : SymbolNumbers → List ℕ → List ℕ → List ℕ → List ℕ

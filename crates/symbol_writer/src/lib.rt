@@ -24,6 +24,8 @@ pub struct SymbolNumbers {
     pub size: u32,
     pub data_type_id: u32,
     pub flags: AdsSymbolFlags,
+    // The two bytes after the flags, written as given: nothing depends on them.
+    pub high: u16,
     pub extended_flags: AdsSymbol2Flags,
     pub has_guid: bool,
 }
@@ -173,7 +175,7 @@ fn put_numbers(out: &mut [u8], at: usize, n: SymbolNumbers) -> usize
     let c = le::put_u32(out, b, n.size);
     let d = le::put_u32(out, c, n.data_type_id);
     let e = le::put_u16(out, d, flags.0);
-    le::put_u16(out, e, 0)
+    le::put_u16(out, e, n.high)
 }
 
 fn put_header(

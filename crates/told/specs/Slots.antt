@@ -27,6 +27,7 @@ symbolSlots r =
     ∷ r .size
     ∷ r .«data_type_id»
     ∷ r .flags .0
+    ∷ r .high
     ∷ symbols.nameAt
     ∷ r .«name_len»
     ∷ symbols.typeNameAt r

@@ -22,14 +22,15 @@ guidChecked present =
 abbrev pub lentGuid : List ℕ → Guid
 lentGuid bytes = guidAt bytes 0 true
 
-abbrev pub symbolNumbers : ℕ → ℕ → ℕ → ℕ → ℕ → ℕ → Bool → SymbolNumbers
-symbolNumbers group offset size type flags extended here =
+abbrev pub symbolNumbers : ℕ → ℕ → ℕ → ℕ → ℕ → ℕ → ℕ → Bool → SymbolNumbers
+symbolNumbers group offset size type flags high extended here =
     record {
       «index_group» = record { 0 = group };
       «index_offset» = record { 0 = offset };
       size = size;
       «data_type_id» = type;
       flags = record { 0 = flags };
+      high = high;
       «extended_flags» = record { 0 = extended };
       «has_guid» = here;
     }

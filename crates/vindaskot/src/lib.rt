@@ -31,18 +31,19 @@ ghost use Rattle.told.specs.Told.{Tells, WritesTold, foundTold, chainTold, symb
 ghost use Rattle.told.specs.Slots.{symbolSlotsAfter, fieldSlotsAfter, symbolGuidAfter, fieldGuidAfter, attributeSlotsAfter, refactorSlotsAfter};
 ghost use Rattle.vindaskot.specs.Lent.{guidChecked, lentGuid, symbolNumbers, fieldNumbers};
 
-// The number of this interface: it changes with the arguments or the slots of any call, which no linker would see.
+// The number of this interface changes with the arguments or the slots of any call, which no linker sees. So it stands in names, which a linker
+// sees: here, in a function that the header and the Rust crate need, and in each call that changed with it.
 #[no_mangle]
-pub extern "C" fn vindaskot_interface() -> u32
-    ensures { λ r. ⌜ r ≡ 1 ⌝ }
+pub extern "C" fn vindaskot_interface_2() -> u32
+    ensures { λ r. ⌜ r ≡ 2 ⌝ }
 {
-    1
+    2
 }
 
 #[no_mangle]
-pub extern "C" fn vindaskot_symbol_read(
+pub extern "C" fn vindaskot_symbol_read_2(
     bytes: &[u8],
-    slots: &mut [u64; 20],
+    slots: &mut [u64; 21],
     guid: &mut [u8; 16],
     answer: &mut [u64; 2],
 ) -> u32
@@ -54,10 +55,10 @@ pub extern "C" fn vindaskot_symbol_read(
 }
 
 #[no_mangle]
-pub extern "C" fn vindaskot_symbol_step(
+pub extern "C" fn vindaskot_symbol_step_2(
     bytes: &[u8],
     cursor: &mut usize,
-    slots: &mut [u64; 20],
+    slots: &mut [u64; 21],
     guid: &mut [u8; 16],
     answer: &mut [u64; 2],
 ) -> u32
@@ -308,12 +309,13 @@ fn check_guid(present: usize) -> Checked
 }
 
 #[no_mangle]
-pub extern "C" fn vindaskot_symbol_write(
+pub extern "C" fn vindaskot_symbol_write_2(
     index_group: u32,
     index_offset: u32,
     size: u32,
     data_type_id: u32,
     flags: u16,
+    high: u16,
     extended_flags: u32,
     guid: &[u8],
     name: &[u8],
@@ -326,7 +328,7 @@ pub extern "C" fn vindaskot_symbol_write(
     out: &mut [u8],
     answer: &mut [u64; 2],
 ) -> u32
-    ensures { λ r. ⌜ WritesTold (afterCheck (guidChecked (length (now (guid .entry)))) (symbolWriting (partsOf (symbolNumbers «index_group» «index_offset» size «data_type_id» flags «extended_flags» (lentGuid (now (guid .entry)) .here)) (lentGuid (now (guid .entry)) .bytes) (now (name .entry)) (now («type_name» .entry)) (now (comment .entry)) count (now (block .entry)) links (now (chain .entry))))) (now (out .entry)) (now (out .exit)) r (now (answer .exit)) ⌝ }
+    ensures { λ r. ⌜ WritesTold (afterCheck (guidChecked (length (now (guid .entry)))) (symbolWriting (partsOf (symbolNumbers «index_group» «index_offset» size «data_type_id» flags high «extended_flags» (lentGuid (now (guid .entry)) .here)) (lentGuid (now (guid .entry)) .bytes) (now (name .entry)) (now («type_name» .entry)) (now (comment .entry)) count (now (block .entry)) links (now (chain .entry))))) (now (out .entry)) (now (out .exit)) r (now (answer .exit)) ⌝ }
 {
     if let Checked::Refused(why) = check_guid(guid.len()) {
         return told::refused(why, answer);
@@ -338,6 +340,7 @@ pub extern "C" fn vindaskot_symbol_write(
         size,
         data_type_id,
         flags: AdsSymbolFlags(flags),
+        high,
         extended_flags: AdsSymbol2Flags(extended_flags),
         has_guid: given.here,
     };

@@ -15,7 +15,7 @@ use Rattle.symbol.specs.Symbol.{symbolEntry, symbolRead}
 use Rattle.symbol.specs.declared.AdsSymbolInfo.{AdsSymbolInfo}
 use Rattle.symbol.specs.declared.SymbolAnswer.{SymbolAnswer}
 use Rattle.symbol.specs.declared.SymbolAnswer.the-variants as answer
-use Rattle.symbol.proofs.Inside.{symbols-inside}
+use Rattle.symbol.proofs.Inside.{symbols-inside, symbols-shown}
 use Rattle.walk.specs.declared.Step.the-variants as step
 use Rattle.walk.specs.Walk.{finished, entry, refused, stepIs, symbolStep}
 use Rattle.walk.specs.Whole.{Reads, StepsRead}
@@ -50,3 +50,10 @@ module _ (s : List ℕ) (at : ℕ) (info : AdsSymbolInfo) where
 pub steps-read : StepsRead
 unfolding symbolStep
 steps-read s at info h = by-met s at info (claimAt s at .met) refl h
+
+-- and moves over a header and three end bytes at least
+pub steps-long : (s : List ℕ) (at : ℕ) (info : AdsSymbolInfo) → symbolStep s at .step ≡ step.Record info → at + 33 ≤ symbolStep s at .cursor .at
+steps-long s at info h =
+    let r = steps-read s at info h in
+    let i = symbols-shown (part s at (info .length)) info (r .answers) .inside in
+    omega (arith, r .moves, i .long, i .strings)

@@ -26,6 +26,7 @@ pub record Symbol : Type 0 where
   pub size : ℕ
   pub type-id : ℕ
   pub flags : AdsSymbolFlags
+  pub high : ℕ
   pub name : List ℕ
   pub type-name : List ℕ
   pub comment : List ℕ
@@ -44,6 +45,7 @@ symbolTold info guid e =
       size = info .size;
       type-id = info .«data_type_id»;
       flags = info .flags;
+      high = info .high;
       name = symbolName e;
       type-name = symbolTypeName e;
       comment = symbolComment e;

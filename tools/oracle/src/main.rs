@@ -95,14 +95,16 @@ impl Said {
         self.number(r.next_refactor_info() as u32);
         self.string(r.name().unwrap_or(""));
     }
-    fn symbol(&mut self, r: &AdsSymbolInfo, length: usize) {
+    fn symbol(&mut self, r: &AdsSymbolInfo, entry: &[u8]) {
         self.word("ok");
-        self.number(length);
+        self.number(entry.len());
         self.number(r.index_group().as_u32());
         self.number(r.index_offset().as_u32());
         self.number(r.size());
         self.number(u32::from(r.data_type_id()));
         self.number(r.flags().as_raw());
+        // The oracle's own: the Rust does not read them.
+        self.number(u16::from_le_bytes([entry[22], entry[23]]));
         self.string(r.name());
         self.string(r.type_name());
         self.string(r.comment());
@@ -131,6 +133,13 @@ impl Said {
         self.guid(r.guid());
         self.attributes(r.attributes());
     }
+}
+
+/// The data with others for bytes 22 and 23 of the entry at a place. The Rust tells nothing of these two: every answer is the same with them.
+fn others(d: &[u8], start: usize) -> Vec<u8> {
+    let mut others = d.to_vec();
+    others.iter_mut().skip(start.saturating_add(22)).take(2).for_each(|b| *b = !*b);
+    others
 }
 
 /// `reserved` has no accessor: it is the last field of the derived Debug text.
@@ -262,8 +271,10 @@ fn chain(out: &mut Said, d: &[u8]) {
 }
 
 fn symbol(out: &mut Said, d: &[u8]) {
-    match AdsSymbolInfo::try_from_slice(d) {
-        Ok((r, length)) => out.symbol(&r, length),
+    let read = AdsSymbolInfo::try_from_slice(d);
+    assert_eq!(AdsSymbolInfo::try_from_slice(&others(d, 0)), read);
+    match read {
+        Ok((r, length)) => out.symbol(&r, &d[..length]),
         Err(e) => out.refused(of_symbol(e)),
     }
 }
@@ -281,11 +292,14 @@ fn walk(out: &mut Said, d: &[u8], from: usize) {
     loop {
         let start = cursor;
         let step = symbol_info::utils::parse_next_entry(d, &mut cursor);
+        let mut again = start;
+        assert_eq!(symbol_info::utils::parse_next_entry(&others(d, start), &mut again), step);
+        assert_eq!(again, cursor);
         out.word("at");
         out.number(start);
         match &step {
             None => out.word("end"),
-            Some(Ok(r)) => out.symbol(r, cursor - start),
+            Some(Ok(r)) => out.symbol(r, &d[start..cursor]),
             Some(Err(e)) => out.refused(of_symbol(e.clone())),
         }
         out.number(cursor);

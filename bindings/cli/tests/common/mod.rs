@@ -131,6 +131,13 @@ pub fn symbol(
     numbers.to_vec(&parts).unwrap()
 }
 
+/// The same entry with that high: bytes 22 and 23, the low one first.
+pub fn with_high(mut entry: Vec<u8>, high: u16) -> Vec<u8> {
+    entry[22] = (high % 256) as u8;
+    entry[23] = (high / 256) as u8;
+    entry
+}
+
 /// The same entry with bytes after its last section.
 pub fn grown(mut entry: Vec<u8>, more: usize) -> Vec<u8> {
     entry.extend((0..more).map(|byte| byte as u8));

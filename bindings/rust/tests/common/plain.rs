@@ -104,6 +104,7 @@ impl PlainSymbol {
                 size: r.word(),
                 data_type_id: r.word(),
                 flags: AdsSymbolFlags(flags),
+                high: r.word() as u16,
                 extended_flags: AdsSymbol2Flags(if extended { word & !4 | chain } else { 0 }),
             },
             common: Common::random(r, guid, attributes),
@@ -141,7 +142,7 @@ impl PlainSymbol {
         let words = [n.index_group.0, n.index_offset.0, n.size, n.data_type_id];
         let mut rest: Vec<u8> = words.iter().flat_map(|word| word.to_le_bytes()).collect();
         rest.extend(n.flags.0.to_le_bytes());
-        rest.extend([0, 0]);
+        rest.extend(n.high.to_le_bytes());
         rest.extend(self.common.lengths());
         rest.extend(self.common.strings());
         rest.extend(self.common.guid.iter().flatten());
@@ -184,6 +185,7 @@ impl PlainSymbol {
         assert_eq!(info.size(), n.size);
         assert_eq!(info.data_type_id(), n.data_type_id);
         assert_eq!(info.flags(), n.flags);
+        assert_eq!(info.high(), n.high);
         let extended = n.flags.0 & 0x8000 != 0;
         assert_eq!(info.extended_flags(), extended.then_some(n.extended_flags));
         assert_eq!(info.name(), self.common.name);

@@ -1,6 +1,6 @@
 use native.Mathlib.Omega.{arith}
 use Rattle.le.proofs.Laws.{wrote-none, same-bytes}
-use Rattle.listing.proofs.Laws.{stays, moves, next-inside}
+use Rattle.listing.proofs.Laws.{stays, moves, long, next-inside}
 use Rattle.lines.proofs.Laws.{short-by}
 use borrow.Author.Needs.{needs}
 use Rattle.listing.proofs.put_step.Statement.{statement}
@@ -31,7 +31,7 @@ part-of-requires : tie.Need-part-of-requires
 part-of-requires c κs = search needs
 
 put-entry-requires : tie.Need-put-entry-requires
-put-entry-requires c κs = let m = moves (c .before .before .before .before .before .before .before .before .before .before .args .number) (c .before .before .before .before .before .before .before .before .before .before .args .frame .now) (c .before .before .before .before .before .before .before .before .before .before .args .at) (c .before .before .before .before .before .before .before .step .result) (c .before .before .before .before .before .before .before .step .ensures) (c .before .before .before .before .before .before .if1 .left) in let i = next-inside (c .before .before .before .before .before .before .before .before .before .before .args .frame .now) (c .before .before .before .before .before .before .before .before .before .before .args .at) (c .before .before .before .before .before .before .before .before .before .before .pre .0) in omega (arith, short-by _ _ _ _ (c .before .part-of .ensures .0), c .before .before .room .ensures, m .1, i .0, i .1, c .before .before .before .before .before .before .before .before .before .before .pre .1)
+put-entry-requires c κs = let m = moves (c .before .before .before .before .before .before .before .before .before .before .args .number) (c .before .before .before .before .before .before .before .before .before .before .args .frame .now) (c .before .before .before .before .before .before .before .before .before .before .args .at) (c .before .before .before .before .before .before .before .step .result) (c .before .before .before .before .before .before .before .step .ensures) (c .before .before .before .before .before .before .if1 .left) in let i = next-inside (c .before .before .before .before .before .before .before .before .before .before .args .frame .now) (c .before .before .before .before .before .before .before .before .before .before .args .at) (c .before .before .before .before .before .before .before .before .before .before .pre .0) in let l = long (c .before .before .before .before .before .before .before .before .before .before .args .number) (c .before .before .before .before .before .before .before .before .before .before .args .frame .now) (c .before .before .before .before .before .before .before .before .before .before .args .at) (c .before .before .before .before .before .before .before .step .result) (c .before .before .before .before .before .before .before .step .ensures) _ (c .before .before .before .before .step2 .given .1) in omega (arith, l, short-by _ _ _ _ (c .before .part-of .ensures .0), c .before .before .room .ensures, m .1, i .0, i .1, c .before .before .before .before .before .before .before .before .before .before .pre .1)
 
 enum-known-step-2 : tie.Need-enum-known-step-2
 enum-known-step-2 c = search needs
@@ -46,7 +46,7 @@ same-length-2 : tie.Need-same-length-2
 same-length-2 c = search needs
 
 returns-3 : tie.Need-returns-3
-returns-3 c = let m = moves (c .before .before .before .before .before .before .before .before .before .before .before .before .before .args .number) (c .before .before .before .before .before .before .before .before .before .before .before .before .before .args .frame .now) (c .before .before .before .before .before .before .before .before .before .before .before .before .before .args .at) (c .before .before .before .before .before .before .before .before .before .before .step .result) (c .before .before .before .before .before .before .before .before .before .before .step .ensures) (c .before .before .before .before .before .before .before .before .before .if1 .left) in let i = next-inside (c .before .before .before .before .before .before .before .before .before .before .before .before .before .args .frame .now) (c .before .before .before .before .before .before .before .before .before .before .before .before .before .args .at) (c .before .before .before .before .before .before .before .before .before .before .before .before .before .pre .0) in (record { wrote = same-bytes (simp (c .before .before .before .before .before .before .before .step2 .given .1, ← c .before .before .before .before .before .room .ensures, ← c .before .before .before .before .part-of .ensures .0) at (m .0)) (c .before .before .put-entry .ensures .wrote); low = omega (arith, c .before .before .put-entry .ensures .low, short-by _ _ _ _ (c .before .before .before .before .part-of .ensures .0), c .before .before .before .before .before .room .ensures, m .1, i .0, i .1) }, m .1)
+returns-3 c = let m = moves (c .before .before .before .before .before .before .before .before .before .before .before .before .before .args .number) (c .before .before .before .before .before .before .before .before .before .before .before .before .before .args .frame .now) (c .before .before .before .before .before .before .before .before .before .before .before .before .before .args .at) (c .before .before .before .before .before .before .before .before .before .before .step .result) (c .before .before .before .before .before .before .before .before .before .before .step .ensures) (c .before .before .before .before .before .before .before .before .before .if1 .left) in let i = next-inside (c .before .before .before .before .before .before .before .before .before .before .before .before .before .args .frame .now) (c .before .before .before .before .before .before .before .before .before .before .before .before .before .args .at) (c .before .before .before .before .before .before .before .before .before .before .before .before .before .pre .0) in let l = long (c .before .before .before .before .before .before .before .before .before .before .before .before .before .args .number) (c .before .before .before .before .before .before .before .before .before .before .before .before .before .args .frame .now) (c .before .before .before .before .before .before .before .before .before .before .before .before .before .args .at) (c .before .before .before .before .before .before .before .before .before .before .step .result) (c .before .before .before .before .before .before .before .before .before .before .step .ensures) _ (c .before .before .before .before .before .before .before .step2 .given .1) in (record { wrote = same-bytes (simp (c .before .before .before .before .before .before .before .step2 .given .1, ← c .before .before .before .before .before .room .ensures, ← c .before .before .before .before .part-of .ensures .0) at (m .0)) (c .before .before .put-entry .ensures .wrote); low = omega (arith, l, c .before .before .put-entry .ensures .low, short-by _ _ _ _ (c .before .before .before .before .part-of .ensures .0), c .before .before .before .before .before .room .ensures, m .1, i .0, i .1) }, m .1)
 
 same-length-3 : tie.Need-same-length-3
 same-length-3 c = search needs

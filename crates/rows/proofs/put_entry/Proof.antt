@@ -16,12 +16,18 @@ put-counts-requires c κs = search needs
 put-names-requires : tie.Need-put-names-requires
 put-names-requires c κs = search needs
 
+cast-put-field : tie.Need-cast-put-field
+cast-put-field c = search needs
+
+put-field-requires : tie.Need-put-field-requires
+put-field-requires c κs = search needs
+
 same-length : tie.Need-same-length
 same-length c = search needs
 
 returns : tie.Need-returns
 unfolding entryLine
-returns c = record { wrote = after (c .before .before .before .before .before .before .before .before .before .before .before .before .before .before .put-place .ensures .wrote) (after (c .before .before .before .before .before .before .before .before .before .before .put-address .ensures .wrote) (after (c .before .before .before .before .before .before .put-counts .ensures .wrote) (c .before .before .put-names .ensures .wrote))); low = search needs }
+returns c = record { wrote = after (c .before .before .before .before .before .before .before .before .before .before .before .before .before .before .before .before .before .before .before .put-place .ensures .wrote) (after (c .before .before .before .before .before .before .before .before .before .before .before .before .before .before .before .put-address .ensures .wrote) (after (c .before .before .before .before .before .before .before .before .before .before .before .put-counts .ensures .wrote) (after (c .before .before .before .before .before .before .before .put-names .ensures .wrote) (c .before .before .put-field .ensures .wrote)))); low = search needs }
 
 pub put-entry-spec : {M : Type 1} → statement M
 put-entry-spec =
@@ -31,5 +37,7 @@ put-entry-spec =
     put-address-requires
     put-counts-requires
     put-names-requires
+    cast-put-field
+    put-field-requires
     same-length
     returns)

@@ -22,30 +22,33 @@ cast-t16 c = search needs
 wide-requires : tie.Need-wide-requires
 wide-requires c κs = search needs
 
+wide-requires-2 : tie.Need-wide-requires-2
+wide-requires-2 c κs = search needs
+
 second-at-requires : tie.Need-second-at-requires
 second-at-requires c κs = search needs
 
-wide-requires-2 : tie.Need-wide-requires-2
-wide-requires-2 c κs = search needs
+wide-requires-3 : tie.Need-wide-requires-3
+wide-requires-3 c κs = search needs
 
 third-at-requires : tie.Need-third-at-requires
 third-at-requires c κs = search needs
 
-cast-t21 : tie.Need-cast-t21
-cast-t21 c = search needs
-
 cast-t22 : tie.Need-cast-t22
 cast-t22 c = search needs
 
-cast-t25 : tie.Need-cast-t25
-cast-t25 c = search needs
+cast-t23 : tie.Need-cast-t23
+cast-t23 c = search needs
 
 cast-t26 : tie.Need-cast-t26
 cast-t26 c = search needs
 
+cast-t27 : tie.Need-cast-t27
+cast-t27 c = search needs
+
 returns : tie.Need-returns
 unfolding symbolSlots
-returns c = simp (as-bit, c .before .before .before .before .third-at .ensures, c .before .before .before .before .before .wide2 .ensures, c .before .before .before .before .before .before .second-at .ensures, c .before .before .before .before .before .before .before .wide .ensures)
+returns c = simp (as-bit, c .before .before .before .before .third-at .ensures, c .before .before .before .before .before .wide3 .ensures, c .before .before .before .before .before .before .second-at .ensures, c .before .before .before .before .before .before .before .wide2 .ensures, c .before .before .before .before .before .before .before .before .wide .ensures)
 
 pub symbol-slots-spec : {M : Type 1} → statement M
 symbol-slots-spec =
@@ -57,11 +60,12 @@ symbol-slots-spec =
     cast-t15
     cast-t16
     wide-requires
-    second-at-requires
     wide-requires-2
+    second-at-requires
+    wide-requires-3
     third-at-requires
-    cast-t21
     cast-t22
-    cast-t25
+    cast-t23
     cast-t26
+    cast-t27
     returns)

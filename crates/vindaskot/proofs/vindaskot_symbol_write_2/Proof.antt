@@ -1,7 +1,7 @@
 use Rattle.told.proofs.Laws.{told-written, told-refused}
 use borrow.Author.Needs.{needs}
-use Rattle.vindaskot.proofs.vindaskot_symbol_write.Statement.{statement}
-use Rattle.vindaskot.proofs.vindaskot_symbol_write.Tie as tie
+use Rattle.vindaskot.proofs.vindaskot_symbol_write_2.Statement.{statement}
+use Rattle.vindaskot.proofs.vindaskot_symbol_write_2.Tie as tie
 
 check-guid-requires : tie.Need-check-guid-requires
 check-guid-requires c κs = search needs
@@ -33,8 +33,8 @@ same-length c = search needs
 returns-2 : tie.Need-returns-2
 returns-2 c = told-written {x = c .before .before .before .before .to-vec .result} (simp (← c .before .before .before .before .before .before .before .guid-at .ensures, ← c .before .before .before .before .before .before .before .before .before .before .check-guid .ensures, c .before .before .before .before .before .before .before .before .enum-told .given .1) (c .before .before .before .before .to-vec .ensures)) (c .written .ensures)
 
-pub vindaskot-symbol-write-spec : {M : Type 1} → statement M
-vindaskot-symbol-write-spec =
+pub vindaskot-symbol-write-2-spec : {M : Type 1} → statement M
+vindaskot-symbol-write-2-spec =
     tie.close
     (tie.spec
     check-guid-requires

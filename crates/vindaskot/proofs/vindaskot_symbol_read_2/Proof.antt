@@ -1,6 +1,6 @@
 use borrow.Author.Needs.{needs}
-use Rattle.vindaskot.proofs.vindaskot_symbol_read.Statement.{statement}
-use Rattle.vindaskot.proofs.vindaskot_symbol_read.Tie as tie
+use Rattle.vindaskot.proofs.vindaskot_symbol_read_2.Statement.{statement}
+use Rattle.vindaskot.proofs.vindaskot_symbol_read_2.Tie as tie
 
 try-from-slice-requires : tie.Need-try-from-slice-requires
 try-from-slice-requires c κs = search needs
@@ -11,6 +11,6 @@ symbol-read-requires c κs = search needs
 returns : tie.Need-returns
 returns c = simp (← c .before .before .before .before .try-from-slice .ensures) (c .symbol-read .ensures)
 
-pub vindaskot-symbol-read-spec : {M : Type 1} → statement M
-vindaskot-symbol-read-spec =
+pub vindaskot-symbol-read-2-spec : {M : Type 1} → statement M
+vindaskot-symbol-read-2-spec =
     tie.close (tie.spec try-from-slice-requires symbol-read-requires returns)
