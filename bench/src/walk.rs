@@ -21,7 +21,7 @@ fn stepped<const N: usize>(by: c::SymbolStep<N>, upload: &[u8]) -> u64 {
         match c::symbol_step(by, upload, &mut cursor, &mut told) {
             sys::DONE => sum += ours_sum(&told),
             sys::FINISHED => return sum,
-            status => wrong(&format!("vindaskot_symbol_step refused with {status}")),
+            status => wrong(&format!("a step is refused with {status}")),
         }
     }
 }
@@ -82,7 +82,7 @@ fn ours_text(upload: &[u8], out: &mut [u8]) -> u64 {
         match c::symbol_step(c::SYMBOL_STEP, upload, &mut cursor, &mut told) {
             sys::DONE => sum += ours_text_of(entry, &told, out),
             sys::FINISHED => return sum,
-            status => wrong(&format!("vindaskot_symbol_step refused with {status}")),
+            status => wrong(&format!("a step is refused with {status}")),
         }
     }
 }
