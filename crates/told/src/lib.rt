@@ -212,7 +212,7 @@ fn symbol_slots(info: AdsSymbolInfo) -> [u64; 21]
 }
 
 // A record, told. A step and a read match their own answers, so that what they share stays small enough to be inlined: called, with the record
-// copied for it, a step takes up to twice as long.
+// copied for it, a step takes half as long again or more.
 fn symbol_record(
     info: AdsSymbolInfo,
     bytes: [u8; 16],
