@@ -1,14 +1,15 @@
 -- The numbers of a written entry's header, and where its strings stand.
 use Prim.Native.Nat.{ℕ, _+_, _<_}
 use native.Mathlib.Omega.{arith}
-use mathlib.Core.Path.{_≡_, refl, sym, _∙_}
+use mathlib.Core.Path.{_≡_, refl}
 use mathlib.Core.List.{List, _++_, append-assoc}
-use lib.ListN.{length, length-append}
+use lib.ListN.{length}
 use Rattle.le.specs.Le.{le2, le4, bytes4, part}
 use Rattle.symbol.specs.Symbol.{typeGuid, attributes, extendedFlags}
 use Rattle.wire.specs.Wire.{lengthsOf, stringsOf, attributesOf, entryOf}
-use Rattle.wire.proofs.Laws.{length-strings}
-use Rattle.wire.proofs.Read.{name-part, type-part, comment-part}
+use Rattle.wire.proofs.Laws as laws
+use Rattle.wire.proofs.Header as strings
+use Rattle.wire.proofs.Header.{Laid}
 use Rattle.symbol_writer.specs.Writing.{Parts, flagged, extended, numbersOf, headerOf, guidOf, extendedOf, sectionsOf}
 use Rattle.symbol_fit.specs.Demand3.{Typed}
 use Rattle.symbol_fit.proofs.Accepted.{Accepted}
@@ -73,6 +74,9 @@ module _ (p : Parts) (t : Typed p) (a : Accepted p) (extra : List ℕ) (fits : l
   unfolding entryOf headerOf numbersOf lengthsOf le2
   comment-len = omega arith
 
+  pub length-entry : length e ≡ length (bodyOf p ++ extra) + 4
+  length-entry = laws.length-entry (bodyOf p ++ extra)
+
   -- the header with the entry length, and the strings after it
   abbrev pub header : List ℕ
   header = bytes4 (length (bodyOf p ++ extra) + 4) ++ headerOf (p .numbers) (p .name) (p .type-name) (p .comment)
@@ -80,30 +84,22 @@ module _ (p : Parts) (t : Typed p) (a : Accepted p) (extra : List ℕ) (fits : l
   abbrev pub front : List ℕ
   front = header ++ stringsOf (p .name) (p .type-name) (p .comment)
 
-  length-header : length header ≡ 30
-  unfolding headerOf numbersOf lengthsOf
-  length-header = refl
+  pub laid : Laid e header (p .name) (p .type-name) (p .comment) (tailOf p extra) 30
+  unfolding entryOf headerOf numbersOf lengthsOf sectionsOf
+  laid = record { is = simp append-assoc; long = refl }
 
   pub length-front : length front ≡ 33 + length (p .name) + length (p .type-name) + length (p .comment)
-  length-front = length-append header (stringsOf (p .name) (p .type-name) (p .comment)) ∙ omega (arith, length-header, length-strings (p .name) (p .type-name) (p .comment))
-
-  split-strings : e ≡ header ++ (stringsOf (p .name) (p .type-name) (p .comment) ++ tailOf p extra)
-  unfolding entryOf sectionsOf
-  split-strings = simp append-assoc
+  length-front = strings.length-front laid
 
   pub split : e ≡ front ++ tailOf p extra
-  split = split-strings ∙ sym (append-assoc header (stringsOf (p .name) (p .type-name) (p .comment)) (tailOf p extra))
-
-  pub length-entry : length e ≡ length (bodyOf p ++ extra) + 4
-  unfolding entryOf
-  length-entry = omega arith
+  split = strings.split laid
 
   -- each string is the part that the lengths place
   pub name-is : part e 30 (length (p .name)) ≡ p .name
-  name-is = rw (split-strings, ← length-header) (name-part header (p .name) (p .type-name) (p .comment) (tailOf p extra))
+  name-is = strings.name-is laid
 
   pub type-name-is : part e (31 + length (p .name)) (length (p .type-name)) ≡ p .type-name
-  type-name-is = rw split-strings (type-part header (p .name) (p .type-name) (p .comment) (tailOf p extra) (31 + length (p .name)) (omega (arith, length-header)))
+  type-name-is = strings.type-is laid
 
   pub comment-is : part e (32 + length (p .name) + length (p .type-name)) (length (p .comment)) ≡ p .comment
-  comment-is = rw split-strings (comment-part header (p .name) (p .type-name) (p .comment) (tailOf p extra) (32 + length (p .name) + length (p .type-name)) (omega (arith, length-header)))
+  comment-is = strings.comment-is laid

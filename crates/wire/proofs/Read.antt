@@ -3,13 +3,12 @@ use Prim.Native.Nat.{ℕ, _+_, _<_, _≤_}
 use native.Mathlib.Omega.{arith}
 use mathlib.Core.Path.{_≡_, refl, ap, _∙_}
 use mathlib.Core.Bool.{Bool, true, false}
-use mathlib.Core.List.{List, [], _∷_, _++_, append-assoc}
+use mathlib.Core.List.{List, _++_}
 use lib.Dec.{ltb}
 use lib.ListN.{length, length-append}
 use borrow.Author.Tests.{ltb-false}
-use Rattle.le.specs.Le.{if_then_else_, bytes4, part}
+use Rattle.le.specs.Le.{if_then_else_, bytes4}
 use Rattle.le.proofs.Laws.{le4-bytes4}
-use Rattle.le.proofs.Inside.{part-whole}
 use Rattle.refusal.specs.Refusal.{limit}
 use Rattle.refusal.specs.Writing.{Bytes, counted, goodFrom}
 use Rattle.refusal.specs.declared.Refusal.the-variants.{TooLarge}
@@ -19,7 +18,7 @@ use Rattle.refusal.proofs.Laws.{passed, exact}
 use Rattle.attr.specs.Writing.{goodAttribute, attributesChecked}
 use Rattle.entry.specs.Demand3.{grown}
 use Rattle.entry.proofs.Whole.{Whole}
-use Rattle.wire.specs.Wire.{stringsOf, tooLong, thenCheck, blockChecked, entryOf, entryWriting}
+use Rattle.wire.specs.Wire.{tooLong, thenCheck, blockChecked, entryOf, entryWriting}
 
 -- an entry, and one that is grown
 pub grown-entry : (rest extra : List ℕ) → grown (entryOf rest) extra ≡ entryOf (rest ++ extra)
@@ -29,26 +28,6 @@ grown-entry rest extra = let n : length (bytes4 (length rest + 4) ++ rest) + len
 pub entry-whole : (rest : List ℕ) → length rest + 4 < 4294967296 → Whole (entryOf rest)
 unfolding entryOf
 entry-whole rest h = record { claims = le4-bytes4 (length rest + 4) rest h ∙ omega arith; long = omega arith }
-
--- each string is the part that the lengths place, after a header of any length
-string-part : (before string after : List ℕ) (at : ℕ) → length before ≡ at → part (before ++ (string ++ after)) at (length string) ≡ string
-string-part before string after at h = rw h at (part-whole before string after)
-
-module _ (header name type comment rest : List ℕ) where
-  abbrev whole : List ℕ
-  whole = header ++ (stringsOf name type comment ++ rest)
-
-  pub name-part : part whole (length header) (length name) ≡ name
-  unfolding stringsOf
-  name-part = simp append-assoc (part-whole header name (0 ∷ (type ++ (0 ∷ (comment ++ (0 ∷ rest))))))
-
-  pub type-part : (at : ℕ) → length header + length name + 1 ≡ at → part whole at (length type) ≡ type
-  unfolding stringsOf
-  type-part at h = simp append-assoc (simp append-assoc at (string-part (header ++ (name ++ (0 ∷ []))) type (0 ∷ (comment ++ (0 ∷ rest))) at (simp length-append (omega arith))))
-
-  pub comment-part : (at : ℕ) → length header + length name + 1 + length type + 1 ≡ at → part whole at (length comment) ≡ comment
-  unfolding stringsOf
-  comment-part at h = simp append-assoc (simp append-assoc at (string-part (header ++ (name ++ (0 ∷ (type ++ (0 ∷ []))))) comment (0 ∷ rest) at (simp length-append (omega arith))))
 
 -- what is written passed each check
 pub both-passed : (a b : Checked) → thenCheck a b ≡ Passed → (a ≡ Passed) × (b ≡ Passed)
