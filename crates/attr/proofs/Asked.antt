@@ -1,5 +1,5 @@
 -- A block of good attributes that stands anywhere in an entry: each of its attributes, asked for by its number, is told as the block tells it.
-use Prim.Native.Nat.{ℕ, zero, suc, _+_}
+use Prim.Native.Nat.{ℕ, _+_}
 use native.Mathlib.Nat.{add-zero, zero-add}
 use mathlib.Core.Path.{_≡_, refl, sym}
 use mathlib.Core.Bool.{Bool, true, false}
@@ -8,7 +8,7 @@ use lib.ListN.{length, length-append}
 use Rattle.le.specs.Le.{if_then_else_, bytes2}
 use Rattle.refusal.specs.Asked.{Given, asks}
 use Rattle.refusal.specs.Writing.{counted, goodFrom}
-use Rattle.refusal.proofs.Laws.{good-first}
+use Rattle.refusal.proofs.Laws.{good-all}
 use Rattle.attr.specs.declared.AdsAttribute.{AdsAttribute}
 use Rattle.attr.specs.declared.AttributeAnswer.the-variants.{Record}
 use Rattle.attr.specs.Attribute.{attributeAt, attributeNth}
@@ -24,13 +24,11 @@ module _ (p b q : List ℕ) where
   pub asks-read : (k g left m : ℕ) → goodFrom (goodAttribute b) k g left ≡ counted (g + left) m
       → asks (λ j. attributeTold (p ++ (b ++ q)) (attributeNth (p ++ (b ++ q)) (length p + k) j)) left ≡ map Given (attributesIn b k left)
   unfolding asks attributeNth attributesIn
-  asks-read k g zero m e = refl
-  asks-read k g (suc left) m e =
-      let f = good-first (goodAttribute b) k g left m e in
-      let r = good-record b k left (f .0) (f .1 .0) in
-      let a = r .0 in
-      let ih = asks-read (a .next) (g + 1) left m (rw (r .1 .1) (f .1 .1)) in
-      simp (attribute-inside p b q k a (r .1 .0), r .1 .0, same-told k a (r .1 .0), ih)
+  asks-read =
+      good-all (goodAttribute b) _ (λ m. refl)
+      (λ at left m n h rest.
+      let r = good-record b at left n h in
+      simp (attribute-inside p b q at (r .0) (r .1 .0), r .1 .0, r .1 .1, same-told at (r .0) (r .1 .0), rest))
 
 -- the attributes of an entry that were written where they are flagged, and nothing where they are not
 pub section-asked : (p : List ℕ) (count : ℕ) (block rest : List ℕ) (flagged : Bool) → (flagged ≡ true → goodFrom (goodAttribute block) 0 0 count ≡ counted count (length block)) → (if flagged then count else 0) ≡ count

@@ -11,9 +11,10 @@ use borrow.Author.Tests.{le-ltb, le-leb, ltb-false, leb-true}
 use Rattle.le.specs.Le.{if_then_else_, le2, bytes2, part}
 use Rattle.le.proofs.Inside.{getD-inside, le2-inside, part-inside}
 use Rattle.le.proofs.Laws.{le2-bytes2}
+use Rattle.le.proofs.Tests.{otherwise}
 use Rattle.refusal.specs.declared.Refusal.{Refusal}
 use Rattle.refusal.specs.Writing.{Next, None, counted, goodFrom}
-use Rattle.refusal.proofs.Laws.{good-first}
+use Rattle.refusal.proofs.Laws.{good-first, good-all, good-if}
 use Rattle.attr.specs.declared.AdsAttribute.{AdsAttribute}
 use Rattle.attr.specs.declared.AttributeAnswer.{AttributeAnswer}
 use Rattle.attr.specs.declared.AttributeAnswer.the-variants.{Record, Refused}
@@ -30,9 +31,9 @@ attribute name n value v next = record { name = name; «name_len» = n; value = 
 abbrev pub shift : ℕ → AdsAttribute → AdsAttribute
 shift d a = attribute (d + a .name) (a .«name_len») (d + a .value) (a .«value_len») (d + a .next)
 
-passed : (b : Bool) (why : Refusal) (y : AttributeAnswer) (a : AdsAttribute) → (if b then Refused why else y) ≡ Record a → (b ≡ false) × (y ≡ Record a)
-passed true why y a h = absurd (let z : _≡_ {A = ℕ} 0 1 = cc in omega arith)
-passed false why y a h = (refl, h)
+-- a refusal is no record
+never : {why : Refusal} {a : AdsAttribute} → Refused why ≡ Record a → ⊥
+never h = let z : _≡_ {A = ℕ} 0 1 = cc in omega arith
 
 -- what holds of a record that is read
 pub record Inside (s : List ℕ) (at : ℕ) (a : AdsAttribute) : Type 0 where
@@ -42,8 +43,8 @@ pub record Inside (s : List ℕ) (at : ℕ) (a : AdsAttribute) : Type 0 where
 pub inside : (s : List ℕ) (at : ℕ) (a : AdsAttribute) → attributeAt s at ≡ Record a → Inside s at a
 unfolding attributeAt
 inside s at a h =
-    let x = passed _ _ _ a h in
-    let y = passed _ _ _ a (x .1) in
+    let x = otherwise _ h never in
+    let y = otherwise _ (x .1) never in
     let there : 4 ≤ length s - at = ltb-false _ _ (x .0) in
     let whole : getD s at 0 + getD s (at + 1) 0 + 4 ≤ length s - at = ltb-false _ _ (y .0) in
     record { is = cc (y .1); fits = omega arith }
@@ -82,11 +83,7 @@ module _ (p b q : List ℕ) where
 
 -- a good record is one that is read
 by-record : (s : List ℕ) (t : AttributeAnswer) (n : ℕ) → byAttribute t (λ a. if endsZero s a then Next (a .next) else None) (λ why. None) ≡ Next n → (a : AdsAttribute) × ((t ≡ Record a) × (a .next ≡ n))
-by-record s (Record a) n h = (a, (refl, kept (endsZero s a) h))
-  where
-    kept : (z : Bool) → (if z then Next (a .next) else None) ≡ Next n → a .next ≡ n
-    kept true e = cc
-    kept false e = absurd (let z : _≡_ {A = ℕ} 0 1 = cc in omega arith)
+by-record s (Record a) n h = (a, (refl, good-if (endsZero s a) h .1))
 by-record s (Refused why) n h = absurd (let z : _≡_ {A = ℕ} 0 1 = cc in omega arith)
 
 pub good-record : (s : List ℕ) (k left n : ℕ) → goodAttribute s k left ≡ Next n → (a : AdsAttribute) × ((attributeAt s k ≡ Record a) × (a .next ≡ n))
@@ -159,8 +156,4 @@ module _ (s : List ℕ) (bytes : (k : ℕ) → getD s k 0 < 256) where
       omega (arith, bytes k, bytes (k + 1), r .1 .1)
 
   pub good-bound : (k g left m : ℕ) → goodFrom (goodAttribute s) k g left ≡ counted (g + left) m → m ≤ k + 514 * left
-  unfolding goodFrom
-  good-bound k g zero m e = omega (arith, ap (λ c. c .next) e)
-  good-bound k g (suc left) m e =
-      let f = good-first (goodAttribute s) k g left m e in
-      omega (arith, good-short k left (f .0) (f .1 .0), good-bound (f .0) (g + 1) left m (f .1 .1))
+  good-bound = good-all (goodAttribute s) _ (λ m. omega arith) (λ at left m n h rest. omega (arith, good-short at left n h, rest))

@@ -2,7 +2,7 @@
 use Prim.Native.Nat.{ℕ, zero, suc, _+_, _-_, _<_, _≤_}
 use native.Mathlib.Omega.{arith}
 use native.Mathlib.Nat.{zero-add}
-use mathlib.Core.Path.{_≡_, refl, ap}
+use mathlib.Core.Path.{_≡_, refl, sym, ap, subst, _∙_}
 use mathlib.Core.Bool.{Bool, true, false}
 use mathlib.Core.List.{List}
 use lib.Dec.{leb, ltb}
@@ -10,9 +10,9 @@ use lib.ListN.{length, getD}
 use borrow.Author.Tests.{leb-true}
 use Rattle.le.specs.Le.{if_then_else_, le2, part}
 use Rattle.le.specs.Same.{sameBytes}
+use Rattle.le.proofs.Tests.{by-test, each-below}
 use Rattle.refusal.specs.Refusal.{limit}
 use Rattle.refusal.specs.declared.Refusal.{Refusal}
-use Rattle.refusal.specs.declared.Refusal.the-variants.{TooLarge}
 use Rattle.attr.specs.declared.AdsAttribute.{AdsAttribute}
 use Rattle.attr.specs.declared.AttributeAnswer.{AttributeAnswer}
 use Rattle.attr.specs.declared.AttributeAnswer.the-variants.{Record, Refused}
@@ -23,6 +23,9 @@ use Rattle.attr.specs.Attribute.{attributeAt, attributeRead, nameAt, val
 use Rattle.attr.specs.Inside.{Inside}
 use Rattle.attr.proofs.Read as read
 
+ends : (s : List ℕ) (at : ℕ) (a : AdsAttribute) → attributeAt s at ≡ Record a → a .next ≤ length s
+ends s at a h = let i = read.inside s at a h in omega (arith, ap (λ (x : AdsAttribute). x .next) (i .is), i .fits)
+
 lies : (s : List ℕ) (at : ℕ) (a : AdsAttribute) → attributeAt s at ≡ Record a → Inside s (attributeAt s at)
 lies s at a h =
     let i = read.inside s at a h in
@@ -31,38 +34,25 @@ lies s at a h =
     let v : a .value ≡ at + getD s at 0 + 3 = ap (λ x. x .value) (i .is) in
     let vl : a .«value_len» ≡ getD s (at + 1) 0 = ap (λ x. x .«value_len») (i .is) in
     let m : a .next ≡ at + (getD s at 0 + getD s (at + 1) 0 + 4) = ap (λ x. x .next) (i .is) in
-    record { info = a; is = h; name = omega arith; value = omega arith; whole = omega (arith, i .fits) }
+    record { info = a; is = h; name = omega arith; value = omega arith; whole = ends s at a h }
 
 -- of a list that is read from a place on, after so many shown
 record Shown (s : List ℕ) (at shown : ℕ) (l : Listed) : Type 0 where
   next : l .next ≤ length s
   each : (k : ℕ) → shown + k < l .shown → Inside s (attributeNth s at k)
 
-module _ (s : List ℕ) (at shown left : ℕ) (a : AdsAttribute) (e : attributeAt s at ≡ Record a) where
-  -- the first is the record at the place, the others are those after it
-  each-after : (m : ℕ) → ((k : ℕ) → shown + 1 + k < m → Inside s (attributeNth s (a .next) k)) → (k : ℕ) → shown + k < m → Inside s (attributeNth s at k)
-  unfolding attributeNth
-  each-after m rest zero h = lies s at a e
-  each-after m rest (suc k) h = simp e (rest k (omega arith))
-
-  after : (a .next ≤ length s → Shown s (a .next) (shown + 1) (attributesFrom s (a .next) (shown + 1) left))
-      → (ends : Bool) → Shown s at shown (if ends then listed (shown + 1) (a .next) Fine else attributesFrom s (a .next) (shown + 1) left)
-  after rest true =
-      let i = read.inside s at a e in
-      let m : a .next ≡ at + (getD s at 0 + getD s (at + 1) 0 + 4) = ap (λ x. x .next) (i .is) in
-      record { next = omega (arith, i .fits); each = each-after (shown + 1) (λ k h. absurd (omega arith)) }
-  after rest false =
-      let i = read.inside s at a e in
-      let m : a .next ≡ at + (getD s at 0 + getD s (at + 1) 0 + 4) = ap (λ x. x .next) (i .is) in
-      let r = rest (omega (arith, i .fits)) in
-      record { next = r .next; each = each-after (attributesFrom s (a .next) (shown + 1) left .shown) (r .each) }
-
 turn : (s : List ℕ) (at shown left : ℕ) → at ≤ length s → ((n : ℕ) → n ≤ length s → Shown s n (shown + 1) (attributesFrom s n (shown + 1) left))
     → (t : AttributeAnswer) → attributeAt s at ≡ t
     → Shown s at shown (byAttribute t
     (λ a. if leb (length s) (a .next) then listed (shown + 1) (a .next) Fine else attributesFrom s (a .next) (shown + 1) left)
     (λ why. listed shown at (Stopped why)))
-turn s at shown left h rest (Record a) e = after s at shown left a e (rest (a .next)) (leb (length s) (a .next))
+unfolding attributeNth
+turn s at shown left h rest (Record a) e =
+    let n = ends s at a e in
+    let r = rest (a .next) n in
+    by-test (Shown s at shown) (leb (length s) (a .next))
+    (record { next = n; each = each-below _ _ _ (lies s at a e) (λ k j. absurd (omega arith)) })
+    (record { next = r .next; each = each-below _ _ _ (lies s at a e) (λ k j. simp e (r .each k j)) })
 turn s at shown left h rest (Refused why) e = record { next = h; each = λ k j. absurd (omega arith) }
 
 list-shown : (s : List ℕ) (at shown left : ℕ) → at ≤ length s → Shown s at shown (attributesFrom s at shown left)
@@ -103,50 +93,30 @@ abbrev pub Begun : List ℕ → AttributeAnswer → Type 0
 Begun s t = (nameAt t ≤ length s) × (valueAt t ≤ length s)
 
 begun : (s : List ℕ) (at : ℕ) (t : AttributeAnswer) → attributeAt s at ≡ t → Begun s t
-unfolding lies
-begun s at (Record a) e =
-    let i = lies s at a e in
-    let n : a .name + a .«name_len» < a .value = i .name in
-    let v : a .value + a .«value_len» < a .next = i .value in
-    let w : a .next ≤ length s = i .whole in
-    let m : a .name ≤ length s = omega arith in
-    let k : a .value ≤ length s = omega arith in
-    (m, k)
+begun s at (Record a) e = let i = lies s at a e in subst (Begun s) (sym (i .is) ∙ e) (omega (arith, i .name, i .value, i .whole), omega (arith, i .value, i .whole))
 begun s at (Refused why) e = (omega arith, omega arith)
-
-read-within : (s : List ℕ) (large : Bool) → Begun s (if large then Refused (TooLarge (length s)) else attributeAt s 0)
-read-within s true = (omega arith, omega arith)
-read-within s false = begun s 0 (attributeAt s 0) refl
 
 pub read-begun : (s : List ℕ) → Begun s (attributeRead s)
 unfolding attributeRead
-read-begun s = read-within s (ltb limit (length s))
+read-begun s = by-test (Begun s) (ltb limit (length s)) (omega arith, omega arith) (begun s 0 (attributeAt s 0) refl)
 
-next-begun : (s : List ℕ) (k : ℕ) → ((n : ℕ) → Begun s (attributeNth s n k)) → (t : AttributeAnswer) → Begun s (byAttribute t (λ a. attributeNth s (a .next) k) Refused)
-next-begun s k rest (Record a) = rest (a .next)
-next-begun s k rest (Refused why) = (omega arith, omega arith)
+-- of an answer that goes on from the record at a place
+goes-on : (s : List ℕ) (t : AttributeAnswer) (on : AdsAttribute → AttributeAnswer) → ((a : AdsAttribute) → t ≡ Record a → Begun s (on a)) → Begun s (byAttribute t on Refused)
+goes-on s (Record a) on h = h a refl
+goes-on s (Refused why) on h = (omega arith, omega arith)
 
 nth-begun : (s : List ℕ) (k at : ℕ) → Begun s (attributeNth s at k)
 unfolding attributeNth
 nth-begun s zero at = begun s at (attributeAt s at) refl
-nth-begun s (suc k) at = next-begun s k (nth-begun s k) (attributeAt s at)
+nth-begun s (suc k) at = goes-on s (attributeAt s at) _ (λ a e. nth-begun s k (a .next))
 
 -- of an attribute that is asked for by its number
 pub asked-begun : (s : List ℕ) (at k : ℕ) (why : Refusal) (shown : Bool) → Begun s (if shown then attributeNth s at k else Refused why)
-asked-begun s at k why true = nth-begun s k at
-asked-begun s at k why false = (omega arith, omega arith)
+asked-begun s at k why shown = by-test (Begun s) shown (nth-begun s k at) (omega arith, omega arith)
 
 -- of one that is asked for by its name
-named-turn : (s : List ℕ) (at : ℕ) (t : AttributeAnswer) → attributeAt s at ≡ t → (name : List ℕ) (left : ℕ) → ((n : ℕ) → Begun s (attributeNamed s name n left))
-    → Begun s (byAttribute t (λ a. if sameBytes (part s (a .name) (a .«name_len»)) name then Record a else attributeNamed s name (a .next) left) Refused)
-named-turn s at (Record a) e name left rest = either (sameBytes (part s (a .name) (a .«name_len»)) name)
-  where
-    either : (same : Bool) → Begun s (if same then Record a else attributeNamed s name (a .next) left)
-    either true = begun s at (Record a) e
-    either false = rest (a .next)
-named-turn s at (Refused why) e name left rest = (omega arith, omega arith)
-
 pub named-begun : (s name : List ℕ) (left at : ℕ) → Begun s (attributeNamed s name at left)
 unfolding attributeNamed
 named-begun s name zero at = (omega arith, omega arith)
-named-begun s name (suc left) at = named-turn s at (attributeAt s at) refl name left (named-begun s name left)
+named-begun s name (suc left) at =
+    goes-on s (attributeAt s at) _ (λ a e. by-test (Begun s) (sameBytes (part s (a .name) (a .«name_len»)) name) (begun s at (Record a) e) (named-begun s name left (a .next)))

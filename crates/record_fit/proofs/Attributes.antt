@@ -15,7 +15,7 @@ use Rattle.refusal.specs.Refusal.{limit}
 use Rattle.refusal.specs.declared.Refusal.the-variants.{TooShort}
 use Rattle.refusal.specs.Asked.{Given}
 use Rattle.refusal.specs.Writing.{Next}
-use Rattle.refusal.proofs.Laws.{passed}
+use Rattle.refusal.proofs.Laws.{good-if, passed}
 use Rattle.attr.specs.declared.AdsAttribute.{AdsAttribute}
 use Rattle.attr.specs.declared.AttributeAnswer.the-variants.{Record, Refused}
 use Rattle.attr.specs.Attribute.{attributeAt, attributeRead}
@@ -25,7 +25,7 @@ use Rattle.attr.proofs.Laws.{length-attribute, good-by, writes}
 use Rattle.attr.proofs.Read.{shift, inside, attribute-inside, name-inside, value-inside, good-record}
 use Rattle.record_fit.specs.Attributes.{AttributesReadBack, AttributeBlocks, AttributesFixed, AttributeBlocksMade}
 use Rattle.record_fit.proofs.Blocks as blocks
-use Rattle.record_fit.proofs.Blocks.{kept, drop-byte, drop-zero}
+use Rattle.record_fit.proofs.Blocks.{drop-byte, drop-zero}
 
 module _ (name value : List ℕ) where
   abbrev bytes : List ℕ
@@ -166,7 +166,7 @@ unfolding attributesIn endsZero
 found s at left n h =
     let r = good-record s at left n h in
     let i = inside s at (r .0) (r .1 .0) in
-    let e = kept (endsZero s (r .0)) (r .0 .next) n (sym (good-by s at left (r .1 .0)) ∙ h) in
+    let e = good-if (endsZero s (r .0)) (sym (good-by s at left (r .1 .0)) ∙ h) .0 in
     let z = both _ _ (rw (i .is) at e) in
     let m : at + (getD s at 0 + getD s (at + 1) 0 + 4) ≡ n = sym (ap (λ x. x .next) (i .is)) ∙ r .1 .1 in
     let whole = rw (← joined s at (i .fits) (drop (at + (getD s at 0 + getD s (at + 1) 0 + 4)) s), m) at (laid s at (i .fits) (z .0) (z .1)) in

@@ -4,15 +4,15 @@ use native.Mathlib.Omega.{arith}
 use native.Mathlib.Nat.{add-zero, zero-add, suc-add, add-comm}
 use native.Mathlib.Numerals.{add-one}
 use mathlib.Core.Path.{_≡_, refl, sym, ap, ap₂, _∙_}
-use mathlib.Core.Bool.{Bool, true, false}
+use mathlib.Core.Bool.{true}
 use mathlib.Core.List.{List, [], _∷_, _++_, append-assoc, append-nil}
 use lib.ListN.{length, getD, drop, length-append}
 use lib.Seq.{drop-cons, drop-length}
 use borrow.Author.Tests.{eq-eqb, eqb-true}
-use Rattle.le.specs.Le.{if_then_else_, zeroAt}
-use Rattle.refusal.specs.Writing.{Good, Next, None, counted, goodFrom, exactly}
+use Rattle.le.specs.Le.{zeroAt}
+use Rattle.refusal.specs.Writing.{Good, Next, counted, goodFrom, exactly}
 use Rattle.refusal.specs.declared.Checked.the-variants.{Passed}
-use Rattle.refusal.proofs.Laws.{good-first, exact}
+use Rattle.refusal.proofs.Laws.{good-all, exact}
 
 -- what stands from a place on: a byte and the rest
 pub drop-byte : (s : List ℕ) (at d : ℕ) → at < length s → drop at s ≡ getD s at d ∷ drop (at + 1) s
@@ -24,11 +24,6 @@ drop-zero s at n h z e = drop-byte s at 1 h ∙ ap₂ (λ (x k : ℕ). x ∷ dro
 pub passes : (count size : ℕ) → exactly count (counted count size) size ≡ Passed
 unfolding exactly
 passes count size = simp (eq-eqb count count refl, eq-eqb size size refl)
-
--- a good record is one that was not refused
-pub kept : (b : Bool) (m n : ℕ) → (if b then Next m else None) ≡ Next n → b ≡ true
-kept true m n h = refl
-kept false m n h = absurd (let z : _≡_ {A = ℕ} 0 1 = cc in omega arith)
 
 abbrev pub blockOf : {A : Type 0} → (A → List ℕ) → List A → List ℕ
 blockOf bytes [] = []
@@ -87,25 +82,22 @@ module _ {A : Type 0} (bytes : A → List ℕ) (goodAt : List ℕ → ℕ → �
 
   module _ (ended : (s : List ℕ) (at : ℕ) → told s at zero ≡ []) where
     module _ (s : List ℕ) (found : (at left n : ℕ) → goodAt s at left ≡ Next n → Found s at left n) where
-      only-from : (at g left m : ℕ) → goodFrom (goodAt s) at g left ≡ counted (g + left) m → Told s at left m
-      unfolding goodFrom
-      only-from at g zero m e =
-          let n : at ≡ m = ap (λ c. c .next) e in
-          record { fit = rw (ended s at) none; is = rw (ended s at) (ap (λ (k : ℕ). drop k s) n); long = ap length (ended s at) }
-      only-from at g (suc left) m e =
-          let f = good-first (goodAt s) at g left m e in
-          let w = found at left (f .0) (f .1 .0) in
-          let ih = only-from (f .0) (g + 1) left m (f .1 .1) in
+      only-end : (m : ℕ) → Told s m zero m
+      only-end m = record { fit = rw (ended s m) none; is = rw (ended s m) refl; long = ap length (ended s m) }
+
+      only-turn : (at left m n : ℕ) → goodAt s at left ≡ Next n → Told s n left m → Told s at (suc left) m
+      only-turn at left m n h t =
+          let w = found at left n h in
           let a = w .record-is in
-          let rest : List A = told s (f .0) left in
-          let here : Fits (length rest) a = rw (ih .long) (w .fits) in
+          let rest : List A = told s n left in
+          let here : Fits (length rest) a = rw (t .long) (w .fits) in
           record {
-            fit = rw (w .tells) (more here (ih .fit));
-            is = rw (w .tells) (w .is ∙ ap (λ (l : List ℕ). bytes a ++ l) (ih .is) ∙ sym (append-assoc (bytes a) (blockOf bytes rest) (drop m s)));
-            long = ap length (w .tells) ∙ ap suc (ih .long);
+            fit = rw (w .tells) (more here (t .fit));
+            is = rw (w .tells) (w .is ∙ ap (λ (l : List ℕ). bytes a ++ l) (t .is) ∙ sym (append-assoc (bytes a) (blockOf bytes rest) (drop m s)));
+            long = ap length (w .tells) ∙ ap suc (t .long);
           }
 
       pub only-block : (count : ℕ) → exactly count (goodFrom (goodAt s) 0 0 count) (length s) ≡ Passed → Fit Fits (told s 0 count) × ((s ≡ blockOf bytes (told s 0 count)) × (length (told s 0 count) ≡ count))
       only-block count h =
-          let t = only-from 0 0 count (length s) (rw zero-add (exact count (length s) (goodFrom (goodAt s) 0 0 count) h)) in
+          let t = good-all (goodAt s) (Told s) only-end only-turn 0 0 count (length s) (rw zero-add (exact count (length s) (goodFrom (goodAt s) 0 0 count) h)) in
           (t .fit, (t .is ∙ ap (λ (l : List ℕ). blockOf bytes (told s 0 count) ++ l) (drop-length s) ∙ append-nil (blockOf bytes (told s 0 count)), t .long))

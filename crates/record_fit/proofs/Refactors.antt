@@ -19,7 +19,7 @@ use Rattle.refusal.specs.Writing.{Next, None, goodFrom, exactly}
 use Rattle.refusal.specs.declared.Refusal.the-variants.{BadBlock}
 use Rattle.refusal.specs.declared.Counted.{Counted}
 use Rattle.refusal.specs.declared.Checked.the-variants as checked
-use Rattle.refusal.proofs.Laws.{passed}
+use Rattle.refusal.proofs.Laws.{good-if, passed}
 use Rattle.refactor.specs.declared.AdsRefactorInfo.{AdsRefactorInfo}
 use Rattle.refactor.specs.declared.RefactorAnswer.the-variants.{Record}
 use Rattle.refactor.specs.Refactor.{mask, follower, refactorOf, refactorAt, refactorRead}
@@ -31,7 +31,7 @@ use Rattle.refactor.proofs.Mask.{within-mask, told-follower, packed-same}
 use Rattle.record_fit.specs.Kind.{Each, none, more}
 use Rattle.record_fit.specs.Refactors.{Fits, written, chainWritten, lastCount, formers, Byte, RefactorsReadBack, RefactorBlocks, RefactorsFixed, RefactorBlocksMade}
 use Rattle.record_fit.proofs.Blocks as blocks
-use Rattle.record_fit.proofs.Blocks.{kept, Fit, blockOf, drop-byte, drop-zero}
+use Rattle.record_fit.proofs.Blocks.{Fit, blockOf, drop-byte, drop-zero}
 
 module _ (packed : ℕ) (name : List ℕ) (within : bitAnd packed mask ≡ packed) (short : length name ≤ 65535) where
   abbrev bytes : List ℕ
@@ -209,7 +209,7 @@ unfolding renamingsIn
 found s bs at left n h =
     let r = good-record s at left n h in
     let i = inside s at (r .info) (r .reads) in
-    let e = kept (goodRecord s (le4 s at) (r .info) (ltb 0 left)) (r .info .next) n (sym (good-by s at left (r .reads)) ∙ h) in
+    let e = good-if (goodRecord s (le4 s at) (r .info) (ltb 0 left)) (sym (good-by s at left (r .reads)) ∙ h) .0 in
     let t = three s (le4 s at) (r .info) (ltb 0 left) (eqb (le4 s at) (r .info .«refactor_count»)) (Bool·beq (r .info .«next_refactor_info») (ltb 0 left)) refl refl e in
     let c : r .info .«refactor_count» ≡ bitAnd (le4 s at) mask = ap (λ x. x .«refactor_count») (i .is) in
     let f : r .info .«next_refactor_info» ≡ has (le4 s at) follower = ap (λ x. x .«next_refactor_info») (i .is) in

@@ -1,11 +1,11 @@
 -- A block of good refactor records that stands anywhere in an entry: each of them, asked for by its number, is told as the block tells it.
-use Prim.Native.Nat.{ℕ, zero, suc, _+_}
+use Prim.Native.Nat.{ℕ, _+_}
 use mathlib.Core.Path.{_≡_, refl}
 use mathlib.Core.List.{List, _++_, map}
 use lib.ListN.{length}
 use Rattle.refusal.specs.Asked.{Given, asks}
 use Rattle.refusal.specs.Writing.{counted, goodFrom}
-use Rattle.refusal.proofs.Laws.{good-first}
+use Rattle.refusal.proofs.Laws.{good-all}
 use Rattle.refactor.specs.declared.AdsRefactorInfo.{AdsRefactorInfo}
 use Rattle.refactor.specs.declared.RefactorAnswer.the-variants.{Record}
 use Rattle.refactor.specs.Refactor.{refactorAt, refactorNth}
@@ -21,9 +21,8 @@ module _ (p b q : List ℕ) where
   pub asks-read : (k g left m : ℕ) → goodFrom (goodRefactor b) k g left ≡ counted (g + left) m
       → asks (λ j. renamingTold (p ++ (b ++ q)) (refactorNth (p ++ (b ++ q)) (length p + k) j)) left ≡ map Given (renamingsIn b k left)
   unfolding asks refactorNth renamingsIn
-  asks-read k g zero m e = refl
-  asks-read k g (suc left) m e =
-      let f = good-first (goodRefactor b) k g left m e in
-      let r = good-record b k left (f .0) (f .1 .0) in
-      let ih = asks-read (r .info .next) (g + 1) left m (rw (r .moves) (f .1 .1)) in
-      simp (refactor-inside p b q k (r .info) (r .reads), r .reads, same-told k (r .info) (r .reads), ih)
+  asks-read =
+      good-all (goodRefactor b) _ (λ m. refl)
+      (λ at left m n h rest.
+      let r = good-record b at left n h in
+      simp (refactor-inside p b q at (r .info) (r .reads), r .reads, r .moves, same-told at (r .info) (r .reads), rest))

@@ -1,14 +1,14 @@
--- One turn of each recursion over records, and its end; how far a record moves; the bytes of a record.
+-- One turn of each recursion over records, and its end; what holds of a record that is read; the bytes of a record.
 use Prim.Native.Nat.{ℕ, zero, suc, _+_, _-_, _<_, _≤_}
 use native.Mathlib.Omega.{arith}
 use native.Mathlib.Nat.{zero-add, suc-add}
-use native.Mathlib.Numerals.{sub-one}
 use mathlib.Core.Path.{_≡_, refl, sym, ap, _∙_}
-use mathlib.Core.Bool.{Bool, true, false}
+use mathlib.Core.Bool.{Bool}
 use mathlib.Core.List.{List, _++_}
 use lib.Dec.{ltb}
 use lib.ListN.{length, length-append}
 use borrow.Author.Tests.{le-ltb, ltb-false}
+use Rattle.le.proofs.Tests.{otherwise, is-suc, is-zero}
 use Rattle.le.specs.Le.{if_then_else_, le2, le4, bytes2}
 use Rattle.refusal.specs.Writing.{Bytes, Next, None}
 use Rattle.refusal.specs.Refusal.{limit}
@@ -20,23 +20,32 @@ use Rattle.refactor.specs.declared.RefactorAnswer.{RefactorAnswer}
 use Rattle.refactor.specs.declared.RefactorAnswer.the-variants.{Record, Refused}
 use Rattle.refactor.specs.declared.ChainAnswer.{ChainAnswer}
 use Rattle.refactor.specs.declared.ChainAnswer.the-variants as chain
-use Rattle.refactor.specs.Refactor.{refactorAt, byRefactor, chainFrom, refactorNth}
+use Rattle.refactor.specs.Refactor.{refactorAt, refactorOf, byRefactor, chainFrom, refactorNth}
 use Rattle.refactor.specs.Writing.{packedOf, refactorBytes, refactorWriting, goodRecord, goodRefactor, refactorsChecked, blockWriting}
 
--- a test whose one answer is a refusal was not passed by where a record is the answer
-pub passed : (b : Bool) (why : Refusal) (y : RefactorAnswer) (r : AdsRefactorInfo) → (if b then Refused why else y) ≡ Record r → (b ≡ false) × (y ≡ Record r)
-passed true why y r h = absurd (let z : _≡_ {A = ℕ} 0 1 = cc in omega arith)
-passed false why y r h = (refl, h)
+-- a refusal is no record
+never : {why : Refusal} {r : AdsRefactorInfo} → Refused why ≡ Record r → ⊥
+never h = let z : _≡_ {A = ℕ} 0 1 = cc in omega arith
+
+-- what holds of a record that is read
+pub record Inside (s : List ℕ) (at : ℕ) (r : AdsRefactorInfo) : Type 0 where
+  pub is : r ≡ refactorOf at (le4 s at) (le2 s (at + 4))
+  pub fits : at + (le2 s (at + 4) + 7) ≤ length s
+
+pub inside : (s : List ℕ) (at : ℕ) (r : AdsRefactorInfo) → refactorAt s at ≡ Record r → Inside s at r
+unfolding refactorAt
+inside s at r h =
+    let x = otherwise _ h never in
+    let y = otherwise _ (x .1) never in
+    let there : 7 ≤ length s - at = ltb-false _ _ (x .0) in
+    let whole : le2 s (at + 4) + 7 ≤ length s - at = ltb-false _ _ (y .0) in
+    record { is = cc (y .1); fits = omega arith }
 
 pub record-inside : (s : List ℕ) (at : ℕ) (r : AdsRefactorInfo) → refactorAt s at ≡ Record r → (at + 7 ≤ r .next) × (r .next ≤ length s)
-unfolding refactorAt
 record-inside s at r h =
-    let a = passed _ _ _ r h in
-    let b = passed _ _ _ r (a .1) in
-    let there : 7 ≤ length s - at = ltb-false _ _ (a .0) in
-    let whole : le2 s (at + 4) + 7 ≤ length s - at = ltb-false _ _ (b .0) in
-    let next : r .next ≡ at + (le2 s (at + 4) + 7) = ap (λ (x : RefactorAnswer). byRefactor x (λ y. y .next) (λ w. 0)) (sym (b .1)) in
-    (omega arith, omega arith)
+    let i = inside s at r h in
+    let n : r .next ≡ at + (le2 s (at + 4) + 7) = ap (λ x. x .next) (i .is) in
+    (omega arith, omega (arith, i .fits))
 
 -- nothing left: refused as no bytes are
 pub none-left : (s : List ℕ) (at : ℕ) → length s - at ≤ 0 → refactorAt s at ≡ Refused (TooShort 7 0)
@@ -83,13 +92,11 @@ module _ (s : List ℕ) (at : ℕ) where
   pub nth-step : (left : ℕ) {t : RefactorAnswer} → refactorAt s at ≡ t → 0 < left
       → refactorNth s at left ≡ byRefactor t (λ r. refactorNth s (r .next) (left - 1)) Refused
   unfolding refactorNth
-  nth-step zero e h = absurd (omega arith)
-  nth-step (suc n) e h = simp (e, sub-one)
+  nth-step left e h = ap (refactorNth s at) (is-suc left h) ∙ simp e
 
   pub nth-none : (left : ℕ) → left ≤ 0 → refactorNth s at left ≡ refactorAt s at
   unfolding refactorNth
-  nth-none zero h = refl
-  nth-none (suc n) h = absurd (omega arith)
+  nth-none left h = ap (refactorNth s at) (is-zero left h)
 
 pub good-by : (s : List ℕ) (at left : ℕ) {t : RefactorAnswer} → refactorAt s at ≡ t
     → goodRefactor s at left ≡ byRefactor t (λ r. if goodRecord s (le4 s at) r (ltb 0 left) then Next (r .next) else None) (λ why. None)

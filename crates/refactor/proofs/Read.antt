@@ -11,34 +11,21 @@ use borrow.Author.Tests.{le-ltb, lt-ltb, ltb-false}
 use Rattle.le.specs.Le.{if_then_else_, le2, le4, part}
 use Rattle.le.proofs.Inside.{le2-inside, le4-inside, part-inside}
 use Rattle.refusal.specs.Writing.{Good, Next, None, counted, goodFrom}
-use Rattle.refusal.proofs.Laws.{good-first}
+use Rattle.refusal.proofs.Laws.{good-first, good-if}
 use Rattle.refactor.specs.declared.AdsRefactorInfo.{AdsRefactorInfo}
 use Rattle.refactor.specs.declared.RefactorAnswer.{RefactorAnswer}
 use Rattle.refactor.specs.declared.RefactorAnswer.the-variants.{Record, Refused}
 use Rattle.refactor.specs.declared.Chain.{Chain}
 use Rattle.refactor.specs.declared.ChainAnswer.{ChainAnswer}
 use Rattle.refactor.specs.declared.ChainAnswer.the-variants as chain
-use Rattle.refactor.specs.Refactor.{refactorAt, refactorOf, byRefactor, chainFrom, chainAt, chainSection}
+use Rattle.refactor.specs.Refactor.{refactorAt, byRefactor, chainFrom, chainAt, chainSection}
 use Rattle.refactor.specs.Writing.{goodRecord, goodRefactor}
-use Rattle.refactor.proofs.Laws.{passed, chain-step}
+use Rattle.refactor.proofs.Laws.{chain-step}
+pub use Rattle.refactor.proofs.Laws.{Inside, inside}
 
 -- the same record, so many bytes further on
 abbrev pub shift : ℕ → AdsRefactorInfo → AdsRefactorInfo
 shift d r = record { «refactor_count» = r .«refactor_count»; «next_refactor_info» = r .«next_refactor_info»; name = d + r .name; «name_len» = r .«name_len»; next = d + r .next }
-
--- what holds of a record that is read
-pub record Inside (s : List ℕ) (at : ℕ) (r : AdsRefactorInfo) : Type 0 where
-  pub is : r ≡ refactorOf at (le4 s at) (le2 s (at + 4))
-  pub fits : at + (le2 s (at + 4) + 7) ≤ length s
-
-pub inside : (s : List ℕ) (at : ℕ) (r : AdsRefactorInfo) → refactorAt s at ≡ Record r → Inside s at r
-unfolding refactorAt
-inside s at r h =
-    let x = passed _ _ _ r h in
-    let y = passed _ _ _ r (x .1) in
-    let there : 7 ≤ length s - at = ltb-false _ _ (x .0) in
-    let whole : le2 s (at + 4) + 7 ≤ length s - at = ltb-false _ _ (y .0) in
-    record { is = cc (y .1); fits = omega arith }
 
 module _ (p b q : List ℕ) where
   abbrev big : List ℕ
@@ -86,11 +73,9 @@ pub record Read (s : List ℕ) (k left n : ℕ) : Type 0 where
   pub follows : info .«next_refactor_info» ≡ ltb 0 left
 
 by-record : (s : List ℕ) (k left n : ℕ) (t : RefactorAnswer) → refactorAt s k ≡ t → byRefactor t (λ r. if goodRecord s (le4 s k) r (ltb 0 left) then Next (r .next) else None) (λ why. None) ≡ Next n → Read s k left n
-by-record s k left n (Record r) e h = kept (goodRecord s (le4 s k) r (ltb 0 left)) refl h
-  where
-    kept : (z : Bool) → goodRecord s (le4 s k) r (ltb 0 left) ≡ z → (if z then Next (r .next) else None) ≡ Next n → Read s k left n
-    kept true g x = record { info = r; reads = e; moves = cc; follows = good-is s (le4 s k) r (ltb 0 left) (eqb (le4 s k) (r .«refactor_count»)) (Bool·beq (r .«next_refactor_info») (ltb 0 left)) refl refl g }
-    kept false g x = absurd (let z : _≡_ {A = ℕ} 0 1 = cc in omega arith)
+by-record s k left n (Record r) e h =
+    let g = good-if (goodRecord s (le4 s k) r (ltb 0 left)) h in
+    record { info = r; reads = e; moves = g .1; follows = good-is s (le4 s k) r (ltb 0 left) (eqb (le4 s k) (r .«refactor_count»)) (Bool·beq (r .«next_refactor_info») (ltb 0 left)) refl refl (g .0) }
 by-record s k left n (Refused why) e h = absurd (let z : _≡_ {A = ℕ} 0 1 = cc in omega arith)
 
 pub good-record : (s : List ℕ) (k left n : ℕ) → goodRefactor s k left ≡ Next n → Read s k left n

@@ -2,15 +2,16 @@
 use Prim.Native.Nat.{ℕ, zero, suc, _+_, _-_, _<_, _≤_}
 use native.Mathlib.Omega.{arith}
 use native.Mathlib.Nat.{zero-add}
-use mathlib.Core.Path.{_≡_, refl, ap}
+use mathlib.Core.Path.{_≡_, refl, sym, ap, subst, _∙_}
 use mathlib.Core.Bool.{Bool, true, false}
 use mathlib.Core.List.{List}
 use lib.Dec.{ltb}
 use lib.ListN.{length}
 use Rattle.le.specs.Le.{if_then_else_, le2}
+use Rattle.le.proofs.Tests.{by-test, each-below}
 use Rattle.refusal.specs.Refusal.{limit}
 use Rattle.refusal.specs.declared.Refusal.{Refusal}
-use Rattle.refusal.specs.declared.Refusal.the-variants.{TooLarge, NoSuchNumber}
+use Rattle.refusal.specs.declared.Refusal.the-variants.{NoSuchNumber}
 use Rattle.refactor.specs.declared.AdsRefactorInfo.{AdsRefactorInfo}
 use Rattle.refactor.specs.declared.RefactorAnswer.{RefactorAnswer}
 use Rattle.refactor.specs.declared.RefactorAnswer.the-variants.{Record, Refused}
@@ -28,7 +29,7 @@ lies s at r h =
     let n : r .name ≡ at + 6 = ap (λ x. x .name) (i .is) in
     let nl : r .«name_len» ≡ le2 s (at + 4) = ap (λ x. x .«name_len») (i .is) in
     let m : r .next ≡ at + (le2 s (at + 4) + 7) = ap (λ x. x .next) (i .is) in
-    record { info = r; is = h; name = omega arith; whole = omega (arith, i .fits) }
+    record { info = r; is = h; name = omega arith; whole = record-inside s at r h .1 }
 
 -- of a whole chain from a place on, after so many records
 record Shown (s : List ℕ) (at count : ℕ) (c : Chain) : Type 0 where
@@ -36,26 +37,20 @@ record Shown (s : List ℕ) (at count : ℕ) (c : Chain) : Type 0 where
   next : c .next ≤ length s
   each : (k : ℕ) → count + k < c .count → Inside s (refactorNth s at k)
 
-module _ (s : List ℕ) (at count : ℕ) (c : Chain) where
-  -- the first is the record at the place, the others are those after it
-  each-after : (r : AdsRefactorInfo) → refactorAt s at ≡ Record r → ((k : ℕ) → count + 1 + k < c .count → Inside s (refactorNth s (r .next) k)) → (k : ℕ) → count + k < c .count → Inside s (refactorNth s at k)
+module _ (s : List ℕ) (at count : ℕ) (c : Chain) (on : ℕ → ChainAnswer) (rest : (n : ℕ) → on n ≡ chain.Whole c → Shown s n (count + 1) c) where
+  after : (r : AdsRefactorInfo) → refactorAt s at ≡ Record r → (more : Bool) → (if more then on (r .next) else chain.Whole (record { count = count + 1; next = r .next })) ≡ chain.Whole c → Shown s at count c
   unfolding refactorNth
-  each-after r e rest zero h = lies s at r e
-  each-after r e rest (suc k) h = simp e (rest k (omega arith))
+  after r e true h =
+      let t = rest (r .next) h in
+      record { from = omega (arith, record-inside s at r e .0, t .from); next = t .next; each = each-below _ _ _ (lies s at r e) (λ k j. simp e (t .each k j)) }
+  after r e false h =
+      let n : r .next ≡ c .next = cc in
+      let m : count + 1 ≡ c .count = cc in
+      record { from = omega (arith, record-inside s at r e .0); next = omega (arith, record-inside s at r e .1); each = each-below _ _ _ (lies s at r e) (λ k j. absurd (omega arith)) }
 
-  module _ (on : ℕ → ChainAnswer) (rest : (n : ℕ) → on n ≡ chain.Whole c → Shown s n (count + 1) c) where
-    after : (r : AdsRefactorInfo) → refactorAt s at ≡ Record r → (more : Bool) → (if more then on (r .next) else chain.Whole (record { count = count + 1; next = r .next })) ≡ chain.Whole c → Shown s at count c
-    after r e true h =
-        let t = rest (r .next) h in
-        record { from = omega (arith, record-inside s at r e .0, t .from); next = t .next; each = each-after r e (t .each) }
-    after r e false h =
-        let n : r .next ≡ c .next = cc in
-        let m : count + 1 ≡ c .count = cc in
-        record { from = omega (arith, record-inside s at r e .0); next = omega (arith, record-inside s at r e .1); each = each-after r e (λ k j. absurd (omega arith)) }
-
-    turn : (t : RefactorAnswer) → refactorAt s at ≡ t → chainBy s at count t on ≡ chain.Whole c → Shown s at count c
-    turn (Record r) e h = after r e (r .«next_refactor_info») h
-    turn (Refused why) e h = absurd (let z : _≡_ {A = ℕ} 0 1 = cc in omega arith)
+  turn : (t : RefactorAnswer) → refactorAt s at ≡ t → chainBy s at count t on ≡ chain.Whole c → Shown s at count c
+  turn (Record r) e h = after r e (r .«next_refactor_info») h
+  turn (Refused why) e h = absurd (let z : _≡_ {A = ℕ} 0 1 = cc in omega arith)
 
 chain-shown : (s : List ℕ) (at count left : ℕ) (c : Chain) → chainFrom s at count left ≡ chain.Whole c → Shown s at count c
 unfolding chainFrom
@@ -63,18 +58,16 @@ chain-shown s at count zero c h = absurd (let z : _≡_ {A = ℕ} 0 1 = cc in om
 chain-shown s at count (suc left) c h = turn s at count c (λ n. chainFrom s n (count + 1) left) (λ n e. chain-shown s n (count + 1) left c e) (refactorAt s at) refl h
 
 module _ (s : List ℕ) (at : ℕ) (h : at ≤ length s) where
+  none : Shown s at 0 (record { count = 0; next = at })
+  none = record { from = omega arith; next = h; each = λ k j. absurd (omega arith) }
+
   kept : (t : ChainAnswer) → chainFrom s at 0 (length s - at) ≡ t → Shown s at 0 (keptChain t at)
   kept (chain.Whole c) e = chain-shown s at 0 (length s - at) c e
-  kept (chain.Refused why) e = record { from = omega arith; next = h; each = λ k j. absurd (omega arith) }
-
-  there : (here : Bool) → Shown s at 0 (if here then keptChain (chainFrom s at 0 (length s - at)) at else record { count = 0; next = at })
-  there true = kept (chainFrom s at 0 (length s - at)) refl
-  there false = record { from = omega arith; next = h; each = λ k j. absurd (omega arith) }
+  kept (chain.Refused why) e = none
 
   section : (flagged : Bool) → Shown s at 0 (chainSection s at flagged)
   unfolding chainSection chainAt
-  section true = there (ltb at (length s))
-  section false = record { from = omega arith; next = h; each = λ k j. absurd (omega arith) }
+  section flagged = by-test (Shown s at 0) flagged (by-test (Shown s at 0) (ltb at (length s)) (kept (chainFrom s at 0 (length s - at)) refl) none) none
 
   -- every record of a chain that begins inside lies inside, and the chain ends inside
   pub chain-inside : (flagged : Bool) (k : ℕ) → k < chainSection s at flagged .count → Inside s (refactorNth s at k)
@@ -84,37 +77,29 @@ module _ (s : List ℕ) (at : ℕ) (h : at ≤ length s) where
   chain-end flagged = let c = section flagged in (c .from, c .next)
 
 -- the name of an answer begins inside the bytes
-begun : (s : List ℕ) (at : ℕ) (t : RefactorAnswer) → refactorAt s at ≡ t → nameAt t ≤ length s
-unfolding lies
-begun s at (Record r) e =
-    let i = lies s at r e in
-    let n : r .name + r .«name_len» < r .next = i .name in
-    let w : r .next ≤ length s = i .whole in
-    let m : r .name ≤ length s = omega arith in
-    m
+abbrev pub Begun : List ℕ → RefactorAnswer → Type 0
+Begun s t = nameAt t ≤ length s
+
+begun : (s : List ℕ) (at : ℕ) (t : RefactorAnswer) → refactorAt s at ≡ t → Begun s t
+begun s at (Record r) e = let i = lies s at r e in subst (Begun s) (sym (i .is) ∙ e) (omega (arith, i .name, i .whole))
 begun s at (Refused why) e = omega arith
 
-read-within : (s : List ℕ) (large : Bool) → nameAt (if large then Refused (TooLarge (length s)) else refactorAt s 0) ≤ length s
-read-within s true = omega arith
-read-within s false = begun s 0 (refactorAt s 0) refl
-
-pub read-begun : (s : List ℕ) → nameAt (refactorRead s) ≤ length s
+pub read-begun : (s : List ℕ) → Begun s (refactorRead s)
 unfolding refactorRead
-read-begun s = read-within s (ltb limit (length s))
+read-begun s = by-test (Begun s) (ltb limit (length s)) (omega arith) (begun s 0 (refactorAt s 0) refl)
 
-next-begun : (s : List ℕ) (k : ℕ) → ((n : ℕ) → nameAt (refactorNth s n k) ≤ length s) → (t : RefactorAnswer) → nameAt (byRefactor t (λ r. refactorNth s (r .next) k) Refused) ≤ length s
+next-begun : (s : List ℕ) (k : ℕ) → ((n : ℕ) → Begun s (refactorNth s n k)) → (t : RefactorAnswer) → Begun s (byRefactor t (λ r. refactorNth s (r .next) k) Refused)
 next-begun s k rest (Record r) = rest (r .next)
 next-begun s k rest (Refused why) = omega arith
 
-nth-begun : (s : List ℕ) (k at : ℕ) → nameAt (refactorNth s at k) ≤ length s
+nth-begun : (s : List ℕ) (k at : ℕ) → Begun s (refactorNth s at k)
 unfolding refactorNth
 nth-begun s zero at = begun s at (refactorAt s at) refl
 nth-begun s (suc k) at = next-begun s k (nth-begun s k) (refactorAt s at)
 
 -- of a record that is asked for by its number
-pub asked-begun : (s : List ℕ) (at k : ℕ) (why : Refusal) (shown : Bool) → nameAt (if shown then refactorNth s at k else Refused why) ≤ length s
-asked-begun s at k why true = nth-begun s k at
-asked-begun s at k why false = omega arith
+pub asked-begun : (s : List ℕ) (at k : ℕ) (why : Refusal) (shown : Bool) → Begun s (if shown then refactorNth s at k else Refused why)
+asked-begun s at k why shown = by-test (Begun s) shown (nth-begun s k at) (omega arith)
 
 chained : (s : List ℕ) (k : ℕ) (t : ChainAnswer) → nameAt (byChain t (λ c. if ltb k (c .count) then refactorNth s 0 k else Refused (NoSuchNumber (c .count) k)) Refused) ≤ length s
 chained s k (chain.Whole c) = asked-begun s 0 k (NoSuchNumber (c .count) k) (ltb k (c .count))

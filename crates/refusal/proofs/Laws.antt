@@ -1,8 +1,7 @@
 -- How a writer comes to its promise, and that the promise leaves no choice.
 use Prim.Native.Nat.{ℕ, zero, suc, _+_, _-_, _<_, _≤_}
 use native.Mathlib.Omega.{arith}
-use native.Mathlib.Numerals.{sub-one}
-use mathlib.Core.Path.{_≡_, refl, sym, ap, ap₂, _∙_}
+use mathlib.Core.Path.{_≡_, refl, sym, ap, ap₂, subst, _∙_}
 use mathlib.Core.Bool.{Bool, true, false}
 use mathlib.Core.List.{List}
 use lib.Dec.{eqb}
@@ -11,6 +10,7 @@ use borrow.Author.Tests.{lt-ltb, le-ltb, eqb-true}
 use Rattle.le.specs.Le.{if_then_else_}
 use Rattle.le.specs.Put.{Wrote}
 use Rattle.le.proofs.Laws.{whole-length, whole-is}
+use Rattle.le.proofs.Tests.{otherwise, is-suc, is-zero}
 use Rattle.refusal.specs.declared.Refusal.{Refusal}
 use Rattle.refusal.specs.declared.Refusal.the-variants.{OutputTooSmall}
 use Rattle.refusal.specs.declared.Written.{Written}
@@ -42,13 +42,16 @@ module _ (goodAt : ℕ → ℕ → Good) (at good : ℕ) where
   pub good-step : (left : ℕ) {g : Good} → goodAt at (left - 1) ≡ g → 0 < left
       → goodFrom goodAt at good left ≡ byGood g (λ next. goodFrom goodAt next (good + 1) (left - 1)) (counted good at)
   unfolding goodFrom
-  good-step zero e h = absurd (omega arith)
-  good-step (suc n) e h = simp (simp sub-one at e, sub-one)
+  good-step left e h = ap (goodFrom goodAt at good) (is-suc left h) ∙ simp e
 
   pub good-none : (left : ℕ) → left ≤ 0 → goodFrom goodAt at good left ≡ counted good at
   unfolding goodFrom
-  good-none zero h = refl
-  good-none (suc n) h = absurd (omega arith)
+  good-none left h = ap (goodFrom goodAt at good) (is-zero left h)
+
+-- a good record is one whose test holds, and the place after it is its next
+pub good-if : (b : Bool) {m n : ℕ} → (if b then Next m else None) ≡ Next n → (b ≡ true) × (m ≡ n)
+good-if true h = (refl, cc)
+good-if false h = absurd (let z : _≡_ {A = ℕ} 0 1 = cc in omega arith)
 
 -- where all of so many are good, so is the first, and the others are
 module _ (goodAt : ℕ → ℕ → Good) (at good left m : ℕ) where
@@ -62,6 +65,13 @@ module _ (goodAt : ℕ → ℕ → Good) (at good left m : ℕ) where
   unfolding goodFrom
   good-first h = by-first (goodAt at left) h
 
+-- induction over good records one after another: by the place, how many are left and where they end
+pub good-all : (goodAt : ℕ → ℕ → Good) (P : ℕ → ℕ → ℕ → Type 0) → ((m : ℕ) → P m 0 m) → ((at left m n : ℕ) → goodAt at left ≡ Next n → P n left m → P at (suc left) m)
+    → (at good left m : ℕ) → goodFrom goodAt at good left ≡ counted (good + left) m → P at left m
+unfolding goodFrom
+good-all goodAt P end turn at good zero m e = subst (λ (n : ℕ). P n 0 m) (sym (ap (λ c. c .next) e)) (end m)
+good-all goodAt P end turn at good (suc left) m e = let f = good-first goodAt at good left m e in turn at left m (f .0) (f .1 .0) (good-all goodAt P end turn (f .0) (good + 1) left m (f .1 .1))
+
 -- a block that passes is exactly its count of good records
 passes : (count size : ℕ) (found : Counted) (a b : Bool) → eqb (found .good) count ≡ a → eqb (found .next) size ≡ b → exactly count found size ≡ checked.Passed → found ≡ counted count size
 unfolding exactly
@@ -74,8 +84,7 @@ exact count size found h = passes count size found (eqb (found .good) count) (eq
 
 -- what is written passed each test and each check before it
 pub passed : (b : Bool) (why : Refusal) (w : Writing) (bs : List ℕ) → (if b then Refuse why else w) ≡ Bytes bs → (b ≡ false) × (w ≡ Bytes bs)
-passed true why w bs h = absurd (let z : _≡_ {A = ℕ} 0 1 = cc in omega arith)
-passed false why w bs h = (refl, h)
+passed b why w bs h = otherwise b h (λ e. let z : _≡_ {A = ℕ} 0 1 = cc in omega arith)
 
 pub check-passed : (c : Checked) (w : Writing) (bs : List ℕ) → afterCheck c w ≡ Bytes bs → (c ≡ checked.Passed) × (w ≡ Bytes bs)
 check-passed checked.Passed w bs h = (refl, h)

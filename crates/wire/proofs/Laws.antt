@@ -9,6 +9,7 @@ use lib.ListN.{length, length-append}
 use borrow.Author.Tests.{le-ltb, ltb-true, ltb-false}
 use Rattle.le.specs.Le.{if_then_else_, bytes4}
 use Rattle.le.specs.Put.{Wrote}
+use Rattle.le.proofs.Tests.{otherwise}
 use Rattle.refusal.specs.Refusal.{limit}
 use Rattle.refusal.specs.Writing.{Writing, Refuse, Writes}
 use Rattle.refusal.specs.declared.Refusal.{Refusal}
@@ -20,9 +21,8 @@ use Rattle.refusal.proofs.Laws.{refuses, too-small, done}
 use Rattle.wire.specs.Wire.{stringsOf, attributesOf, stringsChecked, blockChecked, entryOf, entryWriting, roomChecked, Fit}
 
 -- a check that passed was past its first test
-passed : (why : Refusal) {rest : Checked} (b : Bool) → (if b then Refused why else rest) ≡ Passed → (b ≡ false) × (rest ≡ Passed)
-passed why false h = (refl, h)
-passed why true h = absurd (let z : _≡_ {A = ℕ} 0 1 = cc in omega arith)
+pub passed : (why : Refusal) {rest : Checked} (b : Bool) → (if b then Refused why else rest) ≡ Passed → (b ≡ false) × (rest ≡ Passed)
+passed why b h = otherwise b h (λ e. let z : _≡_ {A = ℕ} 0 1 = cc in omega arith)
 
 pub fit : (name type comment : List ℕ) → stringsChecked name type comment ≡ Passed → Fit name type comment
 unfolding stringsChecked

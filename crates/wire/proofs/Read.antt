@@ -2,12 +2,11 @@
 use Prim.Native.Nat.{ℕ, _+_, _<_, _≤_}
 use native.Mathlib.Omega.{arith}
 use mathlib.Core.Path.{_≡_, refl, ap, _∙_}
-use mathlib.Core.Bool.{Bool, true, false}
 use mathlib.Core.List.{List, _++_}
 use lib.Dec.{ltb}
 use lib.ListN.{length, length-append}
 use borrow.Author.Tests.{ltb-false}
-use Rattle.le.specs.Le.{if_then_else_, bytes4}
+use Rattle.le.specs.Le.{bytes4}
 use Rattle.le.proofs.Laws.{le4-bytes4}
 use Rattle.refusal.specs.Refusal.{limit}
 use Rattle.refusal.specs.Writing.{Bytes, counted, goodFrom}
@@ -18,7 +17,8 @@ use Rattle.refusal.proofs.Laws.{passed, exact}
 use Rattle.attr.specs.Writing.{goodAttribute, attributesChecked}
 use Rattle.entry.specs.Demand3.{grown}
 use Rattle.entry.proofs.Whole.{Whole}
-use Rattle.wire.specs.Wire.{tooLong, thenCheck, blockChecked, entryOf, entryWriting}
+use Rattle.wire.specs.Wire.{thenCheck, blockChecked, entryOf, entryWriting}
+use Rattle.wire.proofs.Laws as laws
 
 -- an entry, and one that is grown
 pub grown-entry : (rest extra : List ℕ) → grown (entryOf rest) extra ≡ entryOf (rest ++ extra)
@@ -34,13 +34,9 @@ pub both-passed : (a b : Checked) → thenCheck a b ≡ Passed → (a ≡ Passed
 both-passed Passed b h = (refl, h)
 both-passed (Refused why) b h = absurd (let z : _≡_ {A = ℕ} 0 1 = cc in omega arith)
 
-within : (b : Bool) (n : ℕ) (rest : Checked) → (if b then tooLong n else rest) ≡ Passed → rest ≡ Passed
-within false n rest h = h
-within true n rest h = absurd (let z : _≡_ {A = ℕ} 0 1 = cc in omega arith)
-
 pub block-good : (count : ℕ) (block : List ℕ) → blockChecked count block ≡ Passed → goodFrom (goodAttribute block) 0 0 count ≡ counted count (length block)
 unfolding blockChecked attributesChecked
-block-good count block h = exact count (length block) (goodFrom (goodAttribute block) 0 0 count) (within (ltb 65535 count) count _ h)
+block-good count block h = exact count (length block) (goodFrom (goodAttribute block) 0 0 count) (laws.passed _ (ltb 65535 count) h .1)
 
 pub entry-small : (e bs : List ℕ) → entryWriting e ≡ Bytes bs → length e ≤ limit
 unfolding entryWriting
