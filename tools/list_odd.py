@@ -219,6 +219,11 @@ def odd_lines():
     yield hexed(b"".join(entry(high=h) for h in (1, 255, 256, 0x0102, 0xFF00, 0x8000, 0xFFFF)))
     yield hexed(entry(high=0x9008, tail=guid) + entry(flags=0x0008, high=0x1000, tail=guid) + entry(name=b"", kind=b"", high=4660))
     yield hexed(entry(high=0x0102, claim=36) + entry(high=0x0201))
+    # end bytes that are not 0, of each string, of an attribute and of a chain's record: `list` is of the present mode (W-212)
+    for end in (31, 35, 36):
+        yield hexed(good[:end] + b"\x58" + good[end + 1 :])
+    yield hexed(entry(flags=0x1000, tail=b"\2\0" + attrs[:-1] + b"\1"))
+    yield hexed(entry(flags=0x8000, tail=b"\4\0\0\0" + refactor(2, b"A")[:-1] + b"\xff"))
     # the largest frame, one byte more, and a line of many times that
     yield hexed(filled(MOST))
     yield hexed(filled(MOST + 1))

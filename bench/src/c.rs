@@ -55,6 +55,18 @@ pub fn symbol_step<const N: usize>(
     unsafe { by(bytes.as_ptr(), bytes.len(), cursor, slots, guid, answer) }
 }
 
+/// A step by the call that takes a mode, in the checked or in the present one.
+pub fn symbol_step_in(
+    checked: bool,
+    bytes: &[u8],
+    cursor: &mut usize,
+    told: &mut Told<{ sys::SYMBOL_SLOTS }>,
+) -> u32 {
+    let (slots, guid, answer) = (&mut told.slots, &mut told.guid, &mut told.answer);
+    let (start, len) = (bytes.as_ptr(), bytes.len());
+    unsafe { sys::vindaskot_symbol_step_in(start, len, checked, cursor, slots, guid, answer) }
+}
+
 pub fn field_read(bytes: &[u8], told: &mut Told<{ sys::FIELD_SLOTS }>) {
     let (slots, guid, answer) = (&mut told.slots, &mut told.guid, &mut told.answer);
     let status =

@@ -154,6 +154,25 @@ fn check_theirs(s: &Symbol, r: &AdsSymbolInfo) {
     );
 }
 
+/// The call that takes a mode tells of a written entry what the other tells, in both modes, and goes as far.
+fn check_modes(s: &Symbol, upload: &[u8], start: usize, told: &Told<{ sys::SYMBOL_SLOTS }>) {
+    for checked in [false, true] {
+        let mut own = Told::<{ sys::SYMBOL_SLOTS }>::new();
+        let mut cursor = start;
+        let status = c::symbol_step_in(checked, upload, &mut cursor, &mut own);
+        same(&status, &sys::DONE, "status in a mode", &s.name);
+        same(&own.slots, &told.slots, "slots in a mode", &s.name);
+        same(
+            &(cursor - start),
+            &own.number(sys::SYMBOL_LENGTH),
+            "cursor in a mode",
+            &s.name,
+        );
+        let guid = &own.guid[..s.guid.len()];
+        same(&guid, &&s.guid[..], "GUID in a mode", &s.name);
+    }
+}
+
 pub fn check(rig: &Rig) {
     let mut theirs = AdsSymbolInfoIterator::new(&rig.upload);
     let mut told = Told::<{ sys::SYMBOL_SLOTS }>::new();
@@ -163,6 +182,7 @@ pub fn check(rig: &Rig) {
         let status = c::symbol_step(c::SYMBOL_STEP, &rig.upload, &mut cursor, &mut told);
         same(&status, &sys::DONE, "status", &s.name);
         check_ours(s, &rig.upload[*start..cursor], &told);
+        check_modes(s, &rig.upload, *start, &told);
         match theirs.next() {
             Some(Ok(record)) => check_theirs(s, &record),
             other => wrong(&format!("the Rust's walk: {other:?}")),

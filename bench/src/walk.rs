@@ -11,14 +11,31 @@ use std::hint::black_box;
 /// Of each entry: what both sides can tell of it without text. An unread byte, which the Rust does not tell, would show as a
 /// difference, since written entries have none.
 pub fn ours(upload: &[u8]) -> u64 {
-    stepped(c::SYMBOL_STEP, upload)
+    by_call(c::SYMBOL_STEP, upload)
 }
 
-fn stepped<const N: usize>(by: c::SymbolStep<N>, upload: &[u8]) -> u64 {
-    let mut told = Told::<N>::new();
+fn by_call<const N: usize>(by: c::SymbolStep<N>, upload: &[u8]) -> u64 {
+    stepped(
+        |cursor, told| c::symbol_step(by, upload, cursor, told),
+        Told::new(),
+    )
+}
+
+/// The same by the call that takes a mode.
+fn in_mode(checked: bool, upload: &[u8]) -> u64 {
+    stepped(
+        |cursor, told| c::symbol_step_in(checked, upload, cursor, told),
+        Told::new(),
+    )
+}
+
+fn stepped<const N: usize>(
+    step: impl Fn(&mut usize, &mut Told<N>) -> u32,
+    mut told: Told<N>,
+) -> u64 {
     let (mut cursor, mut sum) = (0, 0);
     loop {
-        match c::symbol_step(by, upload, &mut cursor, &mut told) {
+        match step(&mut cursor, &mut told) {
             sys::DONE => sum += ours_sum(&told),
             sys::FINISHED => return sum,
             status => wrong(&format!("a step is refused with {status}")),
@@ -153,6 +170,21 @@ fn theirs_text(upload: &[u8]) -> u64 {
     sum as u64
 }
 
+/// The checked mode, and the present one by the call that takes a mode, beside the present one by the call that takes none:
+/// three contenders of one race.
+fn modes(report: &Report, upload: &[u8], entries: usize) {
+    let checked = "walk, checked mode (the present mode in place of the Rust)";
+    let argument = "  the present mode by the same call (as above)";
+    let runs = vec![
+        plain(|| ours(upload)),
+        plain(|| in_mode(true, upload)),
+        plain(|| in_mode(false, upload)),
+    ];
+    let times = race(report.allowed, checked, runs);
+    report.row(checked, entries, times[1], times[0]);
+    report.row(argument, entries, times[2], times[0]);
+}
+
 pub fn rows(report: &mut Report, rig: &Rig) {
     let (upload, entries) = (rig.upload.as_slice(), rig.symbols.len());
     report.heading("walking", "ns an entry");
@@ -163,10 +195,11 @@ pub fn rows(report: &mut Report, rig: &Rig) {
     #[cfg(before)]
     {
         let what = "  the same (BEFORE in place of the Rust)";
-        let before = plain(|| stepped(c::before::symbol_step, upload));
+        let before = plain(|| by_call(c::before::symbol_step, upload));
         let times = race(report.allowed, what, vec![plain(|| ours(upload)), before]);
         report.row(what, entries, times[0], times[1]);
     }
+    modes(report, upload, entries);
     let what = "walk, all text as UTF-8 on both sides";
     let mut out = vec![0; 4096];
     let runs = vec![

@@ -35,6 +35,8 @@ static const char *const groups[GROUPS] = {
     [WRITES] = "entries and records, written",
     [ROUND_TRIPS] = "written, then read again",
     [FINDS] = "index and finding",
+    [FINDS_PASS] = "symbols by name, one that has it passed over for its end byte",
+    [INDEX_PASSES] = "the index, entries passed over for an end byte",
     [CAPITALS] = "names in capitals and small letters",
     [OTHER_CASE] = "symbols by name, found in another case than asked",
     [EARLIER] = "symbols by name, found before one that has the very bytes asked",
@@ -42,6 +44,23 @@ static const char *const groups[GROUPS] = {
     [HIGHS_READ] = "bytes 22 and 23 of a symbol, read where they are not zeros",
     [HIGHS_WRITTEN] = "bytes 22 and 23 of a symbol, written where they are not zeros",
     [HIGHS_APART] = "bytes 22 and 23 of a symbol, on which nothing else depends",
+    [STAYS] = "the checked mode, told as in the present one",
+    [ENDS] = "end bytes of entries and of records, one, two and all at a time",
+    [ENDS_APART] = "bytes that are no end bytes, on which 16 does not depend",
+    [ENDS_NAME] = "an entry refused for its name's end byte",
+    [ENDS_TYPE] = "an entry refused for its type's end byte",
+    [ENDS_COMMENT] = "an entry refused for its comment's end byte",
+    [ENDS_ATTRIBUTE_NAME] = "an entry refused for the end byte of an attribute's name",
+    [ENDS_ATTRIBUTE_VALUE] = "an entry refused for the end byte of an attribute's value",
+    [ENDS_FORMER] = "a symbol refused for an end byte in its chain",
+    [ENDS_ALONE] = "a record or a chain by itself refused for an end byte",
+    [ENDS_BEFORE_SHORT] = "an entry refused for an attribute's end byte, before an attribute that is short",
+    [ENDS_IN_DROPPED] = "a symbol refused for an end byte, before a record that is short, in its chain",
+    [SHORT_FIRST] = "an attribute that is short before its end byte is looked at",
+    [SKIPPED_ITEMS] = "a field accepted beside end bytes of sub-items that are not 0",
+    [SKIPPED_METHODS] = "a field accepted beside end bytes of methods that are not 0",
+    [UNREAD_ENDS] = "a symbol accepted before unread records whose end byte is not 0",
+    [BEHIND_ENDS] = "an entry accepted before a record behind it whose end byte is not 0",
     [TEXTS] = "text there and back",
 };
 
@@ -54,16 +73,18 @@ static uint64_t seed_number, failures;
 
 static void where(char *to, size_t room)
 {
+    static const char *const modes[MODES] = {"no mode given", "the present mode given", "the checked mode given"};
+    const char *touching = side == AT_END ? "end" : "start", *given = modes[mode < MODES ? mode : PRESENT];
     if (now_trying == NO_CASE)
-        snprintf(to, room, "slices at their %s", side == AT_END ? "end" : "start");
+        snprintf(to, room, "slices at their %s, %s", touching, given);
     else
-        snprintf(to, room, "seed %llu case %llu, slices at their %s", (unsigned long long)seed_number,
-                 (unsigned long long)now_trying, side == AT_END ? "end" : "start");
+        snprintf(to, room, "seed %llu case %llu, slices at their %s, %s", (unsigned long long)seed_number,
+                 (unsigned long long)now_trying, touching, given);
 }
 
 void failed(const char *file, int line, enum group group, const char *format, ...)
 {
-    char place[100];
+    char place[120];
     va_list more;
     checks[group]++;
     if (failures++ >= SHOWN)
@@ -79,7 +100,7 @@ void failed(const char *file, int line, enum group group, const char *format, ..
 /* An access outside what was lent ends the program: nothing after it can be trusted. */
 static void faulted(int number, siginfo_t *info, void *context)
 {
-    char place[100], line[300];
+    char place[120], line[300];
     (void)context;
     where(place, sizeof place);
     int len = snprintf(line, sizeof line, "boundary: FAULT (signal %d) in %s at address %p (%s)\n", number,

@@ -3,11 +3,13 @@
  *   boundary.c         the program: groups of checks, the report
  *   boundary_memory.c  memory between pages that nobody may touch
  *   boundary_calls.c   every exported function, called with guard words around all that it is lent
- *   boundary_model.c   what document 01 says the answer is, worked out in C
+ *   boundary_model.c   what document 01 and the requests say the answer is, worked out in C
  *   boundary_make.c    random numbers, entries, damage
  *   boundary_edges.c   empty slices, every length lent, names that are nearly alike, the limits
  *   boundary_case.c    symbols by names in another case
  *   boundary_high.c    bytes 22 and 23 of a symbol
+ *   boundary_ends.c    end bytes, which the checked mode looks at
+ *   boundary_kinds.c   which of the end bytes an answer is about, so that each kind is counted
  *   boundary_random.c  random cases
  */
 #ifndef BOUNDARY_H
@@ -39,6 +41,8 @@ enum group {
     WRITES,
     ROUND_TRIPS,
     FINDS,
+    FINDS_PASS,
+    INDEX_PASSES,
     CAPITALS,
     OTHER_CASE,
     EARLIER,
@@ -46,6 +50,23 @@ enum group {
     HIGHS_READ,
     HIGHS_WRITTEN,
     HIGHS_APART,
+    STAYS,
+    ENDS,
+    ENDS_APART,
+    ENDS_NAME,
+    ENDS_TYPE,
+    ENDS_COMMENT,
+    ENDS_ATTRIBUTE_NAME,
+    ENDS_ATTRIBUTE_VALUE,
+    ENDS_FORMER,
+    ENDS_ALONE,
+    ENDS_BEFORE_SHORT,
+    ENDS_IN_DROPPED,
+    SHORT_FIRST,
+    SKIPPED_ITEMS,
+    SKIPPED_METHODS,
+    UNREAD_ENDS,
+    BEHIND_ENDS,
     TEXTS,
     GROUPS
 };
@@ -92,6 +113,12 @@ enum side { AT_END, AT_START, SIDES };
 
 extern enum side side;
 
+/* What is being tried: the present mode by the functions that take none, the present mode by those that take one, or the
+ * checked mode. The model knows the last from the others. */
+enum mode { PRESENT, PRESENT_IN, CHECKED, MODES };
+
+extern enum mode mode;
+
 void begin_memory(void);
 uint8_t *area(enum area which, size_t len);
 struct bytes lay(enum area which, struct bytes from);
@@ -133,6 +160,22 @@ enum function {
     FIND_INDEXED,
     DECODE,
     ENCODE,
+    SYMBOL_READ_IN,
+    SYMBOL_STEP_IN,
+    SYMBOL_ATTRIBUTE_IN,
+    SYMBOL_REFACTOR_INFO_IN,
+    SYMBOL_ATTRIBUTE_NAMED_IN,
+    FIELD_READ_IN,
+    FIELD_STEP_IN,
+    FIELD_ATTRIBUTE_IN,
+    FIELD_ATTRIBUTE_NAMED_IN,
+    ATTRIBUTE_READ_IN,
+    REFACTOR_READ_IN,
+    CHAIN_READ_IN,
+    CHAIN_RECORD_IN,
+    INDEX_BUILD_IN,
+    FIND_IN,
+    FIND_INDEXED_IN,
     FUNCTIONS
 };
 
@@ -158,9 +201,13 @@ void same_at(const char *file, int line, enum group group, struct told got, stru
 
 #define SAME(group, got, want) same_at(__FILE__, __LINE__, group, got, want)
 
+/* Whether what was told is a symbol's record. */
+bool tells_symbol(struct told told);
+
 /* The group of a check on an attribute by name, by what is expected of it. */
 enum group naming_group(struct told want);
 
+/* A call that has two modes is made as is being tried. */
 typedef struct told (*reading)(struct bytes bytes);
 typedef struct told (*numbered)(struct bytes bytes, size_t number);
 typedef struct told (*naming)(struct bytes bytes, struct bytes name);
@@ -247,6 +294,13 @@ bool equal(struct bytes a, struct bytes b);
 struct bytes part(struct bytes bytes, size_t at, size_t len);
 struct bytes text(const char *s);
 
+/* The group of a check in the checked mode on the symbol or the field at the start of these bytes, by what the present
+ * mode tells of it and by what is expected: which end byte it is about, or the usual group. On an attribute by itself
+ * likewise. */
+enum group symbol_group(struct bytes bytes, struct told present, struct told want, enum group usual);
+enum group field_group(struct bytes bytes, struct told present, struct told want, enum group usual);
+enum group alone_group(struct bytes bytes, struct told want, enum group usual);
+
 /* ---- Making ---- */
 
 void seed(uint64_t from);
@@ -286,6 +340,7 @@ void make_field(struct buffer *to);
 void make_records(struct buffer *to);
 void make_upload(struct buffer *to);
 void make_family(struct buffer *to);
+void make_wrong(struct buffer *to);
 void make_text(struct buffer *to);
 void damage(struct buffer *to, size_t header);
 
@@ -298,6 +353,7 @@ void miss_case(struct room name);
 void try_edges(void);
 void try_capitals(void);
 void try_highs(void);
+void try_ends(void);
 void try_limits(void);
 void try_random(uint64_t from, uint64_t cases, uint64_t seed_number);
 

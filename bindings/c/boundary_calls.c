@@ -11,6 +11,7 @@
 #define OUT_OF_STEPS NUMBER(31)
 #define DIRECT (DONE | NUMBER(2) | NUMBER(3) | NUMBER(4) | NUMBER(5))
 #define STEP (DONE | FINISHED | NUMBER(2) | NUMBER(3) | NUMBER(5))
+#define ENDS_TOO NUMBER(16)
 
 enum {
     OF_SYMBOL = VINDASKOT_SYMBOL_SLOTS,
@@ -60,6 +61,30 @@ static const struct {
     [FIND_INDEXED] = {"vindaskot_find_indexed", 0, false, false, false, DONE | NUMBER(5) | NUMBER(13)},
     [DECODE] = {"vindaskot_decode", 0, false, false, false, DONE | NUMBER(5) | NUMBER(6)},
     [ENCODE] = {"vindaskot_encode", 0, false, false, false, DONE | NUMBER(5) | NUMBER(11) | NUMBER(6)},
+    [SYMBOL_READ_IN] = {"vindaskot_symbol_read_in", OF_SYMBOL, true, false, false, DIRECT | ENDS_TOO},
+    [SYMBOL_STEP_IN] = {"vindaskot_symbol_step_in", OF_SYMBOL, true, true, false, STEP | ENDS_TOO},
+    [SYMBOL_ATTRIBUTE_IN] = {"vindaskot_symbol_attribute_in", OF_ATTRIBUTE, false, false, false,
+                             DIRECT | ENDS_TOO | NUMBER(14)},
+    [SYMBOL_REFACTOR_INFO_IN] = {"vindaskot_symbol_refactor_info_in", OF_REFACTOR, false, false, false,
+                                 DIRECT | ENDS_TOO | NUMBER(14)},
+    [SYMBOL_ATTRIBUTE_NAMED_IN] = {"vindaskot_symbol_attribute_named_in", OF_ATTRIBUTE, false, false, false,
+                                   DIRECT | ENDS_TOO | NUMBER(13)},
+    [FIELD_READ_IN] = {"vindaskot_field_read_in", OF_FIELD, true, false, false, DIRECT | NUMBER(1) | ENDS_TOO},
+    [FIELD_STEP_IN] = {"vindaskot_field_step_in", OF_FIELD, true, true, false, STEP | NUMBER(1) | ENDS_TOO},
+    [FIELD_ATTRIBUTE_IN] = {"vindaskot_field_attribute_in", OF_ATTRIBUTE, false, false, false,
+                            DIRECT | NUMBER(1) | ENDS_TOO | NUMBER(14)},
+    [FIELD_ATTRIBUTE_NAMED_IN] = {"vindaskot_field_attribute_named_in", OF_ATTRIBUTE, false, false, false,
+                                  DIRECT | NUMBER(1) | ENDS_TOO | NUMBER(13)},
+    [ATTRIBUTE_READ_IN] = {"vindaskot_attribute_read_in", OF_ATTRIBUTE, false, false, false,
+                           DONE | NUMBER(5) | NUMBER(2) | NUMBER(1) | ENDS_TOO},
+    [REFACTOR_READ_IN] = {"vindaskot_refactor_read_in", OF_REFACTOR, false, false, false,
+                          DONE | NUMBER(5) | NUMBER(2) | ENDS_TOO},
+    [CHAIN_READ_IN] = {"vindaskot_chain_read_in", 0, false, false, false, DONE | NUMBER(5) | NUMBER(2) | ENDS_TOO},
+    [CHAIN_RECORD_IN] = {"vindaskot_chain_record_in", OF_REFACTOR, false, false, false,
+                         DONE | NUMBER(5) | NUMBER(2) | ENDS_TOO | NUMBER(14)},
+    [INDEX_BUILD_IN] = {"vindaskot_index_build_in", 0, false, false, false, DONE | NUMBER(5) | NUMBER(10) | NUMBER(6)},
+    [FIND_IN] = {"vindaskot_find_in", 0, false, false, false, DONE | NUMBER(5) | NUMBER(10) | NUMBER(13)},
+    [FIND_INDEXED_IN] = {"vindaskot_find_indexed_in", 0, false, false, false, DONE | NUMBER(5) | NUMBER(13)},
 };
 
 enum function calling = FUNCTIONS;
@@ -115,7 +140,7 @@ static bool documented(enum function function, uint32_t status)
 {
     uint32_t bit = status == VINDASKOT_FINISHED       ? FINISHED
                    : status == VINDASKOT_OUT_OF_STEPS ? OUT_OF_STEPS
-                   : status <= 14                     ? NUMBER(status)
+                   : status <= 16                     ? NUMBER(status)
                                                       : 0;
     seen[function] |= bit;
     return (functions[function].statuses & bit) != 0;
@@ -193,65 +218,76 @@ void same_at(const char *file, int line, enum group group, struct told got, stru
         memcmp(got.guid, want.guid, sizeof got.guid) == 0 ? "" : "; another guid");
 }
 
+bool tells_symbol(struct told told)
+{
+    enum function f = told.function;
+    bool symbol = f == SYMBOL_READ || f == SYMBOL_STEP || f == SYMBOL_READ_IN || f == SYMBOL_STEP_IN;
+    return symbol && told.status == VINDASKOT_DONE;
+}
+
 enum group naming_group(struct told want)
 {
     return want.status == VINDASKOT_DONE ? NAMED : want.status == 13 ? UNNAMED : READS;
 }
 
+/* A call as is being tried, over the frame f: by the function that takes no mode, or by the one that takes it. */
+#define IN_MODE(function, from, call, call_in)                                                                         \
+    bool takes_mode = mode != PRESENT;                                                                                 \
+    struct frame *f = begin(takes_mode ? function##_IN : function, from);                                              \
+    return takes_mode ? finish(function##_IN, call_in) : finish(function, call)
+
 struct told call_symbol_read(struct bytes b)
 {
-    struct frame *f = begin(SYMBOL_READ, 0);
-    return finish(SYMBOL_READ, vindaskot_symbol_read_2(b.at, b.len, f->slots, f->guid, f->answer));
+    IN_MODE(SYMBOL_READ, 0, vindaskot_symbol_read_2(b.at, b.len, f->slots, f->guid, f->answer),
+            vindaskot_symbol_read_in(b.at, b.len, mode == CHECKED, f->slots, f->guid, f->answer));
 }
 
 struct told call_symbol_step(struct bytes b, size_t cursor)
 {
-    struct frame *f = begin(SYMBOL_STEP, cursor);
-    return finish(SYMBOL_STEP, vindaskot_symbol_step_2(b.at, b.len, &f->cursor, f->slots, f->guid, f->answer));
+    IN_MODE(SYMBOL_STEP, cursor, vindaskot_symbol_step_2(b.at, b.len, &f->cursor, f->slots, f->guid, f->answer),
+            vindaskot_symbol_step_in(b.at, b.len, mode == CHECKED, &f->cursor, f->slots, f->guid, f->answer));
 }
 
 struct told call_symbol_attribute(struct bytes b, size_t number)
 {
-    struct frame *f = begin(SYMBOL_ATTRIBUTE, 0);
-    return finish(SYMBOL_ATTRIBUTE, vindaskot_symbol_attribute(b.at, b.len, number, f->slots, f->answer));
+    IN_MODE(SYMBOL_ATTRIBUTE, 0, vindaskot_symbol_attribute(b.at, b.len, number, f->slots, f->answer),
+            vindaskot_symbol_attribute_in(b.at, b.len, mode == CHECKED, number, f->slots, f->answer));
 }
 
 struct told call_symbol_refactor_info(struct bytes b, size_t number)
 {
-    struct frame *f = begin(SYMBOL_REFACTOR_INFO, 0);
-    return finish(SYMBOL_REFACTOR_INFO, vindaskot_symbol_refactor_info(b.at, b.len, number, f->slots, f->answer));
+    IN_MODE(SYMBOL_REFACTOR_INFO, 0, vindaskot_symbol_refactor_info(b.at, b.len, number, f->slots, f->answer),
+            vindaskot_symbol_refactor_info_in(b.at, b.len, mode == CHECKED, number, f->slots, f->answer));
 }
 
-struct told call_symbol_attribute_named(struct bytes b, struct bytes name)
+struct told call_symbol_attribute_named(struct bytes b, struct bytes n)
 {
-    struct frame *f = begin(SYMBOL_ATTRIBUTE_NAMED, 0);
-    return finish(SYMBOL_ATTRIBUTE_NAMED,
-                  vindaskot_symbol_attribute_named(b.at, b.len, name.at, name.len, f->slots, f->answer));
+    IN_MODE(SYMBOL_ATTRIBUTE_NAMED, 0, vindaskot_symbol_attribute_named(b.at, b.len, n.at, n.len, f->slots, f->answer),
+            vindaskot_symbol_attribute_named_in(b.at, b.len, mode == CHECKED, n.at, n.len, f->slots, f->answer));
 }
 
 struct told call_field_read(struct bytes b)
 {
-    struct frame *f = begin(FIELD_READ, 0);
-    return finish(FIELD_READ, vindaskot_field_read(b.at, b.len, f->slots, f->guid, f->answer));
+    IN_MODE(FIELD_READ, 0, vindaskot_field_read(b.at, b.len, f->slots, f->guid, f->answer),
+            vindaskot_field_read_in(b.at, b.len, mode == CHECKED, f->slots, f->guid, f->answer));
 }
 
 struct told call_field_step(struct bytes b, size_t cursor)
 {
-    struct frame *f = begin(FIELD_STEP, cursor);
-    return finish(FIELD_STEP, vindaskot_field_step(b.at, b.len, &f->cursor, f->slots, f->guid, f->answer));
+    IN_MODE(FIELD_STEP, cursor, vindaskot_field_step(b.at, b.len, &f->cursor, f->slots, f->guid, f->answer),
+            vindaskot_field_step_in(b.at, b.len, mode == CHECKED, &f->cursor, f->slots, f->guid, f->answer));
 }
 
 struct told call_field_attribute(struct bytes b, size_t number)
 {
-    struct frame *f = begin(FIELD_ATTRIBUTE, 0);
-    return finish(FIELD_ATTRIBUTE, vindaskot_field_attribute(b.at, b.len, number, f->slots, f->answer));
+    IN_MODE(FIELD_ATTRIBUTE, 0, vindaskot_field_attribute(b.at, b.len, number, f->slots, f->answer),
+            vindaskot_field_attribute_in(b.at, b.len, mode == CHECKED, number, f->slots, f->answer));
 }
 
-struct told call_field_attribute_named(struct bytes b, struct bytes name)
+struct told call_field_attribute_named(struct bytes b, struct bytes n)
 {
-    struct frame *f = begin(FIELD_ATTRIBUTE_NAMED, 0);
-    return finish(FIELD_ATTRIBUTE_NAMED,
-                  vindaskot_field_attribute_named(b.at, b.len, name.at, name.len, f->slots, f->answer));
+    IN_MODE(FIELD_ATTRIBUTE_NAMED, 0, vindaskot_field_attribute_named(b.at, b.len, n.at, n.len, f->slots, f->answer),
+            vindaskot_field_attribute_named_in(b.at, b.len, mode == CHECKED, n.at, n.len, f->slots, f->answer));
 }
 
 struct told call_walk(struct bytes b, size_t allowed, size_t cursor)
@@ -262,26 +298,26 @@ struct told call_walk(struct bytes b, size_t allowed, size_t cursor)
 
 struct told call_attribute_read(struct bytes b)
 {
-    struct frame *f = begin(ATTRIBUTE_READ, 0);
-    return finish(ATTRIBUTE_READ, vindaskot_attribute_read(b.at, b.len, f->slots, f->answer));
+    IN_MODE(ATTRIBUTE_READ, 0, vindaskot_attribute_read(b.at, b.len, f->slots, f->answer),
+            vindaskot_attribute_read_in(b.at, b.len, mode == CHECKED, f->slots, f->answer));
 }
 
 struct told call_refactor_read(struct bytes b)
 {
-    struct frame *f = begin(REFACTOR_READ, 0);
-    return finish(REFACTOR_READ, vindaskot_refactor_read(b.at, b.len, f->slots, f->answer));
+    IN_MODE(REFACTOR_READ, 0, vindaskot_refactor_read(b.at, b.len, f->slots, f->answer),
+            vindaskot_refactor_read_in(b.at, b.len, mode == CHECKED, f->slots, f->answer));
 }
 
 struct told call_chain_read(struct bytes b)
 {
-    struct frame *f = begin(CHAIN_READ, 0);
-    return finish(CHAIN_READ, vindaskot_chain_read(b.at, b.len, f->answer));
+    IN_MODE(CHAIN_READ, 0, vindaskot_chain_read(b.at, b.len, f->answer),
+            vindaskot_chain_read_in(b.at, b.len, mode == CHECKED, f->answer));
 }
 
 struct told call_chain_record(struct bytes b, size_t number)
 {
-    struct frame *f = begin(CHAIN_RECORD, 0);
-    return finish(CHAIN_RECORD, vindaskot_chain_record(b.at, b.len, number, f->slots, f->answer));
+    IN_MODE(CHAIN_RECORD, 0, vindaskot_chain_record(b.at, b.len, number, f->slots, f->answer),
+            vindaskot_chain_record_in(b.at, b.len, mode == CHECKED, number, f->slots, f->answer));
 }
 
 struct told call_symbol_flags_read(struct bytes b)
@@ -347,22 +383,27 @@ struct told call_field_write(const struct parts *p, struct room out)
 
 struct told call_index_build(struct bytes b, struct room slots)
 {
-    struct frame *f = begin_out(INDEX_BUILD, slots);
-    uint32_t status = vindaskot_index_build(b.at, b.len, (uint32_t *)(void *)slots.at, slots.len / 4, f->answer);
-    return finish_out(INDEX_BUILD, status, slots, 4);
+    uint32_t *at = (uint32_t *)(void *)slots.at;
+    const size_t count = slots.len / 4;
+    enum function function = mode == PRESENT ? INDEX_BUILD : INDEX_BUILD_IN;
+    struct frame *f = begin_out(function, slots);
+    uint32_t status = mode == PRESENT ? vindaskot_index_build(b.at, b.len, at, count, f->answer)
+                                      : vindaskot_index_build_in(b.at, b.len, mode == CHECKED, at, count, f->answer);
+    return finish_out(function, status, slots, 4);
 }
 
-struct told call_find(struct bytes b, struct bytes name)
+struct told call_find(struct bytes b, struct bytes n)
 {
-    struct frame *f = begin(FIND, 0);
-    return finish(FIND, vindaskot_find(b.at, b.len, name.at, name.len, f->answer));
+    IN_MODE(FIND, 0, vindaskot_find(b.at, b.len, n.at, n.len, f->answer),
+            vindaskot_find_in(b.at, b.len, mode == CHECKED, n.at, n.len, f->answer));
 }
 
-struct told call_find_indexed(struct bytes b, struct bytes slots, struct bytes name)
+struct told call_find_indexed(struct bytes b, struct bytes slots, struct bytes n)
 {
-    struct frame *f = begin(FIND_INDEXED, 0);
     const uint32_t *at = (const uint32_t *)(const void *)slots.at;
-    return finish(FIND_INDEXED, vindaskot_find_indexed(b.at, b.len, at, slots.len / 4, name.at, name.len, f->answer));
+    const size_t count = slots.len / 4;
+    IN_MODE(FIND_INDEXED, 0, vindaskot_find_indexed(b.at, b.len, at, count, n.at, n.len, f->answer),
+            vindaskot_find_indexed_in(b.at, b.len, mode == CHECKED, at, count, n.at, n.len, f->answer));
 }
 
 struct told call_decode(struct bytes src, struct room out)

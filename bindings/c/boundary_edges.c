@@ -694,27 +694,36 @@ static void other_statuses(void)
     SAME(WRITES, call_field_write(&p, lend(80)), refused(9, 1, 0));
 }
 
+/* What reads, in the mode that is being tried. */
+static void try_mode(void)
+{
+    try_empty(lay(UPLOAD, text("")), empty_room);
+    try_empty((struct bytes){NULL, 0}, null_room);
+    every_room_slots();
+    try_names();
+    try_capitals();
+    try_highs();
+    try_ends();
+    refused_symbols();
+    refused_fields();
+    other_statuses();
+}
+
 void try_edges(void)
 {
     draft_rich();
     for (side = 0; side < SIDES; side++) {
-        try_empty(lay(UPLOAD, text("")), empty_room);
-        try_empty((struct bytes){NULL, 0}, null_room);
+        for (mode = 0; mode < MODES; mode++)
+            try_mode();
+        mode = PRESENT;
         every_room_records();
         every_room_entries();
         every_room_texts();
-        every_room_slots();
         try_neighbours();
         long_records();
         long_strings();
         long_counts();
         long_guids();
-        try_names();
-        try_capitals();
-        try_highs();
-        refused_symbols();
-        refused_fields();
-        other_statuses();
     }
 }
 
@@ -863,6 +872,27 @@ static struct bytes long_chain(size_t len, size_t *count)
     return (struct bytes){at, len};
 }
 
+/* An end byte that is not 0 at the last place that there is: of a chain by itself, and of a symbol's. */
+static void limit_ends(size_t len)
+{
+    struct parts p = laid(&chained);
+    uint8_t *at = area(UPLOAD, len);
+    struct bytes b = lay(UPLOAD, long_chain(len, &p.links));
+    at[len - 1] = 0xFF;
+    SAME(LIMITS, call_chain_read(b), at_limit(len, mode == CHECKED ? refused(16, len - 1, 0xFF) : done(p.links, len)));
+    static struct buffer entry;
+    entry.len = 0;
+    put_symbol(&entry, &(struct parts){.flags = chained.flags, .extended = chained.extended});
+    struct bytes chain = long_chain(len - 37, &p.links);
+    b = grown(&entry, len, true);
+    memcpy(at + 37, chain.at, chain.len);
+    struct told sound = call_symbol_read(b);
+    at[len - 1] = 0xFF;
+    struct told want = at_limit(len, mode == CHECKED ? refused(16, len - 1, 0xFF) : sound);
+    SAME(LIMITS, call_symbol_read(b), want);
+    SAME(LIMITS, call_symbol_step(b, 0), moved(want, len));
+}
+
 static void limit_writes(size_t len)
 {
     struct parts p = laid(&chained);
@@ -891,10 +921,14 @@ void try_limits(void)
 {
     for (side = 0; side < SIDES; side++)
         for (size_t len = VINDASKOT_LIMIT; len <= VINDASKOT_LIMIT + 1; len++) {
-            limit_symbol(len);
-            limit_field(len);
-            limit_records(len);
-            limit_finds(len);
+            for (mode = 0; mode < MODES; mode++) {
+                limit_symbol(len);
+                limit_field(len);
+                limit_records(len);
+                limit_finds(len);
+                limit_ends(len);
+            }
+            mode = PRESENT;
             limit_texts(len);
             limit_writes(len);
         }

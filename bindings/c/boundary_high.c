@@ -165,8 +165,7 @@ static void told_apart(size_t len)
         ask_all(lay(UPLOAD, part(whole(&entry), 0, len)), i == 0 ? zeros : told);
         for (size_t k = 0; i > 0 && k < ASKED; k++) {
             struct told want = zeros[k];
-            bool record = want.function == SYMBOL_READ || want.function == SYMBOL_STEP;
-            if (record && want.status == VINDASKOT_DONE)
+            if (tells_symbol(want))
                 want.slots[VINDASKOT_SYMBOL_HIGH] = telling[i].number;
             SAME(HIGHS_APART, told[k], want);
         }

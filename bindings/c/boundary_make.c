@@ -374,15 +374,111 @@ void make_random(struct buffer *to)
         believe(to, one_in(2) ? 30 : 42);
 }
 
+/* ---- End bytes ---- */
+
+/* Where the end bytes of what was made last stand, in the order in which it has them. */
+static struct ends {
+    size_t at[3 + 3 * SOME];
+    size_t count;
+} ends;
+
+/* The end byte of a string there, of that length; the place after it. */
+static size_t end_after(size_t at, size_t len)
+{
+    ends.at[ends.count++] = at + len;
+    return at + len + 1;
+}
+
+/* Those of an entry's strings, of attributes and of a chain's records, which stand there; the place after them. */
+static size_t ends_of_strings(size_t at, const struct parts *p)
+{
+    ends.count = 0;
+    return end_after(end_after(end_after(at, p->name.len), p->type_name.len), p->comment.len);
+}
+
+static size_t ends_of_attributes(size_t at, const struct draft *d)
+{
+    for (size_t i = 0; i < d->parts.count; i++)
+        at = end_after(end_after(at + 2, d->names[i].len), d->values[i].len);
+    return at;
+}
+
+static size_t ends_of_chain(size_t at, const struct draft *d)
+{
+    for (size_t i = 0; i < d->parts.links; i++)
+        at = end_after(at + 6, d->formers[i].len);
+    return at;
+}
+
+static void ends_of_symbol(size_t start, const struct draft *d)
+{
+    const struct parts *p = &d->parts;
+    size_t at = ends_of_strings(start + 30, p) + p->guid.len;
+    if ((p->flags & VINDASKOT_SYMBOL_FLAG_ATTRIBUTES) != 0)
+        at = ends_of_attributes(at + 2, d);
+    if ((p->flags & VINDASKOT_SYMBOL_FLAG_EXTENDED_FLAGS) != 0)
+        ends_of_chain(at + 4, d);
+}
+
+/* Any byte but 0; often the least, the largest or the first that is negative where a byte has a sign. */
+static uint8_t no_zero(void)
+{
+    static const uint8_t telling[] = {1, 0x80, 0xFF};
+    return one_in(2) ? telling[below(3)] : (uint8_t)(1 + below(255));
+}
+
+/* One in three times, one to three of the end bytes are not 0. */
+static void maybe_spoil_ends(struct buffer *to)
+{
+    for (size_t left = one_in(3) ? 1 + below(3) : 0; left > 0 && ends.count > 0; left--)
+        to->at[ends.at[below(ends.count)]] = no_zero();
+}
+
+/* A record that can be read, an attribute or one of a chain, one of whose end bytes is not 0. */
+static void put_wrong_record(struct buffer *to)
+{
+    struct bytes name = part(whole(&made.pool), 0, below(5));
+    if (one_in(2))
+        put_attribute(to, name, name);
+    else
+        put_refactor(to, 0, name);
+    to->at[to->len - 1] = no_zero();
+}
+
+/* Bytes behind the sections, or the last of them gone, and the entry claims what it then has. */
+static void grow_or_cut(struct buffer *to, size_t start)
+{
+    size_t way = below(12);
+    if (way < 3)
+        put_any(to, below(20));
+    else if (way == 3)
+        put_wrong_record(to);
+    else if (way < 6)
+        to->len -= below(to->len - start < 40 ? to->len - start : 40);
+    if (to->len - start >= 4)
+        set_claim(to, start, to->len - start);
+    if (way == 6)
+        put_wrong_record(to);
+}
+
 void make_symbol(struct buffer *to)
 {
     size_t start = to->len;
     draft_symbol(&made);
     put_symbol(to, &made.parts);
-    if (one_in(4)) {
-        put_any(to, below(20));
-        set_claim(to, start, to->len - start);
-    }
+    ends_of_symbol(start, &made);
+    maybe_spoil_ends(to);
+    grow_or_cut(to, start);
+}
+
+/* An entry as a sub-item or a method may be one, with an end byte that is not 0. */
+static void put_wrong_item(struct buffer *to)
+{
+    const struct parts small = {.name = text("n"), .type_name = text("T"), .comment = text("c")};
+    size_t start = to->len;
+    put_field_head(to, &small, 0, 0);
+    set_claim(to, start, to->len - start);
+    to->at[start + 43 + 2 * below(3)] = no_zero();
 }
 
 /* Items that begin with their length, which may lie. */
@@ -391,9 +487,35 @@ static void put_items(struct buffer *to, size_t count)
     static const uint32_t lies[] = {0, 1, 2, 3, 6, 200, 0x7FFFFFFF, 0xFFFFFFFF};
     for (size_t i = 0; i < count; i++) {
         size_t len = 4 + below(9);
+        if (one_in(4)) {
+            put_wrong_item(to);
+            continue;
+        }
         put_number(to, one_in(6) ? lies[below(8)] : len, 4);
         put_any(to, len - 4);
     }
+}
+
+/* What stands between a field's strings and its attributes, as a controller sends it. */
+static void put_skipped(struct buffer *to, const struct parts *p, size_t arrays, size_t items)
+{
+    put_any(to, 8 * arrays);
+    put_items(to, items);
+    put_field_guid(to, p);
+    if ((p->flags & VINDASKOT_TYPE_FLAG_COPY_MASK) != 0)
+        put_any(to, p->numbers[3] < 4000 ? p->numbers[3] : below(40));
+    if ((p->flags & VINDASKOT_TYPE_FLAG_METHOD_INFOS) != 0) {
+        size_t methods = below(4);
+        put_number(to, methods, 2);
+        put_items(to, methods);
+    }
+}
+
+static void put_field_block(struct buffer *to, const struct draft *d)
+{
+    if ((d->parts.flags & VINDASKOT_TYPE_FLAG_ATTRIBUTES) != 0)
+        ends_of_attributes(to->len + 2, d);
+    put_block(to, &d->parts, VINDASKOT_TYPE_FLAG_ATTRIBUTES);
 }
 
 /* A field as a controller sends it, with what the writer never writes. */
@@ -405,20 +527,11 @@ void make_field(struct buffer *to)
     if (one_in(8))
         p->numbers[3] = (uint32_t)any();
     put_field_head(to, p, arrays, items);
-    put_any(to, 8 * arrays);
-    put_items(to, items);
-    put_field_guid(to, p);
-    if ((p->flags & VINDASKOT_TYPE_FLAG_COPY_MASK) != 0)
-        put_any(to, p->numbers[3] < 4000 ? p->numbers[3] : below(40));
-    if ((p->flags & VINDASKOT_TYPE_FLAG_METHOD_INFOS) != 0) {
-        size_t methods = below(4);
-        put_number(to, methods, 2);
-        put_items(to, methods);
-    }
-    put_block(to, p, VINDASKOT_TYPE_FLAG_ATTRIBUTES);
-    if (one_in(4))
-        put_any(to, below(20));
-    set_claim(to, start, to->len - start);
+    ends_of_strings(start + 42, p);
+    put_skipped(to, p, arrays, items);
+    put_field_block(to, &made);
+    maybe_spoil_ends(to);
+    grow_or_cut(to, start);
 }
 
 /* A chain, or attributes, and what stands behind them. */
@@ -427,9 +540,149 @@ void make_records(struct buffer *to)
     draft_symbol(&made);
     draft_attributes(&made);
     draft_chain(&made);
-    put(to, one_in(2) ? made.parts.block : made.parts.chain);
+    ends.count = 0;
+    if (one_in(2)) {
+        ends_of_attributes(to->len, &made);
+        put(to, made.parts.block);
+    } else {
+        ends_of_chain(to->len, &made);
+        put(to, made.parts.chain);
+    }
+    maybe_spoil_ends(to);
     if (one_in(3))
         put_any(to, below(20));
+}
+
+/* ---- Entries that are wrong in a single end byte, or right beside one ---- */
+
+/* Where that byte stands. */
+enum wrong {
+    IN_NAME,
+    IN_TYPE,
+    IN_COMMENT,
+    IN_ATTRIBUTE_NAME,
+    IN_ATTRIBUTE_VALUE,
+    BEFORE_SHORT,  /* in an attribute, and the last attribute is short */
+    WITHIN_SHORT,  /* in the last attribute, which is short */
+    SYMBOLS_ALONE, /* what follows only symbols have */
+    IN_CHAIN = SYMBOLS_ALONE,
+    IN_DROPPED, /* in a chain whose last record is short */
+    IN_UNREAD,  /* in a record behind the last section */
+    FIELDS_ALONE,
+    IN_ITEM = FIELDS_ALONE, /* in a sub-item */
+    IN_METHOD,
+    WRONGS
+};
+
+/* A draft whose attributes are its last section: two or more, none of whose values is empty. */
+static void draft_attributed(bool field)
+{
+    struct parts *p = &made.parts;
+    bool empty = true;
+    (field ? draft_field : draft_symbol)(&made);
+    p->flags |= VINDASKOT_SYMBOL_FLAG_ATTRIBUTES | VINDASKOT_TYPE_FLAG_ATTRIBUTES;
+    p->flags &= ~(field ? VINDASKOT_TYPE_FLAG_METHOD_INFOS : VINDASKOT_SYMBOL_FLAG_EXTENDED_FLAGS);
+    p->extended = 0;
+    p->links = p->chain.len = 0;
+    while (empty) {
+        draft_attributes(&made);
+        empty = p->count < 2;
+        for (size_t i = 0; i < p->count; i++)
+            empty |= made.values[i].len == 0;
+    }
+}
+
+/* A symbol with a chain of two or more records, whose last name is not empty. */
+static void draft_chained(void)
+{
+    struct parts *p = &made.parts;
+    draft_symbol(&made);
+    p->flags |= VINDASKOT_SYMBOL_FLAG_EXTENDED_FLAGS;
+    p->extended = VINDASKOT_SYMBOL2_FLAG_REFACTOR_INFO;
+    do
+        draft_chain(&made);
+    while (p->links < 2 || made.formers[p->links - 1].len == 0);
+}
+
+/* Which of the end bytes is wrong: the last of them but so many. */
+static size_t from_last(size_t back)
+{
+    return ends.at[ends.count - 1 - back];
+}
+
+/* An entry without what a field skips, one of whose end bytes is not 0. */
+static void put_wrong_end(struct buffer *to, enum wrong wrong, bool field)
+{
+    size_t start = to->len, place;
+    (field ? put_field : put_symbol)(to, &made.parts);
+    if (field) {
+        ends_of_strings(start + 42, &made.parts);
+        ends_of_attributes(to->len - made.parts.block.len, &made);
+    } else {
+        ends_of_symbol(start, &made);
+    }
+    switch (wrong) {
+    case IN_ATTRIBUTE_NAME: place = ends.at[3 + 2 * below(made.parts.count)]; break;
+    case IN_ATTRIBUTE_VALUE: place = ends.at[4 + 2 * below(made.parts.count)]; break;
+    case BEFORE_SHORT: place = ends.at[3 + below(2 * made.parts.count - 2)]; break;
+    case WITHIN_SHORT: place = from_last(1); break;
+    case IN_CHAIN: place = from_last(below(made.parts.links)); break;
+    case IN_DROPPED: place = from_last(1 + below(made.parts.links - 1)); break;
+    case IN_UNREAD:
+        put_wrong_record(to);
+        place = to->len - 1;
+        break;
+    default: place = ends.at[wrong];
+    }
+    to->at[place] = no_zero();
+    if (wrong == BEFORE_SHORT || wrong == WITHIN_SHORT || wrong == IN_DROPPED)
+        to->len -= 1;
+    set_claim(to, start, to->len - start);
+}
+
+/* A field that skips one, with its right length. */
+static void put_wrong_skipped(struct buffer *to, enum wrong wrong)
+{
+    size_t start = to->len;
+    put_field_head(to, &made.parts, 0, wrong == IN_ITEM);
+    if (wrong == IN_ITEM)
+        put_wrong_item(to);
+    put_field_guid(to, &made.parts);
+    if ((made.parts.flags & VINDASKOT_TYPE_FLAG_COPY_MASK) != 0)
+        put_zeros(to, made.parts.numbers[3]);
+    if (wrong == IN_METHOD) {
+        put_number(to, 1, 2);
+        put_wrong_item(to);
+    }
+    put_block(to, &made.parts, VINDASKOT_TYPE_FLAG_ATTRIBUTES);
+    set_claim(to, start, to->len - start);
+}
+
+static void put_wrong(struct buffer *to, enum wrong wrong, bool field)
+{
+    if (wrong == IN_CHAIN || wrong == IN_DROPPED)
+        draft_chained();
+    else
+        draft_attributed(field);
+    if (wrong == IN_METHOD)
+        made.parts.flags |= VINDASKOT_TYPE_FLAG_METHOD_INFOS;
+    if (wrong >= FIELDS_ALONE)
+        put_wrong_skipped(to, wrong);
+    else
+        put_wrong_end(to, wrong, field);
+}
+
+/* One of each, of symbols and of fields where both can be so, from any of them on: so that each such upload has them
+ * all. */
+void make_wrong(struct buffer *to)
+{
+    for (size_t i = 0, from = below(WRONGS); i < WRONGS; i++) {
+        enum wrong wrong = (enum wrong)((from + i) % WRONGS);
+        if (wrong < FIELDS_ALONE)
+            put_wrong(to, wrong, false);
+        if (wrong < SYMBOLS_ALONE || wrong >= FIELDS_ALONE)
+            put_wrong(to, wrong, true);
+    }
 }
 
 /* ---- Names in another case ---- */
@@ -484,8 +737,8 @@ static void next_name(struct room name, size_t number)
         miss_case(name);
 }
 
-/* Entries whose names differ in case alone, or nearly so. The first two are sound, so that each such upload has
- * them. */
+/* Entries whose names differ in case alone, or nearly so. The first two are accepted in the present mode, so that each
+ * such upload has them; in the checked one some are passed over. */
 void make_family(struct buffer *to)
 {
     static struct buffer entry;
@@ -498,6 +751,8 @@ void make_family(struct buffer *to)
         made.parts.name = (struct bytes){name.at, name.len};
         entry.len = 0;
         (field ? put_field : put_symbol)(&entry, &made.parts);
+        ends_of_strings(field ? 42 : 30, &made.parts);
+        maybe_spoil_ends(&entry);
         if (number > 1 && one_in(4))
             damage(&entry, 30);
         put(to, whole(&entry));

@@ -12,6 +12,7 @@
 enum { ROOM = 52 << 20, AROUND = 64, PATTERN = 4096 };
 
 enum side side;
+enum mode mode;
 
 static uint8_t *low[AREAS], *high[AREAS];
 

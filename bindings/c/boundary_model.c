@@ -1,6 +1,7 @@
-/* What document 01, for finding request W-201 and for bytes 22 and 23 request W-205 say the answer is, worked out from
- * the bytes in plain C. It shares no code with the library. Where 01 leaves a choice it follows docs/DECISIONS.md.
- * Slots and flags go by the header's names, so that a header that gives one of them another number is found. */
+/* What document 01, for finding request W-201, for bytes 22 and 23 request W-205 and for end bytes request W-212 say
+ * the answer is, worked out from the bytes in plain C, in the mode that is being tried. It shares no code with the
+ * library. Where 01 leaves a choice it follows docs/DECISIONS.md. Slots and flags go by the header's names, so that a
+ * header that gives one of them another number is found. */
 #include "boundary.h"
 
 const size_t symbol_numbers[4] = {VINDASKOT_SYMBOL_INDEX_GROUP, VINDASKOT_SYMBOL_INDEX_OFFSET, VINDASKOT_SYMBOL_SIZE,
@@ -69,9 +70,27 @@ static struct told refused_size(size_t len)
     return refused(5, VINDASKOT_LIMIT, len);
 }
 
+/* ---- End bytes ---- */
+
+static uint8_t end_byte(struct bytes b, const uint64_t *slots, struct run string)
+{
+    return b.at[slots[string.place] + slots[string.len]];
+}
+
+/* What was read, unless a string of it that the checked mode comes to has an end byte that is not 0. Its length is
+ * known to be there: "16, after the length checks of that same string group". */
+static struct told ended(struct bytes b, struct told read, const struct run *strings, size_t count)
+{
+    const uint64_t *s = read.slots;
+    for (size_t i = 0; mode == CHECKED && read.status == VINDASKOT_DONE && i < count; i++)
+        if (end_byte(b, s, strings[i]) != 0)
+            return refused(16, s[strings[i].place] + s[strings[i].len], end_byte(b, s, strings[i]));
+    return read;
+}
+
 /* ---- Records ---- */
 
-static struct told attribute_at(struct bytes b, size_t at)
+static struct told plain_attribute_at(struct bytes b, size_t at)
 {
     size_t left = left_at(b, at);
     if (left < 4)
@@ -86,6 +105,12 @@ static struct told attribute_at(struct bytes b, size_t at)
                                    [VINDASKOT_ATTRIBUTE_NEXT] = at + name + value + 4}};
 }
 
+static struct told attribute_at(struct bytes b, size_t at)
+{
+    const struct run strings[] = {attribute_name, attribute_value};
+    return ended(b, plain_attribute_at(b, at), strings, 2);
+}
+
 /* A record that was read: its masked number, which has the follower bit, and its name's place and length. */
 struct told refactor_told(uint64_t count, size_t name, size_t len)
 {
@@ -96,7 +121,7 @@ struct told refactor_told(uint64_t count, size_t name, size_t len)
                                    [VINDASKOT_REFACTOR_NEXT] = name + len + 1}};
 }
 
-static struct told refactor_at(struct bytes b, size_t at)
+static struct told plain_refactor_at(struct bytes b, size_t at)
 {
     size_t left = left_at(b, at);
     if (left < 7)
@@ -106,6 +131,11 @@ static struct told refactor_at(struct bytes b, size_t at)
         return refused(2, name + 7, left);
     uint64_t packed = number_at(b, at, 4);
     return refactor_told(packed & COUNT_MASK, at + 6, name);
+}
+
+static struct told refactor_at(struct bytes b, size_t at)
+{
+    return ended(b, plain_refactor_at(b, at), &refactor_name, 1);
 }
 
 static struct told chain_at(struct bytes b, size_t at)
@@ -209,7 +239,9 @@ static size_t guid_of(struct bytes e, size_t at, bool flagged, struct told *told
     return at + 16;
 }
 
-static size_t symbol_sections(struct bytes e, size_t at, struct told *told)
+/* The place after the sections. Of the refusals of a record 16 is the entry's own; the others end a symbol's list, or
+ * drop its chain, silently. */
+static size_t symbol_sections(struct bytes e, size_t at, struct told *told, struct told *refusal)
 {
     uint64_t *s = told->slots;
     uint64_t flags = s[VINDASKOT_SYMBOL_FLAGS];
@@ -217,6 +249,9 @@ static size_t symbol_sections(struct bytes e, size_t at, struct told *told)
     struct list list = attributes_at(e, at, (flags & VINDASKOT_SYMBOL_FLAG_ATTRIBUTES) != 0);
     s[VINDASKOT_SYMBOL_ATTRIBUTES] = list.first;
     s[VINDASKOT_SYMBOL_ATTRIBUTE_COUNT] = list.count;
+    *refusal = list.stopped;
+    if (refusal->status == 16)
+        return at;
     at = list.next;
     if ((flags & VINDASKOT_SYMBOL_FLAG_EXTENDED_FLAGS) != 0 && left_at(e, at) >= 4) {
         s[VINDASKOT_SYMBOL_HAS_EXTENDED] = 1;
@@ -225,10 +260,10 @@ static size_t symbol_sections(struct bytes e, size_t at, struct told *told)
     }
     s[VINDASKOT_SYMBOL_REFACTORS] = at;
     if ((s[VINDASKOT_SYMBOL_EXTENDED_FLAGS] & VINDASKOT_SYMBOL2_FLAG_REFACTOR_INFO) != 0 && left_at(e, at) > 0) {
-        struct told chain = chain_at(e, at);
-        if (chain.status == VINDASKOT_DONE) {
-            s[VINDASKOT_SYMBOL_REFACTOR_COUNT] = chain.answer[0];
-            at = (size_t)chain.answer[1];
+        *refusal = chain_at(e, at);
+        if (refusal->status == VINDASKOT_DONE) {
+            s[VINDASKOT_SYMBOL_REFACTOR_COUNT] = refusal->answer[0];
+            at = (size_t)refusal->answer[1];
         }
     }
     return at;
@@ -237,20 +272,22 @@ static size_t symbol_sections(struct bytes e, size_t at, struct told *told)
 /* An entry's own bytes. */
 static struct told symbol_entry(struct bytes e)
 {
-    struct told told = done(0, 0);
+    struct told told = done(0, 0), refusal;
     uint64_t *s = told.slots;
     if (e.len < 30)
         return refused(2, 30, e.len);
     size_t at = strings_of(e, 30, 24, symbol_strings, s);
     if (e.len < at)
         return refused(3, at, e.len);
+    if (ended(e, told, symbol_strings, 3).status == 16)
+        return ended(e, told, symbol_strings, 3);
     s[VINDASKOT_SYMBOL_LENGTH] = e.len;
     for (size_t i = 0; i < 4; i++)
         s[symbol_numbers[i]] = number_at(e, 4 + 4 * i, 4);
     s[VINDASKOT_SYMBOL_FLAGS] = number_at(e, 20, 2);
     s[VINDASKOT_SYMBOL_HIGH] = number_at(e, 22, 2);
-    s[VINDASKOT_SYMBOL_UNREAD] = left_at(e, symbol_sections(e, at, &told));
-    return told;
+    s[VINDASKOT_SYMBOL_UNREAD] = left_at(e, symbol_sections(e, at, &told, &refusal));
+    return refusal.status == 16 ? refusal : told;
 }
 
 /* Sub-items or methods: each begins with its length. */
@@ -283,6 +320,8 @@ static struct told field_entry(struct bytes e)
     size_t at = strings_of(e, 42, 32, field_strings, s);
     if (e.len < at)
         return refused(3, at, e.len);
+    if (ended(e, told, field_strings, 3).status == 16)
+        return ended(e, told, field_strings, 3);
     s[VINDASKOT_FIELD_LENGTH] = e.len;
     for (size_t i = 0; i < 7; i++)
         s[field_numbers[i]] = number_at(e, 4 + 4 * i, 4);
@@ -501,17 +540,11 @@ struct told model_find_indexed(struct bytes b, struct bytes slots, struct bytes 
 
 /* ---- Writing ---- */
 
-/* The byte after a string that a record tells. */
-static uint8_t end_byte(struct bytes b, const uint64_t *slots, struct run string)
-{
-    return b.at[slots[string.place] + slots[string.len]];
-}
-
 static struct told good_attributes(size_t count, struct bytes block)
 {
     size_t at = 0, good = 0;
     for (; good < count; good++) {
-        struct told a = attribute_at(block, at);
+        struct told a = plain_attribute_at(block, at);
         const uint64_t *s = a.slots;
         if (a.status != VINDASKOT_DONE || end_byte(block, s, attribute_name) != 0 ||
             end_byte(block, s, attribute_value) != 0)
@@ -525,7 +558,7 @@ static struct told good_refactors(size_t count, struct bytes block)
 {
     size_t at = 0, good = 0;
     for (; good < count; good++) {
-        struct told r = refactor_at(block, at);
+        struct told r = plain_refactor_at(block, at);
         const uint64_t *s = r.slots;
         if (r.status != VINDASKOT_DONE || end_byte(block, s, refactor_name) != 0)
             break;

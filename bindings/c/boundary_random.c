@@ -5,6 +5,42 @@
 static struct buffer input;
 static struct draft draft;
 
+/* ---- The checked mode beside the present one ---- */
+
+/* What is told in the present mode, whichever is being tried. */
+static struct told at_present(reading read, struct bytes b)
+{
+    enum mode trying = mode;
+    mode = PRESENT;
+    struct told told = read(b);
+    mode = trying;
+    return told;
+}
+
+static struct told step_at_present(stepping step, struct bytes b, size_t cursor)
+{
+    enum mode trying = mode;
+    mode = PRESENT;
+    struct told told = step(b, cursor);
+    mode = trying;
+    return told;
+}
+
+/* W-212: "Everything else stays". What the checked mode does not refuse for an end byte it tells as the present one
+ * does, and for an end byte it refuses only where that byte, which it tells, is not 0. Places count from the start of
+ * b. */
+static void check_stays(struct bytes b, struct told checked, struct told present)
+{
+    if (checked.status != 16) {
+        SAME(STAYS, checked, present);
+        return;
+    }
+    uint64_t place = checked.answer[0], byte = checked.answer[1];
+    CHECK(STAYS, place < b.len && byte != 0 && b.at[place] == byte && checked.cursor == present.cursor,
+          "%s: 16 (%llu, %llu), and another byte stands there or the cursor is moved otherwise",
+          name_of(checked.function), (unsigned long long)place, (unsigned long long)byte);
+}
+
 /* ---- Reading ---- */
 
 /* The slots of a record's last string, and of the place after the record. */
@@ -98,6 +134,17 @@ static void try_past(struct bytes b, const struct asked *of, const uint64_t *ent
         ask(b, of, string_of(rest, past.slots, attribute_name));
 }
 
+/* Of an entry that the checked mode refuses for an end byte: the attributes that the present mode shows are not found.
+ */
+static void try_refused_names(struct bytes b, const struct asked *of, struct told present)
+{
+    uint64_t at = present.slots[of->attributes.place];
+    for (uint64_t number = 0; number < present.slots[of->attributes.len] && number < 2; number++) {
+        ask(b, of, part(b, (size_t)at + 2, b.at[at]));
+        at += 4 + (uint64_t)b.at[at] + b.at[at + 1];
+    }
+}
+
 /* The names of an entry's attributes, of eight where there are more: each finds that attribute, or one before it that
  * has the name too. */
 static void try_names(struct bytes b, const struct asked *of, struct told entry)
@@ -120,15 +167,27 @@ static void try_names(struct bytes b, const struct asked *of, struct told entry)
         try_past(b, of, entry.slots);
 }
 
-static void try_records(struct bytes b)
+static struct told try_alone(struct bytes b, reading call, reading model)
 {
-    struct told attribute = call_attribute_read(b), refactor = call_refactor_read(b), chain = call_chain_read(b);
-    SAME(READS, attribute, model_attribute_read(b));
-    SAME(READS, refactor, model_refactor_read(b));
-    SAME(READS, chain, model_chain_read(b));
+    struct told told = call(b), want = model(b);
+    SAME(mode == CHECKED ? alone_group(b, want, READS) : READS, told, want);
+    if (mode == CHECKED)
+        check_stays(b, told, at_present(call, b));
+    return told;
+}
+
+static void try_flags(struct bytes b)
+{
     SAME(READS, call_symbol_flags_read(b), model_flags_read(b, 2));
     SAME(READS, call_symbol2_flags_read(b), model_flags_read(b, 4));
     SAME(READS, call_type_flags_read(b), model_flags_read(b, 4));
+}
+
+static void try_records(struct bytes b)
+{
+    struct told attribute = try_alone(b, call_attribute_read, model_attribute_read);
+    struct told refactor = try_alone(b, call_refactor_read, model_refactor_read);
+    struct told chain = try_alone(b, call_chain_read, model_chain_read);
     if (attribute.status == VINDASKOT_DONE)
         CHECK(PLACES, ends_within(attribute.slots, an_attribute, b.len), "an attribute ends past its bytes");
     if (refactor.status == VINDASKOT_DONE)
@@ -169,16 +228,30 @@ static void check_high(struct bytes e, const uint64_t *slots)
           (unsigned long long)slots[VINDASKOT_SYMBOL_HIGH]);
 }
 
+/* The entry at the start of b, read; what the present mode tells of it too. */
+static struct told try_read(struct bytes b, reading call, reading model,
+                            enum group (*group)(struct bytes, struct told, struct told, enum group),
+                            struct told *present)
+{
+    struct told told = call(b), want = model(b);
+    *present = mode == CHECKED ? at_present(call, b) : told;
+    SAME(mode == CHECKED ? group(b, *present, want, READS) : READS, told, want);
+    if (mode == CHECKED)
+        check_stays(b, told, *present);
+    return told;
+}
+
 static void try_symbol(struct bytes b)
 {
-    struct told told = call_symbol_read(b);
+    struct told present, told = try_read(b, call_symbol_read, model_symbol_read, symbol_group, &present);
     const uint64_t *s = told.slots, length = s[VINDASKOT_SYMBOL_LENGTH];
-    SAME(READS, told, model_symbol_read(b));
     try_numbers(b, length, s[VINDASKOT_SYMBOL_ATTRIBUTE_COUNT], an_attribute, call_symbol_attribute,
                 model_symbol_attribute);
     try_numbers(b, length, s[VINDASKOT_SYMBOL_REFACTOR_COUNT], a_refactor, call_symbol_refactor_info,
                 model_symbol_refactor_info);
     try_names(b, &of_symbol, told);
+    if (told.status == 16)
+        try_refused_names(b, &of_symbol, present);
     if (told.status != VINDASKOT_DONE)
         return;
     check_strings(b, s, symbol_strings, 30, 24, length);
@@ -191,12 +264,13 @@ static void try_symbol(struct bytes b)
 
 static void try_field(struct bytes b)
 {
-    struct told told = call_field_read(b);
+    struct told present, told = try_read(b, call_field_read, model_field_read, field_group, &present);
     const uint64_t *s = told.slots, length = s[VINDASKOT_FIELD_LENGTH];
-    SAME(READS, told, model_field_read(b));
     try_numbers(b, length, s[VINDASKOT_FIELD_ATTRIBUTE_COUNT], an_attribute, call_field_attribute,
                 model_field_attribute);
     try_names(b, &of_field, told);
+    if (told.status == 16)
+        try_refused_names(b, &of_field, present);
     if (told.status != VINDASKOT_DONE)
         return;
     check_strings(b, s, field_strings, 42, 32, length);
@@ -205,18 +279,41 @@ static void try_field(struct bytes b)
 
 /* ---- Walking ---- */
 
+/* A kind of entry that is walked. */
+struct walked {
+    stepping call, model;
+    enum group (*group)(struct bytes, struct told, struct told, enum group);
+};
+
+static const struct walked symbols = {call_symbol_step, model_symbol_step, symbol_group};
+static const struct walked fields = {call_field_step, model_field_step, field_group};
+
+/* One step. In the checked mode it goes where it goes in the present one. */
+static struct told try_step(struct bytes b, size_t cursor, const struct walked *by)
+{
+    struct told told = by->call(b, cursor), want = by->model(b, cursor);
+    if (mode == CHECKED && cursor < b.len) {
+        struct bytes left = part(b, cursor, b.len - cursor);
+        struct told present = step_at_present(by->call, b, cursor);
+        SAME(by->group(left, present, want, WALKS), told, want);
+        check_stays(left, told, present);
+    } else {
+        SAME(WALKS, told, want);
+    }
+    if (tells_symbol(told))
+        check_high(part(b, cursor, want.cursor - cursor), told.slots);
+    return told;
+}
+
 /* From a cursor to the end or to a step that does not move; how many steps it took. */
-static size_t steps_of(struct bytes b, size_t cursor, stepping call, stepping model, bool *stuck)
+static size_t steps_of(struct bytes b, size_t cursor, const struct walked *by, bool *stuck)
 {
     size_t steps = 0;
     *stuck = false;
     while (!*stuck) {
-        struct told told = call(b, cursor), want = model(b, cursor);
-        SAME(WALKS, told, want);
+        struct told told = try_step(b, cursor, by);
         if (told.status == VINDASKOT_FINISHED)
             break;
-        if (told.function == SYMBOL_STEP && want.status == VINDASKOT_DONE)
-            check_high(part(b, cursor, want.cursor - cursor), told.slots);
         steps++;
         *stuck = told.cursor <= cursor;
         CHECK(WALKS, told.cursor >= cursor && told.cursor <= b.len, "a step leads from %zu to %zu of %zu", cursor,
@@ -231,8 +328,8 @@ static size_t steps_of(struct bytes b, size_t cursor, stepping call, stepping mo
 static void try_walk_from(struct bytes b, size_t cursor)
 {
     bool stuck, field_stuck;
-    size_t steps = steps_of(b, cursor, call_symbol_step, model_symbol_step, &stuck);
-    size_t field_steps = steps_of(b, cursor, call_field_step, model_field_step, &field_stuck);
+    size_t steps = steps_of(b, cursor, &symbols, &stuck);
+    size_t field_steps = steps_of(b, cursor, &fields, &field_stuck);
     CHECK(WALKS, steps == field_steps && stuck == field_stuck, "symbols walk in %zu steps, fields in %zu", steps,
           field_steps);
     const size_t allowed[] = {0, steps - (steps > 0), steps, steps + 1, below(8), SIZE_MAX};
@@ -289,10 +386,25 @@ static bool in_bit_5_alone(struct bytes a, struct bytes b)
     return i == a.len && i == b.len;
 }
 
+/* What the present mode finds, whichever is being tried. */
+static struct told found_at_present(struct bytes b, struct bytes name)
+{
+    enum mode trying = mode;
+    mode = PRESENT;
+    struct told told = model_find(b, name);
+    mode = trying;
+    return told;
+}
+
 /* The group of a check on a symbol by name, by what is expected of it and by the names that are there. */
 static enum group finding_group(struct bytes b, struct accepted all, struct bytes name, struct told want)
 {
     bool exact = false, near = false;
+    if (mode == CHECKED) {
+        struct told present = found_at_present(b, name);
+        if (present.status != want.status || present.answer[0] != want.answer[0])
+            return FINDS_PASS;
+    }
     for (size_t i = 0; i < all.count; i++) {
         struct bytes one = name_at(b, all.starts[i]);
         exact |= equal(one, name);
@@ -342,7 +454,7 @@ static struct bytes reversed(struct accepted all)
     return lay(SLOTS, (struct bytes){(const uint8_t *)slots, 4 * all.count});
 }
 
-static struct bytes try_index(struct bytes b, struct told want, const uint32_t *starts)
+static struct bytes try_index(struct bytes b, struct told want, const uint32_t *starts, enum group group)
 {
     const size_t needed = want.status == VINDASKOT_DONE ? (size_t)want.answer[0] : 2;
     const size_t lent[] = {0, needed - (needed > 0), needed + 3, needed};
@@ -350,12 +462,32 @@ static struct bytes try_index(struct bytes b, struct told want, const uint32_t *
     for (size_t i = 0; i < sizeof lent / sizeof *lent; i++) {
         bool short_of = want.status == VINDASKOT_DONE && lent[i] < needed;
         out = lend(4 * lent[i]);
-        SAME(FINDS, call_index_build(b, out), short_of ? refused(6, needed, lent[i]) : want);
+        SAME(group, call_index_build(b, out), short_of ? refused(6, needed, lent[i]) : want);
     }
     if (want.status != VINDASKOT_DONE)
         return (struct bytes){NULL, 0};
-    CHECK(FINDS, needed == 0 || memcmp(out.at, starts, 4 * needed) == 0, "the index has other starts");
+    CHECK(group, needed == 0 || memcmp(out.at, starts, 4 * needed) == 0, "the index has other starts");
     return lay(SLOTS, (struct bytes){out.at, out.len});
+}
+
+/* In the checked mode: the names of entries that only the present one accepts, without an index and through the index
+ * of the present mode, which has them. Whether there is any. */
+static bool try_passed(struct bytes b, struct accepted all)
+{
+    static uint32_t starts[BUFFER];
+    mode = PRESENT;
+    struct told present = model_index(b, starts);
+    bool indexed = present.status == VINDASKOT_DONE;
+    struct accepted there = {starts, indexed ? (size_t)present.answer[0] : before_zero(b)};
+    mode = CHECKED;
+    struct bytes slots = {(const uint8_t *)starts, 4 * there.count};
+    size_t passed = 0;
+    for (size_t i = 0; i < there.count && passed < 2; i++)
+        if (model_symbol_step(b, starts[i]).status == 16) {
+            passed++;
+            try_name(b, lay(SLOTS, slots), name_at(b, starts[i]), all, indexed);
+        }
+    return passed > 0;
 }
 
 /* A zero claim refuses the index and not the names before it: they are asked for too, through slots of their own. */
@@ -366,7 +498,9 @@ static void try_finds(struct bytes b, struct bytes other)
     struct told want = model_index(b, starts);
     bool indexed = want.status == VINDASKOT_DONE;
     struct accepted all = {starts, indexed ? (size_t)want.answer[0] : before_zero(b)};
-    struct bytes index = try_index(b, want, starts), slots = {(const uint8_t *)starts, 4 * all.count};
+    bool passes = mode == CHECKED && try_passed(b, all);
+    struct bytes index = try_index(b, want, starts, indexed && passes ? INDEX_PASSES : FINDS);
+    struct bytes slots = {(const uint8_t *)starts, 4 * all.count};
     if (!indexed)
         index = lay(SLOTS, slots);
     for (size_t i = 0; i < all.count && i < 3; i++) {
@@ -413,14 +547,19 @@ static void try_text(struct bytes b)
     try_conversion(b, model_encode(b, wanted), wanted, call_encode);
 }
 
+/* Flag words and text have no mode. */
 static void try_input(struct bytes from, size_t some)
 {
     struct bytes b = lay(UPLOAD, from);
-    try_records(b);
-    try_symbol(b);
-    try_field(b);
-    try_walk(b, some);
-    try_finds(b, part(from, 0, from.len < 9 ? from.len : 9));
+    for (mode = 0; mode < MODES; mode++) {
+        try_records(b);
+        try_symbol(b);
+        try_field(b);
+        try_walk(b, some);
+        try_finds(b, part(from, 0, from.len < 9 ? from.len : 9));
+    }
+    mode = PRESENT;
+    try_flags(b);
     try_text(b);
     CHECK(INPUTS, equal(b, from), "an input was changed");
 }
@@ -641,6 +780,7 @@ static struct bytes at_most_255(struct bytes b)
     return part(b, 0, b.len < 256 ? b.len : 255);
 }
 
+/* Our writers end every string with 0: what they write is read back in both modes. */
 static void try_written(struct draft *d, bool field, bool spoilt, uint32_t count)
 {
     if (!spoilt && field)
@@ -668,13 +808,15 @@ static void make_case(size_t kind)
     case 3: make_records(&input); break;
     case 4: make_upload(&input); break;
     case 5: make_family(&input); break;
+    case 6: make_wrong(&input); break;
     default: make_text(&input);
     }
-    if (kind > 0 && kind != 5 && !one_in(4))
+    if (kind > 0 && kind != 5 && kind != 6 && !one_in(4))
         damage(&input, kind == 2 ? 42 : 30);
 }
 
-enum { READ_KINDS = 7, KINDS = 10 };
+/* The last two are a field and a symbol, written. */
+enum { READ_KINDS = 8, KINDS = 10 };
 
 static void try_case(uint64_t number)
 {
@@ -691,8 +833,9 @@ static void try_case(uint64_t number)
     for (side = 0; side < SIDES; side++) {
         if (kind < READ_KINDS)
             try_input(whole(&input), some);
-        else
+        for (mode = 0; kind >= READ_KINDS && mode < MODES; mode++)
             try_written(&draft, kind == READ_KINDS, spoilt, count);
+        mode = PRESENT;
     }
 }
 

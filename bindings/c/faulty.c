@@ -118,6 +118,72 @@ static uint8_t small(uint8_t c)
 uint32_t __real_vindaskot_symbol_write_2(PARAMETERS);
 #endif
 
+#if FAULT > 48
+/* What the functions that take a mode take, and the right ones. */
+#define BYTES const uint8_t *bytes, size_t bytes_len, bool checked
+#define TELLS_ENTRY uint64_t *slots, uint8_t *guid, uint64_t *answer
+#define TELLS_RECORD uint64_t *slots, uint64_t *answer
+#define NAMED const uint8_t *name, size_t name_len
+#define INDEX const uint32_t *starts, size_t count
+uint32_t __real_vindaskot_symbol_read_in(BYTES, TELLS_ENTRY);
+uint32_t __real_vindaskot_symbol_step_in(BYTES, size_t *cursor, TELLS_ENTRY);
+uint32_t __real_vindaskot_symbol_attribute_in(BYTES, size_t number, TELLS_RECORD);
+uint32_t __real_vindaskot_symbol_attribute_named_in(BYTES, NAMED, TELLS_RECORD);
+uint32_t __real_vindaskot_symbol_refactor_info_in(BYTES, size_t number, TELLS_RECORD);
+uint32_t __real_vindaskot_field_read_in(BYTES, TELLS_ENTRY);
+uint32_t __real_vindaskot_field_step_in(BYTES, size_t *cursor, TELLS_ENTRY);
+uint32_t __real_vindaskot_field_attribute_in(BYTES, size_t number, TELLS_RECORD);
+uint32_t __real_vindaskot_field_attribute_named_in(BYTES, NAMED, TELLS_RECORD);
+uint32_t __real_vindaskot_attribute_read_in(BYTES, TELLS_RECORD);
+uint32_t __real_vindaskot_refactor_read_in(BYTES, TELLS_RECORD);
+uint32_t __real_vindaskot_chain_read_in(BYTES, uint64_t *answer);
+uint32_t __real_vindaskot_chain_record_in(BYTES, size_t number, TELLS_RECORD);
+uint32_t __real_vindaskot_index_build_in(BYTES, uint32_t *starts, size_t count, uint64_t *answer);
+uint32_t __real_vindaskot_find_in(BYTES, NAMED, uint64_t *answer);
+uint32_t __real_vindaskot_find_indexed_in(BYTES, INDEX, NAMED, uint64_t *answer);
+#endif
+
+#if FAULT == 49 || FAULT == 50 || FAULT == 51 || FAULT == 52 || FAULT == 53 || FAULT == 54 || FAULT == 63 ||           \
+    FAULT == 70 || FAULT == 87
+static uint32_t told_16(uint64_t *answer, uint64_t place, uint8_t byte)
+{
+    answer[0] = place;
+    answer[1] = byte;
+    return 16;
+}
+#endif
+
+#if FAULT == 49 || FAULT == 50
+/* The first of so many items from there on, entries that begin with their length, that has an end byte which is not 0:
+ * the place of that byte, or 0. They lead to *at. */
+static uint64_t wrong_item(const uint8_t *bytes, size_t len, size_t *at, size_t count)
+{
+    uint64_t slots[VINDASKOT_FIELD_SLOTS], answer[2];
+    uint8_t guid[16];
+    for (; count > 0 && *at < len && len - *at >= 4; count--) {
+        const uint8_t *item = bytes + *at;
+        if (__real_vindaskot_field_read_in(item, len - *at, true, slots, guid, answer) == 16)
+            return *at + answer[0];
+        *at += (size_t)item[0] | (size_t)item[1] << 8 | (size_t)item[2] << 16 | (size_t)item[3] << 24;
+    }
+    return 0;
+}
+#endif
+
+#if FAULT == 62 || FAULT == 64 || FAULT == 77
+/* The bytes with a 0 in one place, which a fault does not look at. Uploads that do not fit are not tried so. */
+static uint8_t mended[70000];
+
+static bool mend(const uint8_t *bytes, size_t bytes_len, uint64_t place)
+{
+    if (bytes_len > sizeof mended)
+        return false;
+    memmove(mended, bytes, bytes_len);
+    mended[place] = 0;
+    return true;
+}
+#endif
+
 #if FAULT == 1 /* a writer changes the byte after what it wrote */
 uint32_t __real_vindaskot_attribute_write(const uint8_t *, size_t, const uint8_t *, size_t, uint8_t *, size_t,
                                           uint64_t *);
@@ -598,6 +664,492 @@ uint32_t __wrap_vindaskot_symbol_read_2(const uint8_t *bytes, size_t bytes_len, 
     slots[VINDASKOT_SYMBOL_HAS_GUID] = 1;
     slots[VINDASKOT_SYMBOL_UNREAD] -= 16;
     return status;
+}
+
+#elif FAULT == 49 /* the end bytes of a field's sub-items are looked at */
+uint32_t __wrap_vindaskot_field_read_in(BYTES, TELLS_ENTRY)
+{
+    uint64_t own[VINDASKOT_FIELD_SLOTS];
+    uint8_t other[16];
+    if (checked && __real_vindaskot_field_read_in(bytes, bytes_len, true, own, other, answer) == VINDASKOT_DONE) {
+        size_t at = (size_t)(own[VINDASKOT_FIELD_COMMENT] + own[VINDASKOT_FIELD_COMMENT_LEN]) + 1 +
+                    8 * (size_t)(bytes[38] | bytes[39] << 8);
+        uint64_t place =
+            wrong_item(bytes, (size_t)own[VINDASKOT_FIELD_LENGTH], &at, (size_t)(bytes[40] | bytes[41] << 8));
+        if (place > 0)
+            return told_16(answer, place, bytes[place]);
+    }
+    return __real_vindaskot_field_read_in(bytes, bytes_len, checked, slots, guid, answer);
+}
+
+#elif FAULT == 50 /* the end bytes of a field's methods are looked at, where nothing else stands before them */
+uint32_t __wrap_vindaskot_field_read_in(BYTES, TELLS_ENTRY)
+{
+    uint64_t own[VINDASKOT_FIELD_SLOTS];
+    uint8_t other[16];
+    if (checked && __real_vindaskot_field_read_in(bytes, bytes_len, true, own, other, answer) == VINDASKOT_DONE &&
+        (own[VINDASKOT_FIELD_FLAGS] & VINDASKOT_TYPE_FLAG_METHOD_INFOS) != 0 &&
+        (own[VINDASKOT_FIELD_FLAGS] & VINDASKOT_TYPE_FLAG_COPY_MASK) == 0 && (bytes[38] | bytes[40]) == 0) {
+        size_t len = (size_t)own[VINDASKOT_FIELD_LENGTH];
+        size_t at = (size_t)(own[VINDASKOT_FIELD_COMMENT] + own[VINDASKOT_FIELD_COMMENT_LEN]) + 1 +
+                    16 * (size_t)own[VINDASKOT_FIELD_HAS_GUID];
+        size_t count = at + 2 <= len ? (size_t)(bytes[at] | bytes[at + 1] << 8) : 0;
+        at += 2;
+        uint64_t place = wrong_item(bytes, len, &at, count);
+        if (place > 0)
+            return told_16(answer, place, bytes[place]);
+    }
+    return __real_vindaskot_field_read_in(bytes, bytes_len, checked, slots, guid, answer);
+}
+
+#elif FAULT == 51 /* unread bytes are looked at, as one more attribute */
+uint32_t __wrap_vindaskot_symbol_read_in(BYTES, TELLS_ENTRY)
+{
+    uint64_t own[VINDASKOT_SYMBOL_SLOTS], one[VINDASKOT_ATTRIBUTE_SLOTS];
+    uint8_t other[16];
+    if (checked && __real_vindaskot_symbol_read_in(bytes, bytes_len, true, own, other, answer) == VINDASKOT_DONE) {
+        size_t unread = (size_t)own[VINDASKOT_SYMBOL_UNREAD], at = (size_t)own[VINDASKOT_SYMBOL_LENGTH] - unread;
+        if (vindaskot_attribute_read_in(bytes + at, unread, true, one, answer) == 16)
+            return told_16(answer, at + answer[0], (uint8_t)answer[1]);
+    }
+    return __real_vindaskot_symbol_read_in(bytes, bytes_len, checked, slots, guid, answer);
+}
+
+#elif FAULT == 52 /* bytes behind the entry are looked at, as one more attribute */
+uint32_t __wrap_vindaskot_symbol_read_in(BYTES, TELLS_ENTRY)
+{
+    uint64_t own[VINDASKOT_SYMBOL_SLOTS], one[VINDASKOT_ATTRIBUTE_SLOTS];
+    uint8_t other[16];
+    if (checked && __real_vindaskot_symbol_read_in(bytes, bytes_len, true, own, other, answer) == VINDASKOT_DONE) {
+        size_t at = (size_t)own[VINDASKOT_SYMBOL_LENGTH];
+        if (vindaskot_attribute_read_in(bytes + at, bytes_len - at, true, one, answer) == 16)
+            return told_16(answer, at + answer[0], (uint8_t)answer[1]);
+    }
+    return __real_vindaskot_symbol_read_in(bytes, bytes_len, checked, slots, guid, answer);
+}
+
+#elif FAULT == 53 /* the end byte of an attribute's name comes before the record's length */
+uint32_t __wrap_vindaskot_attribute_read_in(BYTES, TELLS_RECORD)
+{
+    uint32_t status = __real_vindaskot_attribute_read_in(bytes, bytes_len, checked, slots, answer);
+    if (checked && status == 1 && bytes_len > 2u + bytes[0] && bytes[2 + bytes[0]] != 0)
+        return told_16(answer, 2u + bytes[0], bytes[2 + bytes[0]]);
+    return status;
+}
+
+#elif FAULT == 54 /* the end byte of an entry's name comes before the lengths of its strings */
+uint32_t __wrap_vindaskot_symbol_read_in(BYTES, TELLS_ENTRY)
+{
+    uint32_t status = __real_vindaskot_symbol_read_in(bytes, bytes_len, checked, slots, guid, answer);
+    /* A claim beyond the data is the first figure of its 3; strings that leave the entry need more than it claims. */
+    size_t claim = status == 3 ? (size_t)bytes[0] | (size_t)bytes[1] << 8 | (size_t)bytes[2] << 16 : 0;
+    size_t end = status == 3 ? 30 + (size_t)(bytes[24] | bytes[25] << 8) : 0;
+    if (!checked || status != 3 || bytes[3] != 0 || claim > bytes_len || end >= claim || bytes[end] == 0)
+        return status;
+    return told_16(answer, end, bytes[end]);
+}
+
+#elif FAULT == 55 /* in the checked mode a short attribute refuses a symbol */
+uint32_t __wrap_vindaskot_symbol_step_in(BYTES, size_t *cursor, TELLS_ENTRY)
+{
+    uint64_t own[VINDASKOT_SYMBOL_SLOTS], one[VINDASKOT_ATTRIBUTE_SLOTS];
+    uint8_t other[16];
+    size_t next = *cursor;
+    if (!checked || __real_vindaskot_symbol_step_in(bytes, bytes_len, true, &next, own, other, answer) != 0 ||
+        (own[VINDASKOT_SYMBOL_FLAGS] & VINDASKOT_SYMBOL_FLAG_ATTRIBUTES) == 0)
+        return __real_vindaskot_symbol_step_in(bytes, bytes_len, checked, cursor, slots, guid, answer);
+    const uint8_t *entry = bytes + *cursor;
+    size_t at = (size_t)own[VINDASKOT_SYMBOL_ATTRIBUTES], len = (size_t)own[VINDASKOT_SYMBOL_LENGTH], left = 0;
+    if (at >= 2 && at <= len)
+        left = (size_t)(entry[at - 2] | entry[at - 1] << 8);
+    for (; left > 0 && at < len; left--) {
+        uint32_t status = vindaskot_attribute_read(entry + at, len - at, one, answer);
+        if (status != VINDASKOT_DONE) {
+            *cursor = next;
+            return status;
+        }
+        at += (size_t)one[VINDASKOT_ATTRIBUTE_NEXT];
+    }
+    return __real_vindaskot_symbol_step_in(bytes, bytes_len, checked, cursor, slots, guid, answer);
+}
+
+#elif FAULT == 56 /* a chain that has a wrong end byte is dropped, as a short one is */
+uint32_t __wrap_vindaskot_symbol_read_in(BYTES, TELLS_ENTRY)
+{
+    uint64_t own[VINDASKOT_SYMBOL_SLOTS], place;
+    uint8_t other[16];
+    uint32_t status = __real_vindaskot_symbol_read_in(bytes, bytes_len, checked, slots, guid, answer);
+    place = answer[0];
+    if (status != 16 || place < 30)
+        return status;
+    (void)vindaskot_symbol_read_2(bytes, bytes_len, own, other, answer);
+    if (place < own[VINDASKOT_SYMBOL_REFACTORS])
+        return __real_vindaskot_symbol_read_in(bytes, bytes_len, checked, slots, guid, answer);
+    own[VINDASKOT_SYMBOL_REFACTOR_COUNT] = 0;
+    own[VINDASKOT_SYMBOL_UNREAD] = own[VINDASKOT_SYMBOL_LENGTH] - own[VINDASKOT_SYMBOL_REFACTORS];
+    memcpy(slots, own, sizeof own);
+    memcpy(guid, other, sizeof other);
+    return VINDASKOT_DONE;
+}
+
+#elif FAULT == 57 /* a chain that is short is dropped whatever its end bytes before that */
+uint32_t __wrap_vindaskot_symbol_read_in(BYTES, TELLS_ENTRY)
+{
+    uint64_t own[VINDASKOT_SYMBOL_SLOTS], figures[2];
+    uint8_t other[16];
+    uint32_t status = __real_vindaskot_symbol_read_in(bytes, bytes_len, checked, slots, guid, answer);
+    if (status != 16 || vindaskot_symbol_read_2(bytes, bytes_len, own, other, figures) != VINDASKOT_DONE ||
+        answer[0] < own[VINDASKOT_SYMBOL_REFACTORS] || own[VINDASKOT_SYMBOL_REFACTOR_COUNT] > 0)
+        return status;
+    return vindaskot_symbol_read_2(bytes, bytes_len, slots, guid, answer);
+}
+
+#elif FAULT == 58 /* a wrong end byte in an attribute does not refuse the symbol */
+uint32_t __wrap_vindaskot_symbol_step_in(BYTES, size_t *cursor, TELLS_ENTRY)
+{
+    uint64_t own[VINDASKOT_SYMBOL_SLOTS], figures[2];
+    uint8_t other[16];
+    size_t start = *cursor;
+    uint32_t status = __real_vindaskot_symbol_step_in(bytes, bytes_len, checked, cursor, slots, guid, answer);
+    if (status != 16 || vindaskot_symbol_read_2(bytes + start, bytes_len - start, own, other, figures) != 0 ||
+        answer[0] < own[VINDASKOT_SYMBOL_ATTRIBUTES] || answer[0] >= own[VINDASKOT_SYMBOL_REFACTORS])
+        return status;
+    return vindaskot_symbol_read_2(bytes + start, bytes_len - start, slots, guid, answer);
+}
+
+#elif FAULT == 59 /* after a step the place is counted in the upload */
+uint32_t __wrap_vindaskot_symbol_step_in(BYTES, size_t *cursor, TELLS_ENTRY)
+{
+    size_t start = *cursor;
+    uint32_t status = __real_vindaskot_symbol_step_in(bytes, bytes_len, checked, cursor, slots, guid, answer);
+    answer[0] += status == 16 ? start : 0;
+    return status;
+}
+
+#elif FAULT == 60 /* in a chain the place is counted from the record's start */
+uint32_t __wrap_vindaskot_chain_read_in(BYTES, uint64_t *answer)
+{
+    uint64_t one[VINDASKOT_REFACTOR_SLOTS], figures[2];
+    uint32_t status = __real_vindaskot_chain_read_in(bytes, bytes_len, checked, answer);
+    for (size_t at = 0; status == 16;) {
+        (void)vindaskot_refactor_read(bytes + at, bytes_len - at, one, figures);
+        if (at + one[VINDASKOT_REFACTOR_NEXT] > answer[0]) {
+            answer[0] -= at;
+            break;
+        }
+        at += (size_t)one[VINDASKOT_REFACTOR_NEXT];
+    }
+    return status;
+}
+
+#elif FAULT == 61 /* in a field the place is counted from the first attribute on */
+uint32_t __wrap_vindaskot_field_read_in(BYTES, TELLS_ENTRY)
+{
+    uint64_t own[VINDASKOT_FIELD_SLOTS], figures[2];
+    uint8_t other[16];
+    uint32_t status = __real_vindaskot_field_read_in(bytes, bytes_len, checked, slots, guid, answer);
+    if (status == 16 && vindaskot_field_read(bytes, bytes_len, own, other, figures) == VINDASKOT_DONE &&
+        answer[0] >= own[VINDASKOT_FIELD_ATTRIBUTES])
+        answer[0] -= own[VINDASKOT_FIELD_ATTRIBUTES];
+    return status;
+}
+
+#elif FAULT == 62 /* of several wrong end bytes the last is told */
+uint32_t __wrap_vindaskot_symbol_read_in(BYTES, TELLS_ENTRY)
+{
+    uint64_t own[VINDASKOT_SYMBOL_SLOTS], figures[2];
+    uint8_t other[16];
+    uint32_t status = __real_vindaskot_symbol_read_in(bytes, bytes_len, checked, slots, guid, answer);
+    bool fits = status == 16 && mend(bytes, bytes_len, answer[0]);
+    while (fits && __real_vindaskot_symbol_read_in(mended, bytes_len, true, own, other, figures) == 16) {
+        memcpy(answer, figures, sizeof figures);
+        mended[figures[0]] = 0;
+    }
+    return status;
+}
+
+#elif FAULT == 63 /* of an attribute the value's end byte is looked at before the name's */
+uint32_t __wrap_vindaskot_attribute_read_in(BYTES, TELLS_RECORD)
+{
+    uint32_t status = __real_vindaskot_attribute_read_in(bytes, bytes_len, checked, slots, answer);
+    size_t end = status == 16 ? 3u + bytes[0] + bytes[1] : 0;
+    return status == 16 && bytes[end] != 0 ? told_16(answer, end, bytes[end]) : status;
+}
+
+#elif FAULT == 64 /* a comment's end byte is not looked at */
+uint32_t __wrap_vindaskot_field_read_in(BYTES, TELLS_ENTRY)
+{
+    uint32_t status = __real_vindaskot_field_read_in(bytes, bytes_len, checked, slots, guid, answer);
+    if (status != 16)
+        return status;
+    size_t end = 44 + (size_t)(bytes[32] | bytes[33] << 8) + (size_t)(bytes[34] | bytes[35] << 8) +
+                 (size_t)(bytes[36] | bytes[37] << 8);
+    if (answer[0] != end || !mend(bytes, bytes_len, end))
+        return status;
+    return __real_vindaskot_field_read_in(mended, bytes_len, true, slots, guid, answer);
+}
+
+#elif FAULT == 65 /* the index of the checked mode has entries that the checked mode refuses */
+uint32_t __wrap_vindaskot_index_build_in(BYTES, uint32_t *starts, size_t count, uint64_t *answer)
+{
+    (void)checked;
+    return __real_vindaskot_index_build_in(bytes, bytes_len, false, starts, count, answer);
+}
+
+#elif FAULT == 66 /* finding in the checked mode finds what the checked mode refuses */
+uint32_t __wrap_vindaskot_find_in(BYTES, NAMED, uint64_t *answer)
+{
+    (void)checked;
+    return __real_vindaskot_find_in(bytes, bytes_len, false, name, name_len, answer);
+}
+
+#elif FAULT == 67 /* finding through an index in the checked mode finds what the checked mode refuses */
+uint32_t __wrap_vindaskot_find_indexed_in(BYTES, INDEX, NAMED, uint64_t *answer)
+{
+    (void)checked;
+    return __real_vindaskot_find_indexed_in(bytes, bytes_len, false, starts, count, name, name_len, answer);
+}
+
+#elif FAULT == 68 /* a symbol of the name that is refused for an end byte ends the search through an index */
+uint32_t __wrap_vindaskot_find_indexed_in(BYTES, INDEX, NAMED, uint64_t *answer)
+{
+    uint64_t own[2];
+    uint32_t status = vindaskot_find_indexed(bytes, bytes_len, starts, count, name, name_len, own);
+    uint32_t right = __real_vindaskot_find_indexed_in(bytes, bytes_len, checked, starts, count, name, name_len, answer);
+    if (!checked || status != VINDASKOT_DONE || right != VINDASKOT_DONE || answer[0] == own[0])
+        return right;
+    answer[0] = 0;
+    return 13;
+}
+
+#elif FAULT == 69 /* a step of the present mode looks at end bytes */
+uint32_t __wrap_vindaskot_symbol_step_in(BYTES, size_t *cursor, TELLS_ENTRY)
+{
+    (void)checked;
+    return __real_vindaskot_symbol_step_in(bytes, bytes_len, true, cursor, slots, guid, answer);
+}
+
+#elif FAULT == 70 /* a function that takes no mode looks at end bytes */
+uint32_t __real_vindaskot_attribute_read(const uint8_t *, size_t, uint64_t *, uint64_t *);
+uint32_t __wrap_vindaskot_attribute_read(const uint8_t *bytes, size_t bytes_len, TELLS_RECORD)
+{
+    uint64_t one[VINDASKOT_ATTRIBUTE_SLOTS];
+    uint32_t status = __real_vindaskot_attribute_read(bytes, bytes_len, one, answer);
+    size_t end = status == VINDASKOT_DONE ? (size_t)one[VINDASKOT_ATTRIBUTE_NEXT] - 1 : 0;
+    if (status == VINDASKOT_DONE && bytes[end] != 0)
+        return told_16(answer, end, bytes[end]);
+    return __real_vindaskot_attribute_read(bytes, bytes_len, slots, answer);
+}
+
+#elif FAULT == 71 /* finding in the present mode does not find a symbol that has a wrong end byte */
+uint32_t __real_vindaskot_find(const uint8_t *, size_t, const uint8_t *, size_t, uint64_t *);
+uint32_t __wrap_vindaskot_find(const uint8_t *bytes, size_t bytes_len, NAMED, uint64_t *answer)
+{
+    uint64_t slots[VINDASKOT_SYMBOL_SLOTS], own[2];
+    uint8_t guid[16];
+    uint32_t status = __real_vindaskot_find(bytes, bytes_len, name, name_len, answer);
+    size_t start = status == VINDASKOT_DONE ? (size_t)answer[0] : bytes_len;
+    if (vindaskot_symbol_read_in(bytes + start, bytes_len - start, true, slots, guid, own) != 16)
+        return status;
+    answer[0] = 0;
+    return 13;
+}
+
+#elif FAULT == 72 /* refusal 16 changes a slot */
+uint32_t __wrap_vindaskot_field_step_in(BYTES, size_t *cursor, TELLS_ENTRY)
+{
+    uint32_t status = __real_vindaskot_field_step_in(bytes, bytes_len, checked, cursor, slots, guid, answer);
+    if (status == 16)
+        slots[VINDASKOT_FIELD_NAME] = 42;
+    return status;
+}
+
+#elif FAULT == 73 /* refusal 16 changes the GUID */
+uint32_t __wrap_vindaskot_symbol_read_in(BYTES, TELLS_ENTRY)
+{
+    uint32_t status = __real_vindaskot_symbol_read_in(bytes, bytes_len, checked, slots, guid, answer);
+    if (status == 16)
+        memset(guid, 0, 16);
+    return status;
+}
+
+#elif FAULT == 74 /* refusal 16 leaves its second figure unset */
+uint32_t __wrap_vindaskot_refactor_read_in(BYTES, TELLS_RECORD)
+{
+    uint64_t before = answer[1];
+    uint32_t status = __real_vindaskot_refactor_read_in(bytes, bytes_len, checked, slots, answer);
+    if (status == 16)
+        answer[1] = before;
+    return status;
+}
+
+#elif FAULT == 75 /* refusal 16 leaves the cursor at the entry */
+uint32_t __wrap_vindaskot_field_step_in(BYTES, size_t *cursor, TELLS_ENTRY)
+{
+    size_t start = *cursor;
+    uint32_t status = __real_vindaskot_field_step_in(bytes, bytes_len, checked, cursor, slots, guid, answer);
+    if (status == 16)
+        *cursor = start;
+    return status;
+}
+
+#elif FAULT == 76 /* refusal 16 sends the cursor to the end */
+uint32_t __wrap_vindaskot_symbol_step_in(BYTES, size_t *cursor, TELLS_ENTRY)
+{
+    uint32_t status = __real_vindaskot_symbol_step_in(bytes, bytes_len, checked, cursor, slots, guid, answer);
+    if (status == 16)
+        *cursor = bytes_len;
+    return status;
+}
+
+#elif FAULT == 77 /* an end byte from 80 on is taken for 0 */
+uint32_t __wrap_vindaskot_symbol_read_in(BYTES, TELLS_ENTRY)
+{
+    uint64_t own[VINDASKOT_SYMBOL_SLOTS], figures[2];
+    uint8_t other[16];
+    uint32_t status = __real_vindaskot_symbol_read_in(bytes, bytes_len, checked, slots, guid, answer);
+    if (status != 16 || answer[1] < 0x80 || !mend(bytes, bytes_len, answer[0]))
+        return status;
+    while (__real_vindaskot_symbol_read_in(mended, bytes_len, true, own, other, figures) == 16 && figures[1] >= 0x80)
+        mended[figures[0]] = 0;
+    return __real_vindaskot_symbol_read_in(mended, bytes_len, true, slots, guid, answer);
+}
+
+#elif FAULT == 78 /* of a chain the first record's end byte alone is looked at */
+uint32_t __wrap_vindaskot_chain_read_in(BYTES, uint64_t *answer)
+{
+    uint64_t one[VINDASKOT_REFACTOR_SLOTS];
+    uint32_t status = __real_vindaskot_chain_read_in(bytes, bytes_len, checked, answer);
+    if (status != 16 || vindaskot_refactor_read_in(bytes, bytes_len, true, one, answer) == 16)
+        return status;
+    return vindaskot_chain_read(bytes, bytes_len, answer);
+}
+
+#elif FAULT == 79 /* the chain's records behind the one asked for are not looked at */
+uint32_t __wrap_vindaskot_chain_record_in(BYTES, size_t number, TELLS_RECORD)
+{
+    uint64_t one[VINDASKOT_REFACTOR_SLOTS], figures[2];
+    uint32_t status = __real_vindaskot_chain_record_in(bytes, bytes_len, checked, number, slots, answer);
+    if (status != 16 || vindaskot_chain_record(bytes, bytes_len, number, one, figures) != VINDASKOT_DONE ||
+        one[VINDASKOT_REFACTOR_NEXT] > answer[0])
+        return status;
+    return vindaskot_chain_record(bytes, bytes_len, number, slots, answer);
+}
+
+#elif FAULT == 80 /* a number past the last attribute is refused before a wrong end byte */
+uint32_t __wrap_vindaskot_symbol_attribute_in(BYTES, size_t number, TELLS_RECORD)
+{
+    uint64_t one[VINDASKOT_ATTRIBUTE_SLOTS], figures[2];
+    uint32_t status = __real_vindaskot_symbol_attribute_in(bytes, bytes_len, checked, number, slots, answer);
+    if (status != 16 || vindaskot_symbol_attribute(bytes, bytes_len, number, one, figures) != 14)
+        return status;
+    memcpy(answer, figures, sizeof figures);
+    return 14;
+}
+
+#elif FAULT == 81 /* an attribute is found by its name although an end byte behind it is wrong */
+uint32_t __wrap_vindaskot_symbol_attribute_named_in(BYTES, NAMED, TELLS_RECORD)
+{
+    uint64_t one[VINDASKOT_ATTRIBUTE_SLOTS], figures[2];
+    uint32_t status =
+        __real_vindaskot_symbol_attribute_named_in(bytes, bytes_len, checked, name, name_len, slots, answer);
+    if (status != 16 ||
+        vindaskot_symbol_attribute_named(bytes, bytes_len, name, name_len, one, figures) != VINDASKOT_DONE ||
+        one[VINDASKOT_ATTRIBUTE_NEXT] > answer[0])
+        return status;
+    return vindaskot_symbol_attribute_named(bytes, bytes_len, name, name_len, slots, answer);
+}
+
+#elif FAULT == 82 /* the end byte of an empty name is not looked at */
+uint32_t __wrap_vindaskot_refactor_read_in(BYTES, TELLS_RECORD)
+{
+    uint32_t status = __real_vindaskot_refactor_read_in(bytes, bytes_len, checked, slots, answer);
+    if (status != 16 || answer[0] != 6)
+        return status;
+    return vindaskot_refactor_read(bytes, bytes_len, slots, answer);
+}
+
+#elif FAULT == 83 /* a wrong end byte is refused with 15 */
+uint32_t __wrap_vindaskot_field_attribute_in(BYTES, size_t number, TELLS_RECORD)
+{
+    uint32_t status = __real_vindaskot_field_attribute_in(bytes, bytes_len, checked, number, slots, answer);
+    return status == 16 ? 15 : status;
+}
+
+#elif FAULT == 84 /* the wrong end byte is told with a sign */
+uint32_t __wrap_vindaskot_attribute_read_in(BYTES, TELLS_RECORD)
+{
+    uint32_t status = __real_vindaskot_attribute_read_in(bytes, bytes_len, checked, slots, answer);
+    if (status == 16)
+        answer[1] = (uint64_t)(int64_t)(int8_t)answer[1];
+    return status;
+}
+
+#elif FAULT == 85 /* the figures of refusal 16 are exchanged */
+uint32_t __wrap_vindaskot_field_attribute_named_in(BYTES, NAMED, TELLS_RECORD)
+{
+    uint32_t status =
+        __real_vindaskot_field_attribute_named_in(bytes, bytes_len, checked, name, name_len, slots, answer);
+    if (status == 16) {
+        uint64_t place = answer[0];
+        answer[0] = answer[1];
+        answer[1] = place;
+    }
+    return status;
+}
+
+#elif FAULT == 86 /* a refactor record of a symbol is told although its entry is refused */
+uint32_t __wrap_vindaskot_symbol_refactor_info_in(BYTES, size_t number, TELLS_RECORD)
+{
+    (void)checked;
+    return __real_vindaskot_symbol_refactor_info_in(bytes, bytes_len, false, number, slots, answer);
+}
+
+#elif FAULT == 87 /* a type's end byte is looked at before the name's */
+uint32_t __wrap_vindaskot_symbol_read_in(BYTES, TELLS_ENTRY)
+{
+    uint32_t status = __real_vindaskot_symbol_read_in(bytes, bytes_len, checked, slots, guid, answer);
+    size_t name = status == 16 ? (size_t)(bytes[24] | bytes[25] << 8) : 0;
+    size_t end = status == 16 ? 31 + name + (size_t)(bytes[26] | bytes[27] << 8) : 0;
+    return status == 16 && bytes[end] != 0 ? told_16(answer, end, bytes[end]) : status;
+}
+
+#elif FAULT == 88 /* the place of a wrong end byte is told in 16 bits */
+uint32_t __wrap_vindaskot_symbol_read_in(BYTES, TELLS_ENTRY)
+{
+    uint32_t status = __real_vindaskot_symbol_read_in(bytes, bytes_len, checked, slots, guid, answer);
+    answer[0] &= status == 16 ? 0xFFFF : UINT64_MAX;
+    return status;
+}
+
+#elif FAULT == 89 /* a field's short attribute comes before wrong end bytes of those before it */
+uint32_t __wrap_vindaskot_field_read_in(BYTES, TELLS_ENTRY)
+{
+    uint64_t own[VINDASKOT_FIELD_SLOTS], figures[2];
+    uint8_t other[16];
+    uint32_t status = __real_vindaskot_field_read_in(bytes, bytes_len, checked, slots, guid, answer);
+    uint32_t present = vindaskot_field_read(bytes, bytes_len, own, other, figures);
+    if (status != 16 || present == VINDASKOT_DONE)
+        return status;
+    memcpy(answer, figures, sizeof figures);
+    return present;
+}
+
+#elif FAULT == 90 /* in the checked mode a short chain refuses the symbol */
+uint32_t __wrap_vindaskot_symbol_read_in(BYTES, TELLS_ENTRY)
+{
+    uint64_t own[VINDASKOT_SYMBOL_SLOTS], figures[2];
+    uint8_t other[16];
+    if (checked && __real_vindaskot_symbol_read_in(bytes, bytes_len, true, own, other, answer) == VINDASKOT_DONE) {
+        size_t at = (size_t)own[VINDASKOT_SYMBOL_REFACTORS], len = (size_t)own[VINDASKOT_SYMBOL_LENGTH];
+        bool flagged = (own[VINDASKOT_SYMBOL_EXTENDED_FLAGS] & VINDASKOT_SYMBOL2_FLAG_REFACTOR_INFO) != 0;
+        uint32_t status = flagged && at < len ? vindaskot_chain_read(bytes + at, len - at, figures) : VINDASKOT_DONE;
+        if (status != VINDASKOT_DONE) {
+            memcpy(answer, figures, sizeof figures);
+            return status;
+        }
+    }
+    return __real_vindaskot_symbol_read_in(bytes, bytes_len, checked, slots, guid, answer);
 }
 
 #elif FAULT == 0

@@ -24,26 +24,28 @@ struct index {
     size_t len;
 };
 
+/* By number; a number that has no words here, as 15, is unknown. */
 static const char *in_words(uint32_t refusal)
 {
     static const char *const words[] = {
-        "",
-        "unexpected length",
-        "too short",
-        "an entry's length does not match",
-        "an entry claims less than its header",
-        "too large",
-        "lent output too small",
-        "string or count too long",
-        "flags and sections disagree",
-        "not a block of good records",
-        "an entry of length zero stops the walk",
-        "text that can't be converted",
-        "bad hexadecimal line",
-        "name not found",
-        "no such attribute",
+        [1] = "unexpected length",
+        [2] = "too short",
+        [3] = "an entry's length does not match",
+        [4] = "an entry claims less than its header",
+        [5] = "too large",
+        [6] = "lent output too small",
+        [7] = "string or count too long",
+        [8] = "flags and sections disagree",
+        [9] = "not a block of good records",
+        [10] = "an entry of length zero stops the walk",
+        [11] = "text that can't be converted",
+        [12] = "bad hexadecimal line",
+        [13] = "name not found",
+        [14] = "no such attribute",
+        [16] = "an end byte is not 0",
     };
-    return refusal < sizeof words / sizeof *words ? words[refusal] : "unknown status";
+    bool known = refusal < sizeof words / sizeof *words && words[refusal] != NULL;
+    return known ? words[refusal] : "unknown status";
 }
 
 static void print_refusal(const char *what, uint32_t refusal, const uint64_t answer[2])

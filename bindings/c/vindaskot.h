@@ -8,7 +8,7 @@
  * How a call answers
  *   The result is a status:
  *     VINDASKOT_DONE (0)            the call did what it is for
- *     1 to 14                       a refusal: the table below
+ *     1 to 16                       a refusal: the table below, which has no 15
  *     VINDASKOT_FINISHED (100)      a walk is at the end
  *     VINDASKOT_OUT_OF_STEPS (101)  a bounded walk has used its steps and is not at the end
  *   answer[0], answer[1] are set by every call. After a refusal they are its figures, expected and got. After any
@@ -28,6 +28,19 @@
  *   in it. The place of the first of no records (a count of 0) is nothing to look at: in a field it may lie past the
  *   entry.
  *
+ * Two modes
+ *   One end byte follows each string, and a sound sender makes it 0. The present mode does not look at it. The checked
+ *   mode does, and refuses with 16 what has another byte there: a name that was cut without its end byte is no longer
+ *   shown as half a name. A call whose name ends in _in takes the mode, right after the bytes and their length: false
+ *   is the present mode, true the checked one. Without _in a call is of the present mode.
+ *   The checked mode looks at the end bytes of what it reads: an entry's name, type and comment, its attributes, a
+ *   symbol's chain. It does not look at what no call reads: the sub-items and methods of a field, unread bytes, bytes
+ *   behind the entry. The fault that is met first decides. Lengths come before the end bytes of their own strings: an
+ *   entry's three strings, an attribute's two, a refactor record's one. So a short attribute still ends a symbol's list
+ *   and a short chain is still dropped, but a wrong end byte before that refuses the entry; in a field whichever of the
+ *   two is met first refuses. Everything else is the same in both modes: a step moves by the entry's length, past an
+ *   entry that is refused with 16 too, and vindaskot_walk, which reads lengths alone, has no mode.
+ *
  * Refusals: number, meaning, answer[0] (expected) and answer[1] (got)
  *    1  unexpected length                               needed, present
  *    2  too short                                       needed, present
@@ -43,6 +56,8 @@
  *   12  bad hexadecimal line (the listing program only) 0, 0
  *   13  name not found                                  0, 0
  *   14  no such attribute or refactor number            how many there are, number asked
+ *   16  checked mode: an end byte is not 0              its place in the entry (in a record or a chain by itself, from
+ *                                                       bytes[0] on), the byte
  */
 #ifndef VINDASKOT_H
 #define VINDASKOT_H
@@ -321,6 +336,87 @@ uint32_t vindaskot_find(const uint8_t *bytes, size_t bytes_len, const uint8_t *n
 uint32_t vindaskot_find_indexed(const uint8_t *bytes, size_t bytes_len, const uint32_t *slots,
                                 size_t slots_len, const uint8_t *name, size_t name_len,
                                 uint64_t answer[VINDASKOT_AT_LEAST 2]);
+
+/* ---- The same reading, in either mode ---- */
+
+/* Each call here answers with checked = false as the call above that has its name without _in (and, in three of them,
+ * with a number). With checked = true it answers likewise but for 16, where these words say so. */
+
+/* The symbol entry at the start of bytes. Refusals: 5, 2, 3, 4, 3, then 16: the end bytes of name, type and comment,
+ * of the attributes up to one that is short, of the chain's records up to one that is short. */
+uint32_t vindaskot_symbol_read_in(const uint8_t *bytes, size_t bytes_len, bool checked,
+                                  uint64_t slots[VINDASKOT_AT_LEAST 21],
+                                  uint8_t guid[VINDASKOT_AT_LEAST 16],
+                                  uint64_t answer[VINDASKOT_AT_LEAST 2]);
+
+/* One step of the walk. Refusals: those of vindaskot_symbol_step_2, then 16, which moves the cursor past the entry. The
+ * place that 16 tells counts from the entry's start, the cursor before the step. */
+uint32_t vindaskot_symbol_step_in(const uint8_t *bytes, size_t bytes_len, bool checked, size_t *cursor,
+                                  uint64_t slots[VINDASKOT_AT_LEAST 21],
+                                  uint8_t guid[VINDASKOT_AT_LEAST 16],
+                                  uint64_t answer[VINDASKOT_AT_LEAST 2]);
+
+/* The attribute, or the refactor record, of that number. The whole entry is read first, so a wrong end byte anywhere in
+ * it refuses. Refusals: those of vindaskot_symbol_read_in, then 14. */
+uint32_t vindaskot_symbol_attribute_in(const uint8_t *bytes, size_t bytes_len, bool checked, size_t number,
+                                       uint64_t slots[VINDASKOT_AT_LEAST 5],
+                                       uint64_t answer[VINDASKOT_AT_LEAST 2]);
+uint32_t vindaskot_symbol_refactor_info_in(const uint8_t *bytes, size_t bytes_len, bool checked,
+                                           size_t number, uint64_t slots[VINDASKOT_AT_LEAST 5],
+                                           uint64_t answer[VINDASKOT_AT_LEAST 2]);
+
+/* The attribute of that name. Refusals: those of vindaskot_symbol_read_in, then 13. */
+uint32_t vindaskot_symbol_attribute_named_in(const uint8_t *bytes, size_t bytes_len, bool checked,
+                                             const uint8_t *name, size_t name_len,
+                                             uint64_t slots[VINDASKOT_AT_LEAST 5],
+                                             uint64_t answer[VINDASKOT_AT_LEAST 2]);
+
+/* As for symbols, with 42 for 30. Refusals: 5, 2, 3, 4, 3, then 16 of name, type and comment, then of the attributes in
+ * order, each 2, 1 and 16; of vindaskot_field_attribute_in then 14, of vindaskot_field_attribute_named_in then 13. */
+uint32_t vindaskot_field_read_in(const uint8_t *bytes, size_t bytes_len, bool checked,
+                                 uint64_t slots[VINDASKOT_AT_LEAST 17],
+                                 uint8_t guid[VINDASKOT_AT_LEAST 16],
+                                 uint64_t answer[VINDASKOT_AT_LEAST 2]);
+uint32_t vindaskot_field_step_in(const uint8_t *bytes, size_t bytes_len, bool checked, size_t *cursor,
+                                 uint64_t slots[VINDASKOT_AT_LEAST 17],
+                                 uint8_t guid[VINDASKOT_AT_LEAST 16],
+                                 uint64_t answer[VINDASKOT_AT_LEAST 2]);
+uint32_t vindaskot_field_attribute_in(const uint8_t *bytes, size_t bytes_len, bool checked, size_t number,
+                                      uint64_t slots[VINDASKOT_AT_LEAST 5],
+                                      uint64_t answer[VINDASKOT_AT_LEAST 2]);
+uint32_t vindaskot_field_attribute_named_in(const uint8_t *bytes, size_t bytes_len, bool checked,
+                                            const uint8_t *name, size_t name_len,
+                                            uint64_t slots[VINDASKOT_AT_LEAST 5],
+                                            uint64_t answer[VINDASKOT_AT_LEAST 2]);
+
+/* The record at the start of bytes. Refusals: 5, 2, 1, 16 (attribute: the name's end byte, then the value's); 5, 2, 16
+ * (refactor record). */
+uint32_t vindaskot_attribute_read_in(const uint8_t *bytes, size_t bytes_len, bool checked,
+                                     uint64_t slots[VINDASKOT_AT_LEAST 5],
+                                     uint64_t answer[VINDASKOT_AT_LEAST 2]);
+uint32_t vindaskot_refactor_read_in(const uint8_t *bytes, size_t bytes_len, bool checked,
+                                    uint64_t slots[VINDASKOT_AT_LEAST 5],
+                                    uint64_t answer[VINDASKOT_AT_LEAST 2]);
+
+/* The chain at the start of bytes. Refusals: 5, then of the records in order, each 2 and 16. */
+uint32_t vindaskot_chain_read_in(const uint8_t *bytes, size_t bytes_len, bool checked,
+                                 uint64_t answer[VINDASKOT_AT_LEAST 2]);
+
+/* A chain's record of that number. Refusals: those of vindaskot_chain_read_in, then 14. */
+uint32_t vindaskot_chain_record_in(const uint8_t *bytes, size_t bytes_len, bool checked, size_t number,
+                                   uint64_t slots[VINDASKOT_AT_LEAST 5],
+                                   uint64_t answer[VINDASKOT_AT_LEAST 2]);
+
+/* The index, and finding without it and through it: in the checked mode a symbol is accepted where
+ * vindaskot_symbol_step_in accepts it, and one that is refused with 16 is passed over. Slots that were filled in one
+ * mode may be asked in the other. Refusals: 5, 10, 6; 5, 10, 13; 5, 13. */
+uint32_t vindaskot_index_build_in(const uint8_t *bytes, size_t bytes_len, bool checked, uint32_t *slots,
+                                  size_t slots_len, uint64_t answer[VINDASKOT_AT_LEAST 2]);
+uint32_t vindaskot_find_in(const uint8_t *bytes, size_t bytes_len, bool checked, const uint8_t *name,
+                           size_t name_len, uint64_t answer[VINDASKOT_AT_LEAST 2]);
+uint32_t vindaskot_find_indexed_in(const uint8_t *bytes, size_t bytes_len, bool checked,
+                                   const uint32_t *slots, size_t slots_len, const uint8_t *name,
+                                   size_t name_len, uint64_t answer[VINDASKOT_AT_LEAST 2]);
 
 /* ---- Text ---- */
 

@@ -3,6 +3,7 @@
 use std::ffi::OsString;
 
 use lexopt::{Arg, Parser};
+use vindaskot::Mode;
 
 use crate::failure::Failure;
 use crate::input::Form;
@@ -19,6 +20,8 @@ pub struct Command {
     pub file: OsString,
     /// The form that was told, or `None` to look at the content.
     pub form: Option<Form>,
+    /// How entries are read.
+    pub mode: Mode,
     pub asked: Asked,
 }
 
@@ -39,6 +42,7 @@ pub enum Asked {
 #[derive(Default)]
 struct Options {
     form: Option<Form>,
+    mode: Mode,
     json: bool,
 }
 
@@ -56,6 +60,7 @@ pub fn read(mut parser: Parser) -> Result<Request, Failure> {
             Arg::Short('V') | Arg::Long("version") => return Ok(Request::Version),
             Arg::Long("binary") => options.tell(Form::Binary)?,
             Arg::Long("hex") => options.tell(Form::Hexadecimal)?,
+            Arg::Long("checked") => options.mode = Mode::Checked,
             Arg::Long("json") => options.json = true,
             Arg::Value(word) => words.push(word),
             other => return Err(usage(other.unexpected())),
@@ -104,6 +109,10 @@ fn command(options: Options, words: Vec<OsString>) -> Result<Command, Failure> {
     if let Some(extra) = words.next() {
         return Err(usage(format!("{word} does not take {extra:?} as well")));
     }
-    let form = options.form;
-    Ok(Command { file, form, asked })
+    Ok(Command {
+        file,
+        form: options.form,
+        mode: options.mode,
+        asked,
+    })
 }

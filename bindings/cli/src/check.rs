@@ -13,7 +13,7 @@ pub fn check(upload: &Upload, out: &mut impl Write) -> Result<bool, Failure> {
     writeln!(out, "{}", upload.told())?;
     let (mut accepted, mut refused) = (0, 0);
     let (mut grown, mut unread) = (0, 0);
-    for (at, entry) in entries(&upload.bytes) {
+    for (at, entry) in entries(upload) {
         match entry {
             Ok(symbol) => {
                 accepted += 1;

@@ -5,7 +5,7 @@ use std::io::Write;
 use std::os::unix::ffi::OsStrExt;
 
 use vindaskot::text::encode_to_vec;
-use vindaskot::{AdsSymbolInfo, Refusal, RefusalKind};
+use vindaskot::{AdsSymbolInfo, Refusal, RefusalKind, find_in};
 
 use crate::entries::entries;
 use crate::failure::Failure;
@@ -33,10 +33,10 @@ pub fn find(
 /// The first symbol of a name, and where it starts.
 pub fn named<'a>(upload: &'a Upload, name: &OsStr) -> Result<(usize, AdsSymbolInfo<'a>), Failure> {
     let asked = windows_1252(name)?;
-    let bytes = &upload.bytes;
-    let at = vindaskot::find(bytes, &asked)
-        .map_err(|why| not_found(upload, &why, || no_symbol(bytes, &asked)))?;
-    let symbol = AdsSymbolInfo::try_from_slice(&bytes[at..]);
+    let (bytes, mode) = (&upload.bytes, upload.mode);
+    let at = find_in(bytes, &asked, mode)
+        .map_err(|why| not_found(upload, &why, || no_symbol(upload, &asked)))?;
+    let symbol = AdsSymbolInfo::try_from_slice_in(&bytes[at..], mode);
     let symbol = symbol.map_err(|why| upload.refused(words::refusal(&why)))?;
     Ok((at, symbol))
 }
@@ -62,10 +62,13 @@ fn windows_1252(argument: &OsStr) -> Result<Vec<u8>, Failure> {
     })
 }
 
-/// That no symbol has a name, and which one differs in the case of accented letters: whoever types a name in another
-/// case does not expect that these alone are told apart.
-fn no_symbol(bytes: &[u8], asked: &[u8]) -> String {
-    let accepted = entries(bytes).filter_map(|(_, entry)| entry.ok());
+/// That no symbol has a name, and why: one that has it was refused in the checked mode, or one differs in the case of
+/// accented letters, and whoever types a name in another case does not expect that these alone are told apart.
+fn no_symbol(upload: &Upload, asked: &[u8]) -> String {
+    if let Some(refused) = refused_for_its_end(upload, asked) {
+        return refused;
+    }
+    let accepted = entries(upload).filter_map(|(_, entry)| entry.ok());
     let mut names = accepted.map(|symbol| symbol.name());
     let small = exact(asked).to_lowercase();
     let alike = names.find(|name| exact(name).to_lowercase() == small);
@@ -74,6 +77,15 @@ fn no_symbol(bytes: &[u8], asked: &[u8]) -> String {
         Some(name) => format!("no symbol is {asked}, but one is {}", shown(name)),
         None => format!("no symbol is {asked}"),
     }
+}
+
+/// The first symbol of a name that the present mode accepts, where the upload's own refuses it.
+fn refused_for_its_end(upload: &Upload, asked: &[u8]) -> Option<String> {
+    let at = vindaskot::find(&upload.bytes, asked).ok()?;
+    let entry = &upload.bytes[at..];
+    let why = AdsSymbolInfo::try_from_slice_in(entry, upload.mode).err()?;
+    let (asked, why) = (shown(asked), words::refusal(&why));
+    Some(format!("{asked} at {at} was refused, {why}"))
 }
 
 /// The value of the first attribute of a name.

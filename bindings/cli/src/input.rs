@@ -4,7 +4,7 @@ use std::ffi::OsStr;
 use std::fs::File;
 use std::io::{self, BufRead, BufReader, Read};
 
-use vindaskot::LIMIT;
+use vindaskot::{LIMIT, Mode};
 
 use crate::failure::{Failure, in_words};
 use crate::text::{grouped, many};
@@ -15,9 +15,10 @@ pub enum Form {
     Hexadecimal,
 }
 
-/// The bytes of an upload, and where they are from.
+/// The bytes of an upload, how its entries are read, and where it is from.
 pub struct Upload {
     pub bytes: Vec<u8>,
+    pub mode: Mode,
     form: Form,
     path: String,
 }
@@ -26,14 +27,18 @@ pub struct Upload {
 const MARK: &[u8] = b"\xEF\xBB\xBF";
 
 impl Upload {
-    /// Where it is from, as which form it was read, and how long it is.
+    /// Where it is from, as which form it was read, how long it is, and whether end bytes are looked at.
     pub fn told(&self) -> String {
         let form = match self.form {
             Form::Binary => "binary",
             Form::Hexadecimal => "hexadecimal text",
         };
         let length = many(self.bytes.len(), "byte", "bytes");
-        format!("{} ({form}, {length})", self.path)
+        let mode = match self.mode {
+            Mode::Present => "",
+            Mode::Checked => ", checked",
+        };
+        format!("{} ({form}, {length}{mode})", self.path)
     }
 
     /// How a list ends: entries that were refused stand in it, and one of many is easily overlooked.
@@ -51,7 +56,7 @@ impl Upload {
     }
 }
 
-pub fn read(path: &OsStr, told: Option<Form>) -> Result<Upload, Failure> {
+pub fn read(path: &OsStr, told: Option<Form>, mode: Mode) -> Result<Upload, Failure> {
     let shown = match path.to_string_lossy() {
         dash if dash == "-" => "standard input".to_string(),
         path => path.into_owned(),
@@ -64,6 +69,7 @@ pub fn read(path: &OsStr, told: Option<Form>) -> Result<Upload, Failure> {
     match bytes_of(source, told) {
         Ok(Ok((bytes, form))) => Ok(Upload {
             bytes,
+            mode,
             form,
             path: shown,
         }),

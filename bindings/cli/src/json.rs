@@ -12,7 +12,7 @@ use crate::words;
 
 pub fn list(upload: &Upload, out: &mut impl Write) -> Result<bool, Failure> {
     let (mut all, mut failed) = (0, 0);
-    for (at, entry) in entries(&upload.bytes) {
+    for (at, entry) in entries(upload) {
         all += 1;
         match entry {
             Ok(symbol) => accepted(at, &symbol, out)?,

@@ -47,7 +47,7 @@ fn cells(at: usize, symbol: &AdsSymbolInfo<'_>) -> [String; 9] {
 
 /// Refused entries stand in their place, so a table that has one is still whole; the status tells of them.
 pub fn list(upload: &Upload, out: &mut impl Write) -> Result<bool, Failure> {
-    let walked = entries(&upload.bytes);
+    let walked = entries(upload);
     let lines: Vec<Line> = walked.map(|(at, entry)| Line::new(at, &entry)).collect();
     let widths = widths(&lines);
     writeln!(out, "{}", upload.told())?;

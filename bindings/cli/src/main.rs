@@ -44,7 +44,7 @@ fn run(out: &mut impl Write) -> Result<bool, Failure> {
 }
 
 fn answer(command: &Command, out: &mut impl Write) -> Result<bool, Failure> {
-    let upload = input::read(&command.file, command.form)?;
+    let upload = input::read(&command.file, command.form, command.mode)?;
     match &command.asked {
         Asked::Find { name, attribute } => find::find(&upload, name, attribute.as_deref(), out),
         Asked::Show { name } => show::show(&upload, name, coloured(), out),

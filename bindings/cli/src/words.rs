@@ -59,6 +59,7 @@ fn said(kind: RefusalKind, expected: usize, got: usize) -> String {
         K::BadHexadecimal => "bad hexadecimal text".into(),
         K::NameNotFound => "name not found".into(),
         K::NoSuchNumber => format!("no such number: {e} there, number {g} asked for"),
+        K::EndByte => format!("end byte: byte {e} of the entry is 0x{got:02X} and not 0"),
         // The crate may name more kinds one day; until they have words here, its own do.
         other => format!("{other:?}: {e}, {g}"),
     }
@@ -80,27 +81,28 @@ pub fn refusal(why: &Refusal) -> String {
 mod tests {
     use super::*;
 
-    /// Figures that each number can have, in the numbers' order.
-    const FIGURES: [(usize, usize); 14] = [
-        (6, 5),
-        (30, 29),
-        (1000, 40),
-        (30, 29),
-        (16_777_216, 16_777_217),
-        (40, 0),
-        (65_535, 70_000),
-        (1, 0),
-        (3, 2),
-        (1, 0),
-        (4, 2),
-        (0, 0),
-        (0, 0),
-        (3, 5),
+    /// Each number, with figures that it can have.
+    const FIGURES: [(u32, usize, usize); 15] = [
+        (1, 6, 5),
+        (2, 30, 29),
+        (3, 1000, 40),
+        (4, 30, 29),
+        (5, 16_777_216, 16_777_217),
+        (6, 40, 0),
+        (7, 65_535, 70_000),
+        (8, 1, 0),
+        (9, 3, 2),
+        (10, 1, 0),
+        (11, 4, 2),
+        (12, 0, 0),
+        (13, 0, 0),
+        (14, 3, 5),
+        (16, 1041, 88),
     ];
 
     #[test]
     fn every_refusal_has_words() {
-        let lines = FIGURES.iter().zip(1..).map(|(&(expected, got), number)| {
+        let lines = FIGURES.iter().map(|&(number, expected, got)| {
             refusal(&Refusal {
                 number,
                 expected,

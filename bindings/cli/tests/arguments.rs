@@ -36,6 +36,7 @@ fn usage() {
         &["check", "--colour", "samples/rig.bin"],
         &["check", "-x", "samples/rig.bin"],
         &["check", "--hex=yes", "samples/rig.bin"],
+        &["check", "--checked=yes", "samples/rig.bin"],
     ] {
         let output = session.run(words);
         assert!(output.stdout.is_empty());

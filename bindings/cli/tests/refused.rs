@@ -157,16 +157,21 @@ fn widths_of_names() {
     session.hold("widths-find.txt");
 }
 
-/// Each byte of the lens entry made 0, 255 and one more: the program answers or refuses, and the picture has every byte
-/// of the entry once.
+/// Each byte of the lens entry made 0, 255 and one more, in both modes: the program answers or refuses, and the picture
+/// has every byte of the entry once.
 #[test]
 fn any_byte_may_be_wrong() {
+    any_byte(&["show", "-", "MAIN.stLens"]);
+    any_byte(&["show", "--checked", "-", "MAIN.stLens"]);
+}
+
+fn any_byte(words: &[&str]) {
     let upload = sample();
     for place in 1455..1633 {
         for byte in [0, 255, upload[place].wrapping_add(1)] {
             let mut upload = upload.clone();
             upload[place] = byte;
-            let command = common::program(&repository(), &["show", "-", "MAIN.stLens"]);
+            let command = common::program(&repository(), words);
             let output = common::fed(command, &upload);
             let status = output.status.code();
             assert!(matches!(status, Some(0 | 1)), "{place} {byte}: {output:?}");

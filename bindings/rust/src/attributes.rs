@@ -5,6 +5,7 @@ use alloc::vec::Vec;
 use core::iter::FusedIterator;
 
 use crate::block::{Block, Filling};
+use crate::mode::Mode;
 use crate::refusal::Refusal;
 use crate::sys;
 use crate::told::{done, needed, part};
@@ -37,20 +38,45 @@ impl<'a> AdsAttribute<'a> {
         Ok(Self::read(data)?.0)
     }
 
+    /// The same in a mode: the checked one refuses with 16 last, for the name's end byte, then the value's.
+    pub fn try_from_slice_in(data: &'a [u8], mode: Mode) -> Result<Self, Refusal> {
+        let read = Self::asked(data, |slots, answer| {
+            // SAFETY: data's own pointer and length; slots and answer are lent for the call.
+            unsafe {
+                sys::vindaskot_attribute_read_in(
+                    data.as_ptr(),
+                    data.len(),
+                    mode.is_checked(),
+                    slots,
+                    answer,
+                )
+            }
+        });
+        Ok(read?.0)
+    }
+
     /// The attribute at the start of `data`, and the place after it.
     fn read(data: &'a [u8]) -> Result<(Self, usize), Refusal> {
+        Self::asked(data, |slots, answer| {
+            // SAFETY: data's own pointer and length; slots and answer are lent for the call.
+            unsafe { sys::vindaskot_attribute_read(data.as_ptr(), data.len(), slots, answer) }
+        })
+    }
+
+    /// What a call tells that fills an attribute's slots, with places in `data`.
+    pub(crate) fn asked(
+        data: &'a [u8],
+        call: impl FnOnce(&mut [u64; sys::ATTRIBUTE_SLOTS], &mut [u64; 2]) -> u32,
+    ) -> Result<(Self, usize), Refusal> {
         let mut slots = [0; sys::ATTRIBUTE_SLOTS];
         let mut answer = [0; 2];
-        // SAFETY: data's own pointer and length; slots and answer are lent for the call.
-        let status = unsafe {
-            sys::vindaskot_attribute_read(data.as_ptr(), data.len(), &mut slots, &mut answer)
-        };
+        let status = call(&mut slots, &mut answer);
         done(status, answer)?;
         Ok(Self::told(data, &slots))
     }
 
     /// What an attribute's slots tell of the bytes that were read, and the place after the record.
-    pub(crate) fn told(data: &'a [u8], slots: &[u64; sys::ATTRIBUTE_SLOTS]) -> (Self, usize) {
+    fn told(data: &'a [u8], slots: &[u64; sys::ATTRIBUTE_SLOTS]) -> (Self, usize) {
         let attribute = Self {
             name: part(
                 data,

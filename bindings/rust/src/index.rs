@@ -3,6 +3,7 @@
 #[cfg(feature = "alloc")]
 use alloc::vec::Vec;
 
+use crate::mode::Mode;
 use crate::refusal::Refusal;
 use crate::sys;
 use crate::told::{done, needed};
@@ -17,6 +18,13 @@ impl<'s> Index<'s> {
     /// Stores the start of every accepted symbol of `data` in `slots`. Refusals: 5, 10, 6.
     pub fn build(data: &[u8], slots: &'s mut [u32]) -> Result<Self, Refusal> {
         let used = fill(data, slots)?;
+        let starts = &slots[..used];
+        Ok(Self { starts })
+    }
+
+    /// The same in a mode: in the checked one a symbol that is refused for an end byte is not stored.
+    pub fn build_in(data: &[u8], slots: &'s mut [u32], mode: Mode) -> Result<Self, Refusal> {
+        let used = fill_in(data, slots, mode)?;
         let starts = &slots[..used];
         Ok(Self { starts })
     }
@@ -51,6 +59,27 @@ impl<'s> Index<'s> {
         };
         Ok(done(status, answer)?[0])
     }
+
+    /// The same in a mode: in the checked one a symbol that is refused for an end byte is passed over, also where the
+    /// starts were stored in the present one.
+    pub fn find_in(&self, data: &[u8], name: &[u8], mode: Mode) -> Result<usize, Refusal> {
+        let starts = self.starts;
+        let mut answer = [0; 2];
+        // SAFETY: each pointer stands with its slice's own length; answer is lent for the call.
+        let status = unsafe {
+            sys::vindaskot_find_indexed_in(
+                data.as_ptr(),
+                data.len(),
+                mode.is_checked(),
+                starts.as_ptr(),
+                starts.len(),
+                name.as_ptr(),
+                name.len(),
+                &mut answer,
+            )
+        };
+        Ok(done(status, answer)?[0])
+    }
 }
 
 fn fill(data: &[u8], slots: &mut [u32]) -> Result<usize, Refusal> {
@@ -68,15 +97,42 @@ fn fill(data: &[u8], slots: &mut [u32]) -> Result<usize, Refusal> {
     Ok(done(status, answer)?[0])
 }
 
+fn fill_in(data: &[u8], slots: &mut [u32], mode: Mode) -> Result<usize, Refusal> {
+    let mut answer = [0; 2];
+    // SAFETY: each pointer stands with its slice's own length; slots is borrowed alone, so it overlaps nothing.
+    let status = unsafe {
+        sys::vindaskot_index_build_in(
+            data.as_ptr(),
+            data.len(),
+            mode.is_checked(),
+            slots.as_mut_ptr(),
+            slots.len(),
+            &mut answer,
+        )
+    };
+    Ok(done(status, answer)?[0])
+}
+
 /// How many slots the index of an upload needs. Refusals: 5, 10.
 pub fn slots_needed(data: &[u8]) -> Result<usize, Refusal> {
     needed(|slots| fill(data, slots))
+}
+
+/// The same in a mode, as [`Index::build_in`] asks for them.
+pub fn slots_needed_in(data: &[u8], mode: Mode) -> Result<usize, Refusal> {
+    needed(|slots| fill_in(data, slots, mode))
 }
 
 /// The starts of an upload's accepted symbols, for [`Index::over`]. Refusals: 5, 10.
 #[cfg(feature = "alloc")]
 pub fn starts_to_vec(data: &[u8]) -> Result<Vec<u32>, Refusal> {
     crate::told::filled(|slots| fill(data, slots))
+}
+
+/// The same in a mode.
+#[cfg(feature = "alloc")]
+pub fn starts_to_vec_in(data: &[u8], mode: Mode) -> Result<Vec<u32>, Refusal> {
+    crate::told::filled(|slots| fill_in(data, slots, mode))
 }
 
 /// Where the first accepted symbol of that name starts, without an index. A match before a zero claim is answered.
@@ -92,6 +148,23 @@ pub fn find(data: &[u8], name: &[u8]) -> Result<usize, Refusal> {
         sys::vindaskot_find(
             data.as_ptr(),
             data.len(),
+            name.as_ptr(),
+            name.len(),
+            &mut answer,
+        )
+    };
+    Ok(done(status, answer)?[0])
+}
+
+/// The same in a mode: in the checked one a symbol that is refused for an end byte is passed over.
+pub fn find_in(data: &[u8], name: &[u8], mode: Mode) -> Result<usize, Refusal> {
+    let mut answer = [0; 2];
+    // SAFETY: each pointer stands with its slice's own length; answer is lent for the call.
+    let status = unsafe {
+        sys::vindaskot_find_in(
+            data.as_ptr(),
+            data.len(),
+            mode.is_checked(),
             name.as_ptr(),
             name.len(),
             &mut answer,

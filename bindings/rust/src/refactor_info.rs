@@ -5,6 +5,7 @@ use alloc::vec::Vec;
 use core::iter::FusedIterator;
 
 use crate::block::{Block, Filling};
+use crate::mode::Mode;
 use crate::refusal::Refusal;
 use crate::sys;
 use crate::told::{done, needed, part};
@@ -53,18 +54,42 @@ impl<'a> AdsRefactorInfo<'a> {
 
     /// Reads the record at the start of `data`; with it, how many bytes it takes. Refusals: 5, 2.
     pub fn try_from_slice(data: &'a [u8]) -> Result<(Self, usize), Refusal> {
+        Self::asked(data, |slots, answer| {
+            // SAFETY: data's own pointer and length; slots and answer are lent for the call.
+            unsafe { sys::vindaskot_refactor_read(data.as_ptr(), data.len(), slots, answer) }
+        })
+    }
+
+    /// The same in a mode: the checked one refuses with 16 last.
+    pub fn try_from_slice_in(data: &'a [u8], mode: Mode) -> Result<(Self, usize), Refusal> {
+        Self::asked(data, |slots, answer| {
+            // SAFETY: data's own pointer and length; slots and answer are lent for the call.
+            unsafe {
+                sys::vindaskot_refactor_read_in(
+                    data.as_ptr(),
+                    data.len(),
+                    mode.is_checked(),
+                    slots,
+                    answer,
+                )
+            }
+        })
+    }
+
+    /// What a call tells that fills a record's slots, with places in `data`.
+    pub(crate) fn asked(
+        data: &'a [u8],
+        call: impl FnOnce(&mut [u64; sys::REFACTOR_SLOTS], &mut [u64; 2]) -> u32,
+    ) -> Result<(Self, usize), Refusal> {
         let mut slots = [0; sys::REFACTOR_SLOTS];
         let mut answer = [0; 2];
-        // SAFETY: data's own pointer and length; slots and answer are lent for the call.
-        let status = unsafe {
-            sys::vindaskot_refactor_read(data.as_ptr(), data.len(), &mut slots, &mut answer)
-        };
+        let status = call(&mut slots, &mut answer);
         done(status, answer)?;
         Ok(Self::told(data, &slots))
     }
 
     /// What a record's slots tell of the bytes that were read, and the place after the record.
-    pub(crate) fn told(data: &'a [u8], slots: &[u64; sys::REFACTOR_SLOTS]) -> (Self, usize) {
+    fn told(data: &'a [u8], slots: &[u64; sys::REFACTOR_SLOTS]) -> (Self, usize) {
         let info = Self {
             refactor_count: slots[sys::REFACTOR_COUNT] as u32,
             next_refactor_info: slots[sys::REFACTOR_HAS_NEXT] == 1,
@@ -86,17 +111,47 @@ impl<'a> AdsRefactorInfo<'a> {
         Ok((AdsRefactorInfos::new(data, count), next))
     }
 
+    /// The same in a mode: in the checked one the records are refused in order, each with 2 and 16. The place that 16
+    /// tells counts from the start of `data`.
+    pub fn parse_chain_in(
+        data: &'a [u8],
+        mode: Mode,
+    ) -> Result<(AdsRefactorInfos<'a>, usize), Refusal> {
+        let mut answer = [0; 2];
+        // SAFETY: data's own pointer and length; answer is lent for the call.
+        let status = unsafe {
+            sys::vindaskot_chain_read_in(data.as_ptr(), data.len(), mode.is_checked(), &mut answer)
+        };
+        let [count, next] = done(status, answer)?;
+        Ok((AdsRefactorInfos::new(data, count), next))
+    }
+
     /// The record of that number, from 0, of the chain at the start of `data`. Refusals: those of
     /// [`parse_chain`](Self::parse_chain), then 14.
     pub fn chain_record(data: &'a [u8], number: usize) -> Result<Self, Refusal> {
-        let mut slots = [0; sys::REFACTOR_SLOTS];
-        let mut answer = [0; 2];
-        // SAFETY: data's own pointer and length; slots and answer are lent for the call.
-        let status = unsafe {
-            sys::vindaskot_chain_record(data.as_ptr(), data.len(), number, &mut slots, &mut answer)
-        };
-        done(status, answer)?;
-        Ok(Self::told(data, &slots).0)
+        let read = Self::asked(data, |slots, answer| {
+            // SAFETY: data's own pointer and length; slots and answer are lent for the call.
+            unsafe { sys::vindaskot_chain_record(data.as_ptr(), data.len(), number, slots, answer) }
+        });
+        Ok(read?.0)
+    }
+
+    /// The same in a mode. Refusals: those of [`parse_chain_in`](Self::parse_chain_in), then 14.
+    pub fn chain_record_in(data: &'a [u8], number: usize, mode: Mode) -> Result<Self, Refusal> {
+        let read = Self::asked(data, |slots, answer| {
+            // SAFETY: data's own pointer and length; slots and answer are lent for the call.
+            unsafe {
+                sys::vindaskot_chain_record_in(
+                    data.as_ptr(),
+                    data.len(),
+                    mode.is_checked(),
+                    number,
+                    slots,
+                    answer,
+                )
+            }
+        });
+        Ok(read?.0)
     }
 
     /// Writes the record from `out[0]` on and answers its length. Refusals: 7, 6.

@@ -13,7 +13,7 @@ pub const LIMIT: usize = sys::LIMIT;
 /// A refusal changes no lent buffer.
 #[derive(Debug, Clone, Copy, PartialEq, Eq, PartialOrd, Ord, Hash)]
 pub struct Refusal {
-    /// The refusal's number, 1 to 14. [`kind`](Self::kind) names it.
+    /// The refusal's number, as [`RefusalKind`] has them: there is none of 15. [`kind`](Self::kind) names it.
     pub number: u32,
     /// The first figure; [`RefusalKind`] says what it is for each kind.
     pub expected: usize,
@@ -53,10 +53,13 @@ pub enum RefusalKind {
     NameNotFound = 13,
     /// No attribute or refactor record has that number: how many there are, number asked.
     NoSuchNumber = 14,
+    /// In the [checked mode](crate::Mode::Checked), an end byte that is not 0: its place in the entry, or in a record or
+    /// chain that is read by itself; the byte.
+    EndByte = 16,
 }
 
 impl RefusalKind {
-    const ALL: [Self; 14] = [
+    const ALL: [Self; 15] = [
         Self::UnexpectedLength,
         Self::TooShort,
         Self::EntryLengthMismatch,
@@ -71,6 +74,7 @@ impl RefusalKind {
         Self::BadHexadecimal,
         Self::NameNotFound,
         Self::NoSuchNumber,
+        Self::EndByte,
     ];
 
     /// The number of refusals of this kind.
@@ -101,6 +105,7 @@ impl RefusalKind {
             Self::BadHexadecimal => ("bad hexadecimal line", "", ""),
             Self::NameNotFound => ("name not found", "", ""),
             Self::NoSuchNumber => ("no such number", "there", "asked"),
+            Self::EndByte => ("end byte is not 0", "", ""),
         }
     }
 }
@@ -154,6 +159,7 @@ impl fmt::Display for Refusal {
                 write!(f, ": section {expected}, {}", section(expected))
             }
             RefusalKind::BadText => write!(f, ": {} at byte {expected}", fault(got)),
+            RefusalKind::EndByte => write!(f, ": {got} at byte {expected}"),
             RefusalKind::BadHexadecimal | RefusalKind::NameNotFound => Ok(()),
             _ => write!(f, ": {expected} {first}, {got} {second}"),
         }

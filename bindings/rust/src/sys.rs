@@ -294,6 +294,136 @@ unsafe extern "C" {
         name_len: usize,
         answer: &mut [u64; 2],
     ) -> u32;
+    pub fn vindaskot_symbol_read_in(
+        bytes: *const u8,
+        bytes_len: usize,
+        checked: bool,
+        slots: &mut [u64; 21],
+        guid: &mut [u8; 16],
+        answer: &mut [u64; 2],
+    ) -> u32;
+    pub fn vindaskot_symbol_step_in(
+        bytes: *const u8,
+        bytes_len: usize,
+        checked: bool,
+        cursor: &mut usize,
+        slots: &mut [u64; 21],
+        guid: &mut [u8; 16],
+        answer: &mut [u64; 2],
+    ) -> u32;
+    pub fn vindaskot_symbol_attribute_in(
+        bytes: *const u8,
+        bytes_len: usize,
+        checked: bool,
+        number: usize,
+        slots: &mut [u64; 5],
+        answer: &mut [u64; 2],
+    ) -> u32;
+    pub fn vindaskot_symbol_refactor_info_in(
+        bytes: *const u8,
+        bytes_len: usize,
+        checked: bool,
+        number: usize,
+        slots: &mut [u64; 5],
+        answer: &mut [u64; 2],
+    ) -> u32;
+    pub fn vindaskot_symbol_attribute_named_in(
+        bytes: *const u8,
+        bytes_len: usize,
+        checked: bool,
+        name: *const u8,
+        name_len: usize,
+        slots: &mut [u64; 5],
+        answer: &mut [u64; 2],
+    ) -> u32;
+    pub fn vindaskot_field_read_in(
+        bytes: *const u8,
+        bytes_len: usize,
+        checked: bool,
+        slots: &mut [u64; 17],
+        guid: &mut [u8; 16],
+        answer: &mut [u64; 2],
+    ) -> u32;
+    pub fn vindaskot_field_step_in(
+        bytes: *const u8,
+        bytes_len: usize,
+        checked: bool,
+        cursor: &mut usize,
+        slots: &mut [u64; 17],
+        guid: &mut [u8; 16],
+        answer: &mut [u64; 2],
+    ) -> u32;
+    pub fn vindaskot_field_attribute_in(
+        bytes: *const u8,
+        bytes_len: usize,
+        checked: bool,
+        number: usize,
+        slots: &mut [u64; 5],
+        answer: &mut [u64; 2],
+    ) -> u32;
+    pub fn vindaskot_field_attribute_named_in(
+        bytes: *const u8,
+        bytes_len: usize,
+        checked: bool,
+        name: *const u8,
+        name_len: usize,
+        slots: &mut [u64; 5],
+        answer: &mut [u64; 2],
+    ) -> u32;
+    pub fn vindaskot_attribute_read_in(
+        bytes: *const u8,
+        bytes_len: usize,
+        checked: bool,
+        slots: &mut [u64; 5],
+        answer: &mut [u64; 2],
+    ) -> u32;
+    pub fn vindaskot_refactor_read_in(
+        bytes: *const u8,
+        bytes_len: usize,
+        checked: bool,
+        slots: &mut [u64; 5],
+        answer: &mut [u64; 2],
+    ) -> u32;
+    pub fn vindaskot_chain_read_in(
+        bytes: *const u8,
+        bytes_len: usize,
+        checked: bool,
+        answer: &mut [u64; 2],
+    ) -> u32;
+    pub fn vindaskot_chain_record_in(
+        bytes: *const u8,
+        bytes_len: usize,
+        checked: bool,
+        number: usize,
+        slots: &mut [u64; 5],
+        answer: &mut [u64; 2],
+    ) -> u32;
+    pub fn vindaskot_index_build_in(
+        bytes: *const u8,
+        bytes_len: usize,
+        checked: bool,
+        slots: *mut u32,
+        slots_len: usize,
+        answer: &mut [u64; 2],
+    ) -> u32;
+    pub fn vindaskot_find_in(
+        bytes: *const u8,
+        bytes_len: usize,
+        checked: bool,
+        name: *const u8,
+        name_len: usize,
+        answer: &mut [u64; 2],
+    ) -> u32;
+    pub fn vindaskot_find_indexed_in(
+        bytes: *const u8,
+        bytes_len: usize,
+        checked: bool,
+        slots: *const u32,
+        slots_len: usize,
+        name: *const u8,
+        name_len: usize,
+        answer: &mut [u64; 2],
+    ) -> u32;
     pub fn vindaskot_decode(
         src: *const u8,
         src_len: usize,

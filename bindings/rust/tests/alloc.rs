@@ -6,9 +6,11 @@ use std::cell::Cell;
 
 use common::plain::{PlainField, PlainSymbol};
 use common::{Random, refusal, rig};
-use vindaskot::index::starts_to_vec;
+use vindaskot::index::{starts_to_vec, starts_to_vec_in};
 use vindaskot::text::{decode_to_string, encode_to_vec};
-use vindaskot::{AdsAttribute, AdsFieldInfo, AdsRefactorInfo, AdsSymbolInfo, Index, SymbolParts};
+use vindaskot::{
+    AdsAttribute, AdsFieldInfo, AdsRefactorInfo, AdsSymbolInfo, Index, Mode, SymbolParts,
+};
 
 #[test]
 fn entries() {
@@ -87,4 +89,21 @@ fn starts() {
     assert_eq!(index, Index::over(&starts));
     assert_eq!(starts_to_vec(&[]), Ok(vec![]));
     assert_eq!(starts_to_vec(&[0; 9]), Err(refusal(10, 1, 0)));
+}
+
+#[test]
+fn starts_in_a_mode() {
+    let mut upload = rig();
+    let starts = starts_to_vec(&upload).unwrap();
+    // The second symbol's name has no end byte of 0.
+    let second = starts[1] as usize;
+    let name = AdsSymbolInfo::try_from_slice(&upload[second..]).unwrap();
+    let end = second + 30 + name.name().len();
+    upload[end] = b'X';
+    let present = starts_to_vec_in(&upload, Mode::Present);
+    assert_eq!(present.as_ref(), Ok(&starts));
+    let checked = starts_to_vec_in(&upload, Mode::Checked).unwrap();
+    assert_eq!(checked, [&starts[..1], &starts[2..]].concat());
+    let zero = starts_to_vec_in(&[0; 9], Mode::Checked);
+    assert_eq!(zero, Err(refusal(10, 1, 0)));
 }

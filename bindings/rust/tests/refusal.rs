@@ -3,11 +3,12 @@
 mod common;
 
 use common::refusal;
-use vindaskot::index::slots_needed;
+use vindaskot::index::{slots_needed, slots_needed_in};
 use vindaskot::text::{decode, encode};
 use vindaskot::{
     AdsAttribute, AdsFieldInfo, AdsRefactorInfo, AdsSymbol2Flags, AdsSymbolFlags, AdsSymbolInfo,
-    AdsSymbolInfoIterator, AdsTypeFlags, Index, LIMIT, RefusalKind, WalkEnd, find, walk,
+    AdsSymbolInfoIterator, AdsTypeFlags, Index, LIMIT, Mode, RefusalKind, WalkEnd, find, find_in,
+    walk,
 };
 
 /// A refusal a line: number, figures, and how they are told.
@@ -30,6 +31,8 @@ const TOLD: &str = "\
 12 0 0 bad hexadecimal line
 13 0 0 name not found
 14 3 9 no such number: 3 there, 9 asked
+16 41 88 end byte is not 0: 88 at byte 41
+15 1 2 expected 1, got 2
 99 1 2 expected 1, got 2";
 
 #[test]
@@ -45,7 +48,7 @@ fn words_and_figures() {
 
 #[test]
 fn kinds_by_number() {
-    for number in 1..=14 {
+    for number in (1..=14).chain([16]) {
         let why = refusal(number, 0, 0);
         let kind = why.kind().unwrap();
         assert_eq!(kind.number(), number);
@@ -53,10 +56,10 @@ fn kinds_by_number() {
     }
     assert_eq!(refusal(2, 0, 0).kind(), Some(RefusalKind::TooShort));
     assert_eq!(refusal(13, 0, 0).kind(), Some(RefusalKind::NameNotFound));
-    assert_eq!(
-        (refusal(0, 0, 0).kind(), refusal(15, 0, 0).kind()),
-        (None, None)
-    );
+    assert_eq!(refusal(16, 0, 0).kind(), Some(RefusalKind::EndByte));
+    for number in [0, 15, 17] {
+        assert_eq!(refusal(number, 0, 0).kind(), None);
+    }
 }
 
 #[test]
@@ -89,6 +92,14 @@ fn input_above_the_limit_is_refused_first() {
     assert_eq!(Index::over(&[0]).find(&large, b""), Err(why));
     assert_eq!(decode(&large, &mut []), Err(why));
     assert_eq!(encode(&large, &mut []), Err(why));
+    let checked = Mode::Checked;
+    assert_eq!(AdsSymbolInfo::try_from_slice_in(&large, checked), Err(why));
+    assert_eq!(AdsFieldInfo::try_from_slice_in(&large, checked), Err(why));
+    assert_eq!(AdsAttribute::try_from_slice_in(&large, checked), Err(why));
+    assert_eq!(slots_needed_in(&large, checked), Err(why));
+    assert_eq!(find_in(&large, b"", checked), Err(why));
+    let mut items = AdsSymbolInfoIterator::new_in(&large, checked);
+    assert_eq!([items.next(), items.next()], [Some(Err(why)), None]);
     let mut items = AdsSymbolInfoIterator::new(&large);
     assert_eq!([items.next(), items.next()], [Some(Err(why)), None]);
     let walked = walk(&large, 0, 3);

@@ -13,13 +13,15 @@ use Rattle.le.specs.Same.{sameBytes}
 use Rattle.le.proofs.Tests.{by-test, each-below}
 use Rattle.refusal.specs.Refusal.{limit}
 use Rattle.refusal.specs.declared.Refusal.{Refusal}
+use Rattle.refusal.specs.Ends.{endsIn}
+use Rattle.refusal.proofs.Ends.{by-checked}
 use Rattle.attr.specs.declared.AdsAttribute.{AdsAttribute}
 use Rattle.attr.specs.declared.AttributeAnswer.{AttributeAnswer}
 use Rattle.attr.specs.declared.AttributeAnswer.the-variants.{Record, Refused}
 use Rattle.attr.specs.declared.Attributes.{Attributes}
 use Rattle.attr.specs.declared.Ending.the-variants.{Fine, Stopped}
 use Rattle.attr.specs.declared.Listed.{Listed}
-use Rattle.attr.specs.Attribute.{attributeAt, attributeRead, nameAt, valueAt, byAttribute, listed, attributesFrom, attributesAt, attributeNth, attributeNamed}
+use Rattle.attr.specs.Attribute.{attributeAt, endsOf, attributeRead, nameAt, valueAt, byAttribute, listed, attributesFrom, attributesAt, attributeNth, attributeNamed}
 use Rattle.attr.specs.Inside.{Inside}
 use Rattle.attr.proofs.Read as read
 
@@ -96,14 +98,17 @@ begun : (s : List ℕ) (at : ℕ) (t : AttributeAnswer) → attributeAt s at ≡
 begun s at (Record a) e = let i = lies s at a e in subst (Begun s) (sym (i .is) ∙ e) (omega (arith, i .name, i .value, i .whole), omega (arith, i .value, i .whole))
 begun s at (Refused why) e = (omega arith, omega arith)
 
-pub read-begun : (s : List ℕ) → Begun s (attributeRead s)
-unfolding attributeRead
-read-begun s = by-test (Begun s) (ltb limit (length s)) (omega arith, omega arith) (begun s 0 (attributeAt s 0) refl)
-
 -- of an answer that goes on from the record at a place
 goes-on : (s : List ℕ) (t : AttributeAnswer) (on : AdsAttribute → AttributeAnswer) → ((a : AdsAttribute) → t ≡ Record a → Begun s (on a)) → Begun s (byAttribute t on Refused)
 goes-on s (Record a) on h = h a refl
 goes-on s (Refused why) on h = (omega arith, omega arith)
+
+-- of one that is read alone, in whatever mode
+pub read-begun : (mode : Bool) (s : List ℕ) → Begun s (attributeRead mode s)
+unfolding attributeRead
+read-begun mode s =
+    by-test (Begun s) (ltb limit (length s)) (omega arith, omega arith)
+    (goes-on s (attributeAt s 0) _ (λ a e. by-checked (Begun s) (endsIn mode s (endsOf a)) (begun s 0 (Record a) e) (λ why. (omega arith, omega arith))))
 
 nth-begun : (s : List ℕ) (k at : ℕ) → Begun s (attributeNth s at k)
 unfolding attributeNth

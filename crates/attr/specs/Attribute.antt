@@ -1,12 +1,13 @@
 -- 01, "Attribute": name length, value length (1 byte each), name, end byte, value, end byte.
 use Prim.Native.Nat.{ℕ, zero, suc, _+_, _-_}
 use mathlib.Core.Bool.{Bool}
-use mathlib.Core.List.{List, []}
+use mathlib.Core.List.{List, [], _∷_, _++_}
 use lib.Dec.{ltb, leb}
 use lib.ListN.{length, getD}
 use Rattle.le.specs.Le.{if_then_else_, le2, part}
 use Rattle.le.specs.Same.{sameBytes}
 use Rattle.refusal.specs.Refusal.{limit}
+use Rattle.refusal.specs.Ends.{endsIn, byChecked}
 use Rattle.refusal.specs.declared.Refusal.{Refusal}
 use Rattle.refusal.specs.declared.Refusal.the-variants.{TooShort, UnexpectedLength, TooLarge, NameNotFound}
 use Rattle.attr.specs.declared.AdsAttribute.{AdsAttribute}
@@ -26,10 +27,6 @@ attributeSized at there n v =
 
 unfoldable pub attributeAt : List ℕ → ℕ → AttributeAnswer
 attributeAt s at = attributeSized at (length s - at) (getD s at 0) (getD s (at + 1) 0)
-
--- a record read alone, which may be followed by other bytes
-unfoldable pub attributeRead : List ℕ → AttributeAnswer
-attributeRead s = if ltb limit (length s) then Refused (TooLarge (length s)) else attributeAt s 0
 
 -- its two strings: the bytes that the lengths place, none where it was refused
 abbrev pub nameIn : List ℕ → AttributeAnswer → List ℕ
@@ -52,6 +49,21 @@ valueAt (Refused why) = 0
 abbrev pub byAttribute : {A : Type 0} → AttributeAnswer → (AdsAttribute → A) → (Refusal → A) → A
 byAttribute (Record a) on stop = on a
 byAttribute (Refused why) on stop = stop why
+
+-- W-212: the places of a record's end bytes, its name's and then its value's
+abbrev pub endsOf : AdsAttribute → List ℕ
+endsOf a = (a .name + a .«name_len») ∷ (a .value + a .«value_len») ∷ []
+
+-- a record read alone in a mode, which may be followed by other bytes: its end bytes after its lengths
+unfoldable pub attributeRead : Bool → List ℕ → AttributeAnswer
+attributeRead mode s =
+    if ltb limit (length s) then Refused (TooLarge (length s))
+    else byAttribute (attributeAt s 0) (λ a. byChecked (endsIn mode s (endsOf a)) (Record a) Refused) Refused
+
+-- the places of the end bytes of so many records from a place on, up to one that is refused, in the order in which they are met
+unfoldable pub attributeEnds : List ℕ → ℕ → ℕ → List ℕ
+attributeEnds s at zero = []
+attributeEnds s at (suc left) = byAttribute (attributeAt s at) (λ a. endsOf a ++ attributeEnds s (a .next) left) (λ why. [])
 
 abbrev pub listed : ℕ → ℕ → Ending → Listed
 listed shown next ending = record { shown = shown; next = next; ending = ending }

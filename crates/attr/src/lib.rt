@@ -5,9 +5,10 @@ use refusal::Refusal;
 ghost use mathlib.Core.Path.{_≡_};
 ghost use Prim.Native.Nat.{_+_};
 ghost use Rattle.le.specs.Place.{Behind, begins};
-ghost use Rattle.attr.specs.Attribute.{attributeAt, nameIn, valueIn, nameAt, valueAt, attributesFrom, attributesAt, attributeNth, attributeNamed};
+ghost use Rattle.attr.specs.Attribute.{attributeAt, nameIn, valueIn, nameAt, valueAt, attributesFrom, attributesAt, attributeNth, attributeNamed, endsOf, attributeEnds};
 ghost use Rattle.attr.specs.Writing.{attributesChecked, endsZero, goodAttribute};
 ghost use Rattle.refusal.specs.Writing.{goodFrom};
+ghost use Rattle.refusal.specs.Ends.{endsMet};
 
 // A record of a slice: its two strings by place and length, and the place after it.
 pub struct AdsAttribute {
@@ -105,6 +106,36 @@ pub fn value_in(s: &[u8], answer: AttributeAnswer) -> &[u8]
         AttributeAnswer::Record(a) => le::part_of(s, a.value, wide(a.value_len)),
         AttributeAnswer::Refused(_) => &s[..0],
     }
+}
+
+// The end bytes of a record of these bytes, its name's and then its value's.
+pub fn check_ends(s: &[u8], a: AdsAttribute) -> Checked
+    ensures { λ r. ⌜ r ≡ endsMet (now (s .entry)) (endsOf a) ⌝ }
+{
+    refusal::check_two_ends(s, a.name, wide(a.name_len), a.value, wide(a.value_len))
+}
+
+// Those of so many records from a place on.
+pub fn check_ends_from(s: &[u8], from: usize, count: usize) -> Checked
+    ensures { λ r. ⌜ r ≡ endsMet (now (s .entry)) (attributeEnds (now (s .entry)) from count) ⌝ }
+{
+    let mut at = from;
+    let mut left = count;
+    while 0 < left {
+        left = left - 1;
+        match attribute_at(s, at) {
+            AttributeAnswer::Record(a) => {
+                at = a.next;
+                if let Checked::Refused(why) = check_ends(s, a) {
+                    return Checked::Refused(why);
+                }
+            }
+            AttributeAnswer::Refused(_) => {
+                return Checked::Passed;
+            }
+        }
+    }
+    Checked::Passed
 }
 
 // The list of at most so many records from a place on.

@@ -1,6 +1,7 @@
 // Attributes that stand alone, read and written. The Rust's attributes.rs; crate attr has what stands below, and the record.
 use attr::AdsAttribute;
 use attr::AttributeAnswer;
+use refusal::Checked;
 use refusal::Refusal;
 use refusal::Written;
 ghost use mathlib.Core.Path.{_≡_};
@@ -10,28 +11,38 @@ ghost use Rattle.attr.specs.Attribute.{attributeRead, nameIn, valueIn, nameAt, 
 ghost use Rattle.attr.specs.Writing.{attributeWriting};
 ghost use Rattle.refusal.specs.Writing.{Writes};
 
-pub fn try_from_slice(bytes: &[u8]) -> AttributeAnswer
-    ensures { λ r. ⌜ r ≡ attributeRead (now (bytes .entry)) ⌝ }
+pub fn try_from_slice(bytes: &[u8], checked: bool) -> AttributeAnswer
+    ensures { λ r. ⌜ r ≡ attributeRead checked (now (bytes .entry)) ⌝ }
 {
     let length = bytes.len();
     if refusal::LIMIT < length {
         return AttributeAnswer::Refused(Refusal::TooLarge { length });
     }
-    attr::attribute_at(bytes, 0)
+    match attr::attribute_at(bytes, 0) {
+        AttributeAnswer::Record(a) => {
+            if checked {
+                if let Checked::Refused(why) = attr::check_ends(bytes, a) {
+                    return AttributeAnswer::Refused(why);
+                }
+            }
+            AttributeAnswer::Record(a)
+        }
+        AttributeAnswer::Refused(why) => AttributeAnswer::Refused(why),
+    }
 }
 
-pub fn name(bytes: &[u8]) -> &[u8]
-    ensures { λ r. ⌜ now r ≡ nameIn (now (bytes .entry)) (attributeRead (now (bytes .entry))) ⌝ }
-    ensures { λ r. ⌜ Behind (bytes .entry) r (nameAt (attributeRead (now (bytes .entry)))) ⌝ }
+pub fn name(bytes: &[u8], checked: bool) -> &[u8]
+    ensures { λ r. ⌜ now r ≡ nameIn (now (bytes .entry)) (attributeRead checked (now (bytes .entry))) ⌝ }
+    ensures { λ r. ⌜ Behind (bytes .entry) r (nameAt (attributeRead checked (now (bytes .entry)))) ⌝ }
 {
-    attr::name_in(bytes, try_from_slice(bytes))
+    attr::name_in(bytes, try_from_slice(bytes, checked))
 }
 
-pub fn value(bytes: &[u8]) -> &[u8]
-    ensures { λ r. ⌜ now r ≡ valueIn (now (bytes .entry)) (attributeRead (now (bytes .entry))) ⌝ }
-    ensures { λ r. ⌜ Behind (bytes .entry) r (valueAt (attributeRead (now (bytes .entry)))) ⌝ }
+pub fn value(bytes: &[u8], checked: bool) -> &[u8]
+    ensures { λ r. ⌜ now r ≡ valueIn (now (bytes .entry)) (attributeRead checked (now (bytes .entry))) ⌝ }
+    ensures { λ r. ⌜ Behind (bytes .entry) r (valueAt (attributeRead checked (now (bytes .entry)))) ⌝ }
 {
-    attr::value_in(bytes, try_from_slice(bytes))
+    attr::value_in(bytes, try_from_slice(bytes, checked))
 }
 
 pub fn wire_size(a: AdsAttribute) -> usize

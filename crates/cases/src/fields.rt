@@ -23,15 +23,15 @@ fn more_numbers(out: &mut [u8], at: usize, info: AdsFieldInfo) -> usize {
 }
 
 fn strings(out: &mut [u8], at: usize, e: &[u8]) -> usize {
-    let p = hex(out, at, field_info::name(e));
-    let q = hex(out, p, field_info::type_name(e));
-    hex(out, q, field_info::comment(e))
+    let p = hex(out, at, field_info::name(e, refusal::PRESENT));
+    let q = hex(out, p, field_info::type_name(e, refusal::PRESENT));
+    hex(out, q, field_info::comment(e, refusal::PRESENT))
 }
 
 fn attribute_if(out: &mut [u8], at: usize, e: &[u8], i: usize, count: usize) -> usize {
     if is_listed(i, count) {
-        let p = hex(out, at, field_info::attribute_name(e, i));
-        return hex(out, p, field_info::attribute_value(e, i));
+        let p = hex(out, at, field_info::attribute_name(e, refusal::PRESENT, i));
+        return hex(out, p, field_info::attribute_value(e, refusal::PRESENT, i));
     }
     at
 }
@@ -61,7 +61,7 @@ fn record(out: &mut [u8], at: usize, e: &[u8], info: AdsFieldInfo, guid: [u8; 16
 }
 
 pub(crate) fn direct(out: &mut [u8], at: usize, d: &[u8]) -> usize {
-    let read = field_info::try_from_slice(d);
+    let read = field_info::try_from_slice(d, refusal::PRESENT);
     let answer = read.answer;
     let guid = read.guid;
     match answer {

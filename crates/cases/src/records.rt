@@ -126,12 +126,12 @@ pub(crate) fn flags(out: &mut [u8], at: usize, d: &[u8]) -> usize {
 }
 
 pub(crate) fn attribute(out: &mut [u8], at: usize, d: &[u8]) -> usize {
-    match attributes::try_from_slice(d) {
+    match attributes::try_from_slice(d, refusal::PRESENT) {
         AttributeAnswer::Record(a) => {
             let p = word(out, at, b"ok");
             let q = number(out, p, attributes::wire_size(a));
-            let r = hex(out, q, attributes::name(d));
-            hex(out, r, attributes::value(d))
+            let r = hex(out, q, attributes::name(d, refusal::PRESENT));
+            hex(out, r, attributes::value(d, refusal::PRESENT))
         }
         AttributeAnswer::Refused(why) => refused(out, at, why),
     }
@@ -145,30 +145,35 @@ pub(crate) fn refactor_of(out: &mut [u8], at: usize, r: AdsRefactorInfo, name: &
 }
 
 pub(crate) fn refactor(out: &mut [u8], at: usize, d: &[u8]) -> usize {
-    match refactor_info::try_from_slice(d) {
+    match refactor_info::try_from_slice(d, refusal::PRESENT) {
         RefactorAnswer::Record(r) => {
             let p = word(out, at, b"ok");
             let q = number(out, p, r.next);
-            refactor_of(out, q, r, refactor_info::name(d))
+            refactor_of(out, q, r, refactor_info::name(d, refusal::PRESENT))
         }
         RefactorAnswer::Refused(why) => refused(out, at, why),
     }
 }
 
 pub(crate) fn wire_size(out: &mut [u8], at: usize, d: &[u8]) -> usize {
-    match refactor_info::try_from_slice(d) {
+    match refactor_info::try_from_slice(d, refusal::PRESENT) {
         RefactorAnswer::Record(r) => {
             let p = word(out, at, b"ok");
             let q = number(out, p, refactor_info::wire_size(r));
-            refactor_of(out, q, r, refactor_info::name(d))
+            refactor_of(out, q, r, refactor_info::name(d, refusal::PRESENT))
         }
         RefactorAnswer::Refused(why) => refused(out, at, why),
     }
 }
 
 fn chain_record(out: &mut [u8], at: usize, d: &[u8], i: usize) -> usize {
-    match refactor_info::chain_record(d, i) {
-        RefactorAnswer::Record(r) => refactor_of(out, at, r, refactor_info::chain_name(d, i)),
+    match refactor_info::chain_record(d, refusal::PRESENT, i) {
+        RefactorAnswer::Record(r) => refactor_of(
+            out,
+            at,
+            r,
+            refactor_info::chain_name(d, refusal::PRESENT, i),
+        ),
         RefactorAnswer::Refused(why) => refused(out, at, why),
     }
 }
@@ -191,7 +196,7 @@ fn chain_records(out: &mut [u8], from: usize, d: &[u8], count: usize) -> usize {
 }
 
 pub(crate) fn chain(out: &mut [u8], at: usize, d: &[u8]) -> usize {
-    match refactor_info::parse_chain(d) {
+    match refactor_info::parse_chain(d, refusal::PRESENT) {
         ChainAnswer::Whole(chain) => {
             let p = word(out, at, b"ok");
             let q = number(out, p, chain.next);

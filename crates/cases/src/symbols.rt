@@ -31,15 +31,15 @@ fn kind(out: &mut [u8], at: usize, info: AdsSymbolInfo) -> usize {
 }
 
 fn strings(out: &mut [u8], at: usize, e: &[u8]) -> usize {
-    let p = hex(out, at, symbol_info::name(e));
-    let q = hex(out, p, symbol_info::type_name(e));
-    hex(out, q, symbol_info::comment(e))
+    let p = hex(out, at, symbol_info::name(e, refusal::PRESENT));
+    let q = hex(out, p, symbol_info::type_name(e, refusal::PRESENT));
+    hex(out, q, symbol_info::comment(e, refusal::PRESENT))
 }
 
 fn attribute_if(out: &mut [u8], at: usize, e: &[u8], i: usize, count: usize) -> usize {
     if is_listed(i, count) {
-        let p = hex(out, at, symbol_info::attribute_name(e, i));
-        return hex(out, p, symbol_info::attribute_value(e, i));
+        let p = hex(out, at, symbol_info::attribute_name(e, refusal::PRESENT, i));
+        return hex(out, p, symbol_info::attribute_value(e, refusal::PRESENT, i));
     }
     at
 }
@@ -55,8 +55,13 @@ fn attributes(out: &mut [u8], from: usize, e: &[u8], count: usize) -> usize {
 }
 
 fn refactor_at(out: &mut [u8], at: usize, e: &[u8], i: usize) -> usize {
-    match symbol_info::refactor_info(e, i) {
-        RefactorAnswer::Record(r) => refactor_of(out, at, r, symbol_info::refactor_name(e, i)),
+    match symbol_info::refactor_info(e, refusal::PRESENT, i) {
+        RefactorAnswer::Record(r) => refactor_of(
+            out,
+            at,
+            r,
+            symbol_info::refactor_name(e, refusal::PRESENT, i),
+        ),
         RefactorAnswer::Refused(why) => refused(out, at, why),
     }
 }
@@ -110,7 +115,7 @@ fn record(out: &mut [u8], at: usize, e: &[u8], info: AdsSymbolInfo, guid: [u8; 1
 }
 
 pub(crate) fn direct(out: &mut [u8], at: usize, d: &[u8]) -> usize {
-    let read = symbol_info::try_from_slice(d);
+    let read = symbol_info::try_from_slice(d, refusal::PRESENT);
     let answer = read.answer;
     let guid = read.guid;
     match answer {
@@ -143,7 +148,7 @@ fn arrive(out: &mut [u8], at: usize, from: usize, cursor: usize, finished: bool)
 }
 
 fn step(out: &mut [u8], at: usize, d: &[u8], from: usize) -> Went {
-    let stepped = Cursor { at: from }.step(d);
+    let stepped = Cursor { at: from }.step(d, refusal::PRESENT);
     let step = stepped.step;
     let guid = stepped.guid;
     let cursor = stepped.cursor;

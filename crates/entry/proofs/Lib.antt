@@ -5,3 +5,4 @@ pub mod Claims
 pub mod AllSteps
 pub mod Demand3
 pub mod Useless
+pub mod Strings

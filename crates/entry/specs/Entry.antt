@@ -1,6 +1,6 @@
 -- An entry begins with its length in four bytes, which it claims. 01, "Walking", and the order of direct reading.
 use Prim.Native.Nat.{ℕ, _+_, _-_}
-use mathlib.Core.List.{List, []}
+use mathlib.Core.List.{List, [], _∷_}
 use lib.Dec.{ltb, leb}
 use lib.ListN.{length}
 use Rattle.le.specs.Le.{if_then_else_, le4, part}
@@ -12,6 +12,10 @@ use Rattle.entry.specs.declared.Met.the-variants as met
 use Rattle.entry.specs.declared.Claimed.{Claimed}
 use Rattle.entry.specs.declared.Claim.{Claim}
 use Rattle.entry.specs.declared.Claim.the-variants as claim
+
+-- W-212: the places of the end bytes of the three strings that follow a header of so many bytes, by their lengths
+abbrev pub stringEnds : ℕ → ℕ → ℕ → ℕ → List ℕ
+stringEnds header n t k = (header + n) ∷ (header + n + 1 + t) ∷ (header + n + 1 + t + 1 + k) ∷ []
 
 abbrev pub claimed : Met → ℕ → Claimed
 claimed what next = record { met = what; next = next }

@@ -1,8 +1,10 @@
 // Where an entry of an upload begins and ends: its first four bytes claim its length.
+use refusal::Checked;
 use refusal::Refusal;
 ghost use mathlib.Core.Path.{_≡_};
 ghost use Rattle.le.specs.Place.{Behind};
-ghost use Rattle.entry.specs.Entry.{claimAt, directClaim, ownBytes};
+ghost use Rattle.refusal.specs.Ends.{endsMet};
+ghost use Rattle.entry.specs.Entry.{claimAt, directClaim, ownBytes, stringEnds};
 ghost use Rattle.entry.specs.Walk.{boundedWalk};
 
 // What a walk meets at a place: an entry of so many bytes, or a refusal of its own.
@@ -112,6 +114,27 @@ pub fn own_bytes(bytes: &[u8], header: usize) -> &[u8]
     match direct_claim(bytes, header) {
         Claim::Entry(size) => le::part_of(bytes, 0, size),
         Claim::Refused(_) => &bytes[..0],
+    }
+}
+
+// The end bytes of the three strings that follow a header of so many bytes, in order.
+pub fn check_strings(
+    e: &[u8],
+    header: u16,
+    name_len: u16,
+    type_name_len: u16,
+    comment_len: u16,
+) -> Checked
+    ensures { λ r. ⌜ r ≡ endsMet (now (e .entry)) (stringEnds header «name_len» «type_name_len» «comment_len») ⌝ }
+{
+    let name = le::wide(header);
+    let n = le::wide(name_len);
+    let type_name = name + n + 1;
+    let t = le::wide(type_name_len);
+    let comment = type_name + t + 1;
+    match refusal::check_two_ends(e, name, n, type_name, t) {
+        Checked::Passed => refusal::check_end(e, comment, le::wide(comment_len)),
+        Checked::Refused(why) => Checked::Refused(why),
     }
 }
 

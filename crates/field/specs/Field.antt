@@ -1,4 +1,4 @@
--- 01, "Field": a header of 42 bytes, three strings, each with one end byte that is not looked at, then the sections.
+-- 01, "Field": a header of 42 bytes, three strings, each with one end byte, then the sections. W-212: the end bytes, which only the checked mode looks at.
 use Prim.Native.Nat.{ℕ, zero, suc, _+_, _-_, _*_}
 use mathlib.Core.Bool.{Bool}
 use mathlib.Core.List.{List}
@@ -7,14 +7,18 @@ use lib.ListN.{length}
 use Rattle.le.specs.Le.{if_then_else_, has, le2, le4, part}
 use Rattle.refusal.specs.declared.Refusal.{Refusal}
 use Rattle.refusal.specs.declared.Refusal.the-variants.{TooShort, EntryLengthMismatch}
-use Rattle.entry.specs.Entry.{directClaim, byClaim}
+use Rattle.refusal.specs.declared.Checked.{Checked}
+use Rattle.refusal.specs.declared.Checked.the-variants as checked
+use Rattle.refusal.specs.Ends.{endsIn, byChecked}
+use Rattle.entry.specs.Entry.{directClaim, byClaim, stringEnds}
 use Rattle.guid.specs.Guid.{guidAt, zeros16}
 use Rattle.guid.specs.declared.Guid.{Guid}
-use Rattle.attr.specs.Attribute.{attributesAt}
+use Rattle.attr.specs.Attribute.{attributesAt, attributeEnds}
 use Rattle.attr.specs.declared.Attributes.{Attributes}
 use Rattle.attr.specs.declared.Ending.{Ending}
 use Rattle.attr.specs.declared.Ending.the-variants.{Fine, Stopped}
 use Rattle.field.specs.declared.Shown.{Shown}
+use Rattle.field.specs.declared.Tail.{Tail}
 use Rattle.field.specs.declared.AdsFieldInfo.{AdsFieldInfo}
 use Rattle.field.specs.declared.FieldAnswer.the-variants.{Record, Refused}
 use Rattle.field.specs.declared.FieldRead.{FieldRead}
@@ -82,25 +86,36 @@ infoOf e hasGuid shown =
 abbrev pub refused : Refusal → FieldRead
 refused why = record { answer = Refused why; guid = zeros16 }
 
--- in a field a refused attribute refuses the field
-abbrev pub byEnding : Ending → FieldRead → FieldRead
-byEnding Fine read = read
-byEnding (Stopped why) read = refused why
+-- how a list of attributes ended: here a record that is refused refuses
+abbrev pub endedBy : Ending → Checked
+endedBy Fine = checked.Passed
+endedBy (Stopped why) = checked.Refused why
 
-unfoldable pub fieldWith : List ℕ → Guid → Attributes → FieldRead
-fieldWith e g a =
-    byEnding (a .list .ending)
-    (record { answer = Record (infoOf e (g .here) (record { first = a .first; count = a .list .shown })); guid = g .bytes })
+-- the tail of an entry in a mode: GUID, copy mask, methods and attributes from a place on, and the fault that is met first. The end bytes of the attributes
+-- shown stand before the one that is refused
+unfoldable pub tailOf : Bool → List ℕ → ℕ → Tail
+tailOf mode e at =
+    let g : Guid = guidAt e at (has (le4 e 28) typeGuid) in
+    let a : Attributes = attributesAfter e (g .next) (le4 e 28) in
+    record {
+      «has_guid» = g .here;
+      guid = g .bytes;
+      attributes = record { first = a .first; count = a .list .shown };
+      fault = byChecked (endsIn mode e (attributeEnds e (a .first) (a .list .shown))) (endedBy (a .list .ending)) checked.Refused;
+    }
 
--- an entry's own bytes, and nothing else of the upload: 2 for a header that is not there, 3 for strings that are not
-unfoldable pub fieldEntry : List ℕ → FieldRead
-fieldEntry e =
+unfoldable pub fieldWith : List ℕ → Tail → FieldRead
+fieldWith e t = byChecked (t .fault) (record { answer = Record (infoOf e (t .«has_guid») (t .attributes)); guid = t .guid }) refused
+
+-- an entry's own bytes in a mode, and nothing else of the upload: 2 for a header that is not there, 3 for strings that are not, 16 for their end bytes, then the tail
+unfoldable pub fieldEntry : Bool → List ℕ → FieldRead
+fieldEntry mode e =
     if ltb (length e) 42 then refused (TooShort 42 (length e))
     else if ltb (length e) (stringsEnd e) then refused (EntryLengthMismatch (stringsEnd e) (length e))
-    else
-    let g : Guid = guidAt e (itemsEnd e (stringsEnd e)) (has (le4 e 28) typeGuid) in
-    fieldWith e g (attributesAfter e (g .next) (le4 e 28))
+    else byChecked (endsIn mode e (stringEnds 42 (le2 e 32) (le2 e 34) (le2 e 36)))
+    (fieldWith e (tailOf mode e (itemsEnd e (stringsEnd e))))
+    refused
 
 -- a direct parse
-unfoldable pub fieldRead : List ℕ → FieldRead
-fieldRead s = byClaim (directClaim 42 s) (λ size. fieldEntry (part s 0 size)) refused
+unfoldable pub fieldRead : Bool → List ℕ → FieldRead
+fieldRead mode s = byClaim (directClaim 42 s) (λ size. fieldEntry mode (part s 0 size)) refused

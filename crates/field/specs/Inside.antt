@@ -1,6 +1,7 @@
--- Every place that an accepted field tells lies inside its entry, and what it shows comes back when it is asked for by number.
+-- Every place that a field accepted in whatever mode tells lies inside its entry, and what it shows comes back when it is asked for by number.
 use Prim.Native.Nat.{ℕ, _+_, _<_, _≤_}
 use mathlib.Core.Path.{_≡_}
+use mathlib.Core.Bool.{Bool}
 use mathlib.Core.List.{List}
 use lib.ListN.{length}
 use Rattle.refusal.specs.declared.Refusal.the-variants.{NoSuchNumber}
@@ -21,13 +22,13 @@ pub record Inside (e : List ℕ) (info : AdsFieldInfo) : Type 0 where
   pub attributes : (k : ℕ) → k < info .attributes .count → attribute.Inside e (attributeNth e (info .attributes .first) k)
 
 abbrev pub FieldsInside : Type 0
-FieldsInside = (e : List ℕ) (info : AdsFieldInfo) → fieldEntry e .answer ≡ Record info → Inside e info
+FieldsInside = (mode : Bool) (e : List ℕ) (info : AdsFieldInfo) → fieldEntry mode e .answer ≡ Record info → Inside e info
 
 -- a number below the count is never refused, and one past it is 14
-pub record Shown (s : List ℕ) (info : AdsFieldInfo) : Type 0 where
+pub record Shown (mode : Bool) (s : List ℕ) (info : AdsFieldInfo) : Type 0 where
   pub inside : Inside (ownBytes 42 s) info
-  pub attributes : (k : ℕ) → k < info .attributes .count → attribute.Inside (ownBytes 42 s) (fieldAttribute s k)
-  pub no-attribute : (k : ℕ) → info .attributes .count ≤ k → fieldAttribute s k ≡ attribute-answer.Refused (NoSuchNumber (info .attributes .count) k)
+  pub attributes : (k : ℕ) → k < info .attributes .count → attribute.Inside (ownBytes 42 s) (fieldAttribute mode s k)
+  pub no-attribute : (k : ℕ) → info .attributes .count ≤ k → fieldAttribute mode s k ≡ attribute-answer.Refused (NoSuchNumber (info .attributes .count) k)
 
 abbrev pub FieldsShown : Type 0
-FieldsShown = (s : List ℕ) (info : AdsFieldInfo) → fieldRead s .answer ≡ Record info → Shown s info
+FieldsShown = (mode : Bool) (s : List ℕ) (info : AdsFieldInfo) → fieldRead mode s .answer ≡ Record info → Shown mode s info

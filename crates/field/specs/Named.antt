@@ -1,6 +1,7 @@
 -- What an answer to an attribute's name means: the answer to its number.
 use Prim.Native.Nat.{ℕ}
 use mathlib.Core.Path.{_≡_}
+use mathlib.Core.Bool.{Bool}
 use mathlib.Core.List.{List}
 use Rattle.refusal.specs.declared.Refusal.{Refusal}
 use Rattle.entry.specs.Entry.{ownBytes}
@@ -19,4 +20,4 @@ pub record AnswersName (t : FieldAnswer) (e name : List ℕ) (ask : ℕ → Attr
   pub refused : (why : Refusal) → t ≡ Refused why → answer ≡ attribute.Refused why
 
 abbrev pub FieldsNamed : Type 0
-FieldsNamed = (s name : List ℕ) → AnswersName (fieldRead s .answer) (ownBytes 42 s) name (fieldAttribute s) (fieldAttributeNamed s name)
+FieldsNamed = (mode : Bool) (s name : List ℕ) → AnswersName (fieldRead mode s .answer) (ownBytes 42 s) name (fieldAttribute mode s) (fieldAttributeNamed mode s name)

@@ -1,5 +1,6 @@
--- What can be asked of a field entry: its strings, and its attributes by number and by name.
+-- What can be asked of a field entry, in a mode: its strings, and its attributes by number and by name.
 use Prim.Native.Nat.{ℕ, _+_}
+use mathlib.Core.Bool.{Bool}
 use mathlib.Core.List.{List, []}
 use lib.Dec.{ltb}
 use Rattle.le.specs.Le.{if_then_else_, part}
@@ -29,29 +30,29 @@ abbrev pub commentAt : AdsFieldInfo → ℕ
 commentAt r = 44 + r .«name_len» + r .«type_name_len»
 
 -- the bytes that the lengths place, none where the reader refuses
-unfoldable pub fieldName : List ℕ → List ℕ
-fieldName s = byField (fieldRead s .answer) (λ r. part s nameAt (r .«name_len»)) (λ why. [])
+unfoldable pub fieldName : Bool → List ℕ → List ℕ
+fieldName mode s = byField (fieldRead mode s .answer) (λ r. part s nameAt (r .«name_len»)) (λ why. [])
 
-unfoldable pub fieldTypeName : List ℕ → List ℕ
-fieldTypeName s = byField (fieldRead s .answer) (λ r. part s (typeNameAt r) (r .«type_name_len»)) (λ why. [])
+unfoldable pub fieldTypeName : Bool → List ℕ → List ℕ
+fieldTypeName mode s = byField (fieldRead mode s .answer) (λ r. part s (typeNameAt r) (r .«type_name_len»)) (λ why. [])
 
-unfoldable pub fieldComment : List ℕ → List ℕ
-fieldComment s = byField (fieldRead s .answer) (λ r. part s (commentAt r) (r .«comment_len»)) (λ why. [])
+unfoldable pub fieldComment : Bool → List ℕ → List ℕ
+fieldComment mode s = byField (fieldRead mode s .answer) (λ r. part s (commentAt r) (r .«comment_len»)) (λ why. [])
 
 -- the places where they begin, 0 where the reader refuses
-unfoldable pub fieldNameAt : List ℕ → ℕ
-fieldNameAt s = byField (fieldRead s .answer) (λ r. nameAt) (λ why. 0)
+unfoldable pub fieldNameAt : Bool → List ℕ → ℕ
+fieldNameAt mode s = byField (fieldRead mode s .answer) (λ r. nameAt) (λ why. 0)
 
-unfoldable pub fieldTypeNameAt : List ℕ → ℕ
-fieldTypeNameAt s = byField (fieldRead s .answer) typeNameAt (λ why. 0)
+unfoldable pub fieldTypeNameAt : Bool → List ℕ → ℕ
+fieldTypeNameAt mode s = byField (fieldRead mode s .answer) typeNameAt (λ why. 0)
 
-unfoldable pub fieldCommentAt : List ℕ → ℕ
-fieldCommentAt s = byField (fieldRead s .answer) commentAt (λ why. 0)
+unfoldable pub fieldCommentAt : Bool → List ℕ → ℕ
+fieldCommentAt mode s = byField (fieldRead mode s .answer) commentAt (λ why. 0)
 
 -- the reading refusals, then 14
-unfoldable pub fieldAttribute : List ℕ → ℕ → AttributeAnswer
-fieldAttribute s number =
-    byField (fieldRead s .answer)
+unfoldable pub fieldAttribute : Bool → List ℕ → ℕ → AttributeAnswer
+fieldAttribute mode s number =
+    byField (fieldRead mode s .answer)
     (λ r. if ltb number (r .attributes .count) then attributeNth (ownBytes 42 s) (r .attributes .first) number
     else attribute.Refused (NoSuchNumber (r .attributes .count) number))
     attribute.Refused
@@ -60,5 +61,5 @@ fieldAttribute s number =
 abbrev pub shownNamed : FieldAnswer → List ℕ → List ℕ → AttributeAnswer
 shownNamed t e name = byField t (λ r. attributeNamed e name (r .attributes .first) (r .attributes .count)) attribute.Refused
 
-unfoldable pub fieldAttributeNamed : List ℕ → List ℕ → AttributeAnswer
-fieldAttributeNamed s name = shownNamed (fieldRead s .answer) (ownBytes 42 s) name
+unfoldable pub fieldAttributeNamed : Bool → List ℕ → List ℕ → AttributeAnswer
+fieldAttributeNamed mode s name = shownNamed (fieldRead mode s .answer) (ownBytes 42 s) name

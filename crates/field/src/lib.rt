@@ -2,17 +2,30 @@
 use attr::Attributes;
 use attr::Ending;
 use flags::type_flags::AdsTypeFlags;
-use guid::Guid;
+use refusal::Checked;
 use refusal::Refusal;
 ghost use mathlib.Core.Path.{_≡_};
 ghost use Prim.Native.Nat.{_≤_};
 ghost use lib.ListN.{length};
-ghost use Rattle.field.specs.Field.{stringsEnd, skipFrom, itemsEnd, maskEnd, methodsEnd, attributesAfter, infoOf, refused, fieldWith, fieldEntry};
+ghost use Rattle.le.specs.Le.{le2, le4};
+ghost use Rattle.refusal.specs.Ends.{endsIn, byChecked};
+ghost use Rattle.refusal.specs.declared.Checked.«the-variants» as checks;
+ghost use Rattle.entry.specs.Entry.{stringEnds};
+ghost use Rattle.attr.specs.Attribute.{attributeEnds};
+ghost use Rattle.field.specs.Field.{stringsEnd, skipFrom, itemsEnd, maskEnd, methodsEnd, attributesAfter, infoOf, refused, endedBy, tailOf, fieldWith, fieldEntry};
 
 // Records of an entry that are asked for by number: the place of the first, and how many are shown.
 pub struct Shown {
     pub first: usize,
     pub count: usize,
+}
+
+// What stands after the sub-items, and the fault in it that is met first.
+pub struct Tail {
+    pub has_guid: bool,
+    pub guid: [u8; 16],
+    pub attributes: Shown,
+    pub fault: Checked,
 }
 
 // Places are those of the entry's own bytes.
@@ -146,32 +159,94 @@ fn info_of(e: &[u8], has_guid: bool, attributes: Shown) -> AdsFieldInfo
     }
 }
 
-// The record of an entry whose sections were read, unless one of its attributes was refused.
-fn read_with(e: &[u8], guid: Guid, found: Attributes) -> FieldRead
-    requires { ⌜ 42 ≤ length (now e) ⌝ }
-    ensures { λ r. ⌜ r ≡ fieldWith (now (e .entry)) guid found ⌝ }
+fn ended_by(ending: Ending) -> Checked
+    ensures { λ r. ⌜ r ≡ endedBy ending ⌝ }
 {
-    let list = found.list;
-    let ending = list.ending;
     match ending {
-        Ending::Fine => {
-            let shown = Shown {
-                first: found.first,
-                count: list.shown,
-            };
-            let bytes = guid.bytes;
-            FieldRead {
-                answer: FieldAnswer::Record(info_of(e, guid.here, shown)),
-                guid: bytes,
-            }
-        }
-        Ending::Stopped(why) => refused(why),
+        Ending::Fine => Checked::Passed,
+        Ending::Stopped(why) => Checked::Refused(why),
     }
 }
 
-// An entry's own bytes, read.
-pub fn read_entry(e: &[u8]) -> FieldRead
-    ensures { λ r. ⌜ r ≡ fieldEntry (now (e .entry)) ⌝ }
+// The end bytes of the attributes that are shown, if the mode asks for them.
+fn check_ends(e: &[u8], first: usize, count: usize, checked: bool) -> Checked
+    ensures { λ r. ⌜ r ≡ endsIn checked (now (e .entry)) (attributeEnds (now (e .entry)) first count) ⌝ }
+{
+    if checked {
+        return attr::check_ends_from(e, first, count);
+    }
+    Checked::Passed
+}
+
+fn fault_of(e: &[u8], found: Attributes, checked: bool) -> Checked
+    ensures { λ r. ⌜ r ≡ byChecked (endsIn checked (now (e .entry)) (attributeEnds (now (e .entry)) (found .first) (found .list .shown))) (endedBy (found .list .ending)) checks.Refused ⌝ }
+{
+    let list = found.list;
+    let ending = list.ending;
+    match check_ends(e, found.first, list.shown, checked) {
+        Checked::Passed => ended_by(ending),
+        Checked::Refused(why) => Checked::Refused(why),
+    }
+}
+
+// GUID, copy mask, methods and attributes from a place on.
+fn tail_of(e: &[u8], at: usize, checked: bool) -> Tail
+    requires { ⌜ 42 ≤ length (now e) ⌝ }
+    ensures { λ r. ⌜ r ≡ tailOf checked (now (e .entry)) at ⌝ }
+{
+    let flags = AdsTypeFlags(le::u32_at(e, 28));
+    let guid = guid::guid_at(e, at, flags.has_type_guid());
+    let found = attributes_after(e, guid.next, flags);
+    let list = found.list;
+    let bytes = guid.bytes;
+    Tail {
+        has_guid: guid.here,
+        guid: bytes,
+        attributes: Shown {
+            first: found.first,
+            count: list.shown,
+        },
+        fault: fault_of(e, found, checked),
+    }
+}
+
+// The record of an entry whose tail was read, unless that has a fault.
+fn read_with(e: &[u8], tail: Tail) -> FieldRead
+    requires { ⌜ 42 ≤ length (now e) ⌝ }
+    ensures { λ r. ⌜ r ≡ fieldWith (now (e .entry)) tail ⌝ }
+{
+    let fault = tail.fault;
+    let shown = tail.attributes;
+    let bytes = tail.guid;
+    match fault {
+        Checked::Passed => FieldRead {
+            answer: FieldAnswer::Record(info_of(e, tail.has_guid, shown)),
+            guid: bytes,
+        },
+        Checked::Refused(why) => refused(why),
+    }
+}
+
+// The end bytes of the strings, if the mode asks for them.
+fn check_names(e: &[u8], checked: bool) -> Checked
+    requires { ⌜ 42 ≤ length (now e) ⌝ }
+    ensures { λ r. ⌜ r ≡ endsIn checked (now (e .entry)) (stringEnds 42 (le2 (now (e .entry)) 32) (le2 (now (e .entry)) 34) (le2 (now (e .entry)) 36)) ⌝ }
+{
+    if checked {
+        return entry::check_strings(
+            e,
+            42,
+            le::u16_at(e, 32),
+            le::u16_at(e, 34),
+            le::u16_at(e, 36),
+        );
+    }
+    Checked::Passed
+}
+
+// An entry's own bytes, read in a mode.
+pub fn read_entry(e: &[u8], checked: bool) -> FieldRead
+    ensures { λ r. ⌜ r ≡ fieldEntry checked (now (e .entry)) ⌝ }
 {
     let length = e.len();
     if length < 42 {
@@ -187,7 +262,8 @@ pub fn read_entry(e: &[u8]) -> FieldRead
             available: length,
         });
     }
-    let flags = AdsTypeFlags(le::u32_at(e, 28));
-    let guid = guid::guid_at(e, items_end(e, end), flags.has_type_guid());
-    read_with(e, guid, attributes_after(e, guid.next, flags))
+    if let Checked::Refused(why) = check_names(e, checked) {
+        return refused(why);
+    }
+    read_with(e, tail_of(e, items_end(e, end), checked))
 }

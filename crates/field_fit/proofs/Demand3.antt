@@ -2,6 +2,7 @@
 use Prim.Native.Nat.{ℕ, _+_, _<_, _≤_}
 use native.Mathlib.Omega.{arith}
 use mathlib.Core.Path.{_≡_, ap, _∙_}
+use mathlib.Core.Bool.{Bool}
 use mathlib.Core.List.{List, _++_}
 use lib.ListN.{length}
 use Rattle.refusal.specs.Refusal.{limit}
@@ -31,18 +32,18 @@ grown-is : (p : Parts) (extra : List ℕ) → grown (bytesOf p) extra ≡ entryO
 unfolding fieldBytes
 grown-is p extra = grown-entry (bodyOf p) extra
 
-each : (p : Parts) (extra : List ℕ) → Fit p → length (grown (bytesOf p) extra) ≤ limit
+each : (mode : Bool) (p : Parts) (extra : List ℕ) → Fit p → length (grown (bytesOf p) extra) ≤ limit
     → Whole (grown (bytesOf p) extra)
     × ((s : List ℕ) (at : ℕ) → part s at (length (grown (bytesOf p) extra)) ≡ grown (bytesOf p) extra
-    → stepTold s (entry (grown (bytesOf p) extra) (at + length (grown (bytesOf p) extra))) ≡ Entry (fieldMeant p extra) (length (grown (bytesOf p) extra)) (at + length (grown (bytesOf p) extra)))
-each p extra f h =
+    → stepTold mode s (entry mode (grown (bytesOf p) extra) (at + length (grown (bytesOf p) extra))) ≡ Entry (fieldMeant p extra) (length (grown (bytesOf p) extra)) (at + length (grown (bytesOf p) extra)))
+each mode p extra f h =
     let n : length (grown (bytesOf p) extra) ≡ length (bodyOf p ++ extra) + 4 = ap length (grown-is p extra) ∙ length-entry (bodyOf p ++ extra) in
     let small : length (bodyOf p ++ extra) + 4 ≤ limit = omega arith in
     let fits : length (bodyOf p ++ extra) + 4 < 4294967296 = omega arith in
-    rw (grown-is p extra) (entry-whole (bodyOf p ++ extra) fits, same p f (accepted p (f .accepted)) extra small)
+    rw (grown-is p extra) (entry-whole (bodyOf p ++ extra) fits, same mode p f (accepted p (f .accepted)) extra small)
 
 pub demand3 : Demand3Fields
-demand3 = entries.demand3 kind Fit bytesOf fieldMeant each
+demand3 mode = entries.demand3 (kind mode) Fit bytesOf fieldMeant (each mode)
 
 -- what the writer answers reaches demand 3
 pub written-fields-fit : WrittenFieldsFit
@@ -54,6 +55,6 @@ written-fields-fit p old new n t g w =
     record { fit = record { typed = t; accepted = d .given ∙ ap Bytes i; agrees = g }; bytes = d .first ∙ i }
 
 pub fields-by-name : FieldsByName
-fields-by-name p extra name f h =
+fields-by-name mode p extra name f h =
     let n : length (grown (bytesOf p) extra) ≡ length (bodyOf p ++ extra) + 4 = ap length (grown-is p extra) ∙ length-entry (bodyOf p ++ extra) in
-    rw (grown-is p extra) (named-told p f (accepted p (f .accepted)) extra (omega arith) name)
+    rw (grown-is p extra) (named-told mode p f (accepted p (f .accepted)) extra (omega arith) name)

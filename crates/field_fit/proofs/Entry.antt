@@ -12,7 +12,15 @@ use Rattle.guid.specs.Guid.{guidAt, zeros16}
 use Rattle.guid.specs.declared.Guid.{Guid}
 use Rattle.guid.proofs.Read.{guid-read}
 use Rattle.attr.specs.declared.Attributes.{Attributes}
+use Rattle.field.specs.Field as fields
 use Rattle.field.specs.Field.{typeGuid, copyMask, attributes, stringsEnd, skipFrom, itemsEnd, attributesAfter, fieldWith, fieldEntry}
+use Rattle.refusal.specs.declared.Checked.the-variants.{Passed}
+use Rattle.refusal.specs.Ends.{endsMet}
+use Rattle.refusal.proofs.Ends.{pass-in}
+use Rattle.entry.specs.Entry.{stringEnds}
+use Rattle.attr.specs.Attribute.{attributeEnds}
+use Rattle.field.specs.declared.Tail.{Tail}
+use Rattle.wire.proofs.Header as strings
 use Rattle.wire.specs.Wire.{attributesOf, entryOf}
 use Rattle.field_writer.specs.Writing.{flagged, guidOf}
 use Rattle.field_fit.specs.Demand3.{Parts, Typed, Fit}
@@ -89,16 +97,37 @@ module _ (p : Parts) (f : Fit p) (a : Accepted p) (extra : List ℕ) (fits : len
   unfolding stringsEnd
   strings-end = simp (header.name-len p t a extra fits, header.type-name-len p t a extra fits, header.comment-len p t a extra fits) (sym (header.length-front p t a extra fits))
 
-  pub entry-read : fieldEntry e ≡ fieldWith e guidTold attributesTold
+  abbrev pub tailTold : Tail
+  tailTold =
+      record {
+        «has_guid» = guidTold .here;
+        guid = guidTold .bytes;
+        attributes = record { first = attributesTold .first; count = attributesTold .list .shown };
+        fault = Passed;
+      }
+
+  ends-of : endsMet e (attributeEnds e (attributesTold .first) (attributesTold .list .shown)) ≡ Passed
+  unfolding attributesOf
+  ends-of =
+      rw split-guid (sections.sections-end (flagged (p .numbers) copyMask) (flagged (p .numbers) attributes) (p .block) (front ++ guidPart p) extra (p .count) (p .numbers .size) (p .numbers .flags .0) given)
+
+  tail-of : (mode : Bool) → fields.tailOf mode e (length front) ≡ tailTold
+  unfolding fields.tailOf
+  tail-of mode = simp (header.flags p t a extra fits, guid-of, attributes-of, pass-in mode e (attributeEnds e (attributesTold .first) (attributesTold .list .shown)) ends-of)
+
+  pub entry-read : (mode : Bool) → fieldEntry mode e ≡ fieldWith e tailTold
   unfolding fieldEntry
-  entry-read =
+  entry-read mode =
       let l = header.length-front p t a extra fits in
+      let names = pass-in mode e (stringEnds 42 (length (p .name)) (length (p .type-name)) (length (p .comment))) (strings.ends-pass (header.laid p t a extra fits)) in
       simp (
         strings-end,
-        header.flags p t a extra fits,
         le-ltb (length e) 42 (omega (arith, long)),
         le-ltb (length e) (length front) (omega (arith, long)),
+        header.name-len p t a extra fits,
+        header.type-name-len p t a extra fits,
+        header.comment-len p t a extra fits,
+        names,
         no-items (length front),
-        guid-of,
-        attributes-of,
+        tail-of mode,
       )

@@ -10,7 +10,10 @@ use lib.ListN.{length, length-append, length-replicate}
 use borrow.Author.Tests.{leb-true}
 use Rattle.le.specs.Le.{if_then_else_, le4, bytes2, has}
 use Rattle.refusal.specs.Writing.{counted, goodFrom}
-use Rattle.attr.specs.Attribute.{attributesAt, listed}
+use Rattle.refusal.specs.declared.Checked.the-variants.{Passed}
+use Rattle.refusal.specs.Ends.{endsMet}
+use Rattle.attr.proofs.Ends.{section-ends}
+use Rattle.attr.specs.Attribute.{attributeEnds, attributesAt, listed}
 use Rattle.attr.specs.Writing.{goodAttribute}
 use Rattle.attr.specs.declared.Attributes.{Attributes}
 use Rattle.attr.specs.declared.Ending.the-variants.{Fine}
@@ -71,3 +74,10 @@ module _ (fm fa : Bool) (block front extra : List ℕ) (count size flags : ℕ) 
   sections-read g =
       let a = simp (append-assoc, length-append) at (attributes-any (front ++ maskOf fm size) count block extra fa (g .count-fits) (g .good)) in
       simp (g .flag-mask, g .flag-methods, g .flag-attributes, g .size-is, mask-read front size (A fm fa block front extra count size flags ++ extra) fm, a)
+
+  -- and their end bytes are 0
+  pub sections-end : Given fm fa block front extra count size flags
+      → endsMet (front ++ (M fm fa block front extra count size flags ++ (A fm fa block front extra count size flags ++ extra)))
+      (attributeEnds (front ++ (M fm fa block front extra count size flags ++ (A fm fa block front extra count size flags ++ extra))) (told fm fa block front extra count size flags .first) (told fm fa block front extra count size flags .list .shown))
+      ≡ Passed
+  sections-end g = simp (append-assoc, length-append) at (section-ends (front ++ maskOf fm size) count block extra fa (g .good))

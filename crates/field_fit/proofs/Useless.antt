@@ -61,4 +61,4 @@ fit = record { parts = smallest; extra = []; fit = record { typed = typed; accep
 
 pub fields-shut-out : FieldsShutOut
 unfolding fit grown fieldBytes entryOf headerOf numbersOf lengthsOf stringsOf sectionsOf guidOf maskOf attributesOf
-fields-shut-out = shuts-out Fit bytesOf fieldMeant cursorOf stepTold fit (omega arith)
+fields-shut-out mode = shuts-out Fit bytesOf fieldMeant cursorOf (stepTold mode) fit (omega arith)

@@ -1,4 +1,4 @@
--- Demand 3 for fields, stated: fit fields, written one after another, each entry grown by any bytes at its end, come back from the walk.
+-- Demand 3 for fields, stated: fit fields, written one after another, each entry grown by any bytes at its end, come back from the walk, in whatever mode.
 use Prim.Native.Nat.{ℕ, _<_}
 use mathlib.Core.Path.{_≡_}
 use mathlib.Core.Bool.{Bool, false}
@@ -94,11 +94,11 @@ fieldMeant p extra =
     }
 
 abbrev pub Demand3Fields : Type 0
-Demand3Fields = Demand3 Fit bytesOf fieldMeant fieldStep cursorOf stepTold
+Demand3Fields = (mode : Bool) → Demand3 Fit bytesOf fieldMeant (fieldStep mode) cursorOf (stepTold mode)
 
 -- it shuts out a step that never gives a record, and one that gives its first answer again
 abbrev pub FieldsShutOut : Type 0
-FieldsShutOut = ShutsOut Fit bytesOf fieldMeant cursorOf stepTold
+FieldsShutOut = (mode : Bool) → ShutsOut Fit bytesOf fieldMeant cursorOf (stepTold mode)
 
 -- from the code's answer to demand 3: where `to_vec` answers that it wrote n bytes of a field that agrees with its flags, the field is fit, and these
 -- bytes are those that demand 3 speaks of

@@ -1,4 +1,4 @@
-// Field entries, parsed directly from bytes of any kind. The Rust's field_info.rs; crate field has what stands below, and the record, and field_writer is its to_vec.
+// Field entries, parsed directly from bytes of any kind, in the present or the checked mode. The Rust's field_info.rs; crate field has what stands below, and the record, and field_writer is its to_vec.
 use attr::AttributeAnswer;
 use entry::Claim;
 use field::FieldAnswer;
@@ -11,30 +11,30 @@ ghost use Rattle.field.specs.Questions.{fieldName, fieldTypeName, fieldComment,
 ghost use Rattle.attr.specs.Attribute.{nameIn, valueIn, nameAt, valueAt};
 ghost use Rattle.entry.specs.Entry.{ownBytes};
 
-pub fn try_from_slice(bytes: &[u8]) -> FieldRead
-    ensures { λ r. ⌜ r ≡ fieldRead (now (bytes .entry)) ⌝ }
+pub fn try_from_slice(bytes: &[u8], checked: bool) -> FieldRead
+    ensures { λ r. ⌜ r ≡ fieldRead checked (now (bytes .entry)) ⌝ }
 {
     match entry::direct_claim(bytes, 42) {
-        Claim::Entry(size) => field::read_entry(le::part_of(bytes, 0, size)),
+        Claim::Entry(size) => field::read_entry(le::part_of(bytes, 0, size), checked),
         Claim::Refused(why) => field::refused(why),
     }
 }
 
-pub fn name(bytes: &[u8]) -> &[u8]
-    ensures { λ r. ⌜ now r ≡ fieldName (now (bytes .entry)) ⌝ }
-    ensures { λ r. ⌜ Behind (bytes .entry) r (fieldNameAt (now (bytes .entry))) ⌝ }
+pub fn name(bytes: &[u8], checked: bool) -> &[u8]
+    ensures { λ r. ⌜ now r ≡ fieldName checked (now (bytes .entry)) ⌝ }
+    ensures { λ r. ⌜ Behind (bytes .entry) r (fieldNameAt checked (now (bytes .entry))) ⌝ }
 {
-    match answer_to(bytes) {
+    match answer_to(bytes, checked) {
         FieldAnswer::Record(r) => le::part_of(bytes, 42, le::wide(r.name_len)),
         FieldAnswer::Refused(_) => &bytes[..0],
     }
 }
 
-pub fn type_name(bytes: &[u8]) -> &[u8]
-    ensures { λ r. ⌜ now r ≡ fieldTypeName (now (bytes .entry)) ⌝ }
-    ensures { λ r. ⌜ Behind (bytes .entry) r (fieldTypeNameAt (now (bytes .entry))) ⌝ }
+pub fn type_name(bytes: &[u8], checked: bool) -> &[u8]
+    ensures { λ r. ⌜ now r ≡ fieldTypeName checked (now (bytes .entry)) ⌝ }
+    ensures { λ r. ⌜ Behind (bytes .entry) r (fieldTypeNameAt checked (now (bytes .entry))) ⌝ }
 {
-    match answer_to(bytes) {
+    match answer_to(bytes, checked) {
         FieldAnswer::Record(r) => {
             le::part_of(bytes, 43 + le::wide(r.name_len), le::wide(r.type_name_len))
         }
@@ -42,11 +42,11 @@ pub fn type_name(bytes: &[u8]) -> &[u8]
     }
 }
 
-pub fn comment(bytes: &[u8]) -> &[u8]
-    ensures { λ r. ⌜ now r ≡ fieldComment (now (bytes .entry)) ⌝ }
-    ensures { λ r. ⌜ Behind (bytes .entry) r (fieldCommentAt (now (bytes .entry))) ⌝ }
+pub fn comment(bytes: &[u8], checked: bool) -> &[u8]
+    ensures { λ r. ⌜ now r ≡ fieldComment checked (now (bytes .entry)) ⌝ }
+    ensures { λ r. ⌜ Behind (bytes .entry) r (fieldCommentAt checked (now (bytes .entry))) ⌝ }
 {
-    match answer_to(bytes) {
+    match answer_to(bytes, checked) {
         FieldAnswer::Record(r) => {
             let at = 44 + le::wide(r.name_len) + le::wide(r.type_name_len);
             le::part_of(bytes, at, le::wide(r.comment_len))
@@ -55,10 +55,10 @@ pub fn comment(bytes: &[u8]) -> &[u8]
     }
 }
 
-pub fn attribute(bytes: &[u8], number: usize) -> AttributeAnswer
-    ensures { λ r. ⌜ r ≡ fieldAttribute (now (bytes .entry)) number ⌝ }
+pub fn attribute(bytes: &[u8], checked: bool, number: usize) -> AttributeAnswer
+    ensures { λ r. ⌜ r ≡ fieldAttribute checked (now (bytes .entry)) number ⌝ }
 {
-    match answer_to(bytes) {
+    match answer_to(bytes, checked) {
         FieldAnswer::Record(r) => {
             let shown = r.attributes;
             if number < shown.count {
@@ -73,25 +73,31 @@ pub fn attribute(bytes: &[u8], number: usize) -> AttributeAnswer
     }
 }
 
-pub fn attribute_name(bytes: &[u8], number: usize) -> &[u8]
-    ensures { λ r. ⌜ now r ≡ nameIn (ownBytes 42 (now (bytes .entry))) (fieldAttribute (now (bytes .entry)) number) ⌝ }
-    ensures { λ r. ⌜ Behind (bytes .entry) r (nameAt (fieldAttribute (now (bytes .entry)) number)) ⌝ }
+pub fn attribute_name(bytes: &[u8], checked: bool, number: usize) -> &[u8]
+    ensures { λ r. ⌜ now r ≡ nameIn (ownBytes 42 (now (bytes .entry))) (fieldAttribute checked (now (bytes .entry)) number) ⌝ }
+    ensures { λ r. ⌜ Behind (bytes .entry) r (nameAt (fieldAttribute checked (now (bytes .entry)) number)) ⌝ }
 {
-    attr::name_in(entry::own_bytes(bytes, 42), attribute(bytes, number))
+    attr::name_in(
+        entry::own_bytes(bytes, 42),
+        attribute(bytes, checked, number),
+    )
 }
 
-pub fn attribute_value(bytes: &[u8], number: usize) -> &[u8]
-    ensures { λ r. ⌜ now r ≡ valueIn (ownBytes 42 (now (bytes .entry))) (fieldAttribute (now (bytes .entry)) number) ⌝ }
-    ensures { λ r. ⌜ Behind (bytes .entry) r (valueAt (fieldAttribute (now (bytes .entry)) number)) ⌝ }
+pub fn attribute_value(bytes: &[u8], checked: bool, number: usize) -> &[u8]
+    ensures { λ r. ⌜ now r ≡ valueIn (ownBytes 42 (now (bytes .entry))) (fieldAttribute checked (now (bytes .entry)) number) ⌝ }
+    ensures { λ r. ⌜ Behind (bytes .entry) r (valueAt (fieldAttribute checked (now (bytes .entry)) number)) ⌝ }
 {
-    attr::value_in(entry::own_bytes(bytes, 42), attribute(bytes, number))
+    attr::value_in(
+        entry::own_bytes(bytes, 42),
+        attribute(bytes, checked, number),
+    )
 }
 
 // The first attribute shown whose name is these bytes: a renderer knows the name of what it asks for, not its number.
-pub fn attribute_named(bytes: &[u8], name: &[u8]) -> AttributeAnswer
-    ensures { λ r. ⌜ r ≡ fieldAttributeNamed (now (bytes .entry)) (now (name .entry)) ⌝ }
+pub fn attribute_named(bytes: &[u8], checked: bool, name: &[u8]) -> AttributeAnswer
+    ensures { λ r. ⌜ r ≡ fieldAttributeNamed checked (now (bytes .entry)) (now (name .entry)) ⌝ }
 {
-    match answer_to(bytes) {
+    match answer_to(bytes, checked) {
         FieldAnswer::Record(r) => {
             let shown = r.attributes;
             attr::attribute_named(entry::own_bytes(bytes, 42), name, shown.first, shown.count)
@@ -100,17 +106,20 @@ pub fn attribute_named(bytes: &[u8], name: &[u8]) -> AttributeAnswer
     }
 }
 
-pub fn attribute_value_named<'a>(bytes: &'a [u8], name: &[u8]) -> &'a [u8]
-    ensures { λ r. ⌜ now r ≡ valueIn (ownBytes 42 (now (bytes .entry))) (fieldAttributeNamed (now (bytes .entry)) (now (name .entry))) ⌝ }
-    ensures { λ r. ⌜ Behind (bytes .entry) r (valueAt (fieldAttributeNamed (now (bytes .entry)) (now (name .entry)))) ⌝ }
+pub fn attribute_value_named<'a>(bytes: &'a [u8], checked: bool, name: &[u8]) -> &'a [u8]
+    ensures { λ r. ⌜ now r ≡ valueIn (ownBytes 42 (now (bytes .entry))) (fieldAttributeNamed checked (now (bytes .entry)) (now (name .entry))) ⌝ }
+    ensures { λ r. ⌜ Behind (bytes .entry) r (valueAt (fieldAttributeNamed checked (now (bytes .entry)) (now (name .entry)))) ⌝ }
 {
-    attr::value_in(entry::own_bytes(bytes, 42), attribute_named(bytes, name))
+    attr::value_in(
+        entry::own_bytes(bytes, 42),
+        attribute_named(bytes, checked, name),
+    )
 }
 
-fn answer_to(bytes: &[u8]) -> FieldAnswer
-    ensures { λ r. ⌜ r ≡ fieldRead (now (bytes .entry)) .answer ⌝ }
+fn answer_to(bytes: &[u8], checked: bool) -> FieldAnswer
+    ensures { λ r. ⌜ r ≡ fieldRead checked (now (bytes .entry)) .answer ⌝ }
 {
-    let read = try_from_slice(bytes);
+    let read = try_from_slice(bytes, checked);
     let answer = read.answer;
     answer
 }

@@ -2,6 +2,7 @@
 use Prim.Native.Nat.{ℕ, _+_, _≤_}
 use native.Mathlib.Omega.{arith}
 use mathlib.Core.Path.{_≡_, refl, sym, ap, _∙_}
+use mathlib.Core.Bool.{Bool}
 use mathlib.Core.List.{List}
 use lib.ListN.{length}
 use Rattle.le.specs.Le.{part}
@@ -24,9 +25,9 @@ recorded : (t : FieldAnswer) (info : AdsFieldInfo) → stepIs t ≡ step.Record 
 recorded (answer.Record r) info h = cc
 recorded (answer.Refused why) info h = absurd (let u : _≡_ {A = ℕ} 0 1 = cc in omega arith)
 
-module _ (s : List ℕ) (at : ℕ) (info : AdsFieldInfo) where
+module _ (mode : Bool) (s : List ℕ) (at : ℕ) (info : AdsFieldInfo) where
   -- what the step met, and then what it gives
-  by-met : (m : Met) → claimAt s at .met ≡ m → byMet m (finished (claimAt s at .next)) (λ size. entry (part s at size) (claimAt s at .next)) (λ why. refused why (claimAt s at .next)) .step ≡ step.Record info → Reads s at info
+  by-met : (m : Met) → claimAt s at .met ≡ m → byMet m (finished (claimAt s at .next)) (λ size. entry mode (part s at size) (claimAt s at .next)) (λ why. refused why (claimAt s at .next)) .step ≡ step.Record info → Reads mode s at info
   unfolding fieldStep fieldRead
   by-met met.Finished e h = absurd (let u : _≡_ {A = ℕ} 0 1 = cc in omega arith)
   by-met (met.Refused why) e h = absurd (let u : _≡_ {A = ℕ} 0 1 = cc in omega arith)
@@ -34,8 +35,8 @@ module _ (s : List ℕ) (at : ℕ) (info : AdsFieldInfo) where
       let own : List ℕ = part s at size in
       let m = meets s at size e in
       let l : length own ≡ size = length-part s at size (m .room) in
-      let r : fieldEntry own .answer ≡ answer.Record info = recorded (fieldEntry own .answer) info h in
-      let i = fields-inside own info r in
+      let r : fieldEntry mode own .answer ≡ answer.Record info = recorded (fieldEntry mode own .answer) info h in
+      let i = fields-inside mode own info r in
       let n : info .length ≡ size = i .long ∙ l in
       let long : 42 ≤ length own = omega (arith, i .strings) in
       let w = own-whole s at size m (omega arith) in
@@ -49,4 +50,4 @@ module _ (s : List ℕ) (at : ℕ) (info : AdsFieldInfo) where
 
 pub steps-read : StepsRead
 unfolding fieldStep
-steps-read s at info h = by-met s at info (claimAt s at .met) refl h
+steps-read mode s at info h = by-met mode s at info (claimAt s at .met) refl h

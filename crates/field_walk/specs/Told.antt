@@ -1,5 +1,6 @@
--- What a step over an upload of fields tells: its record, and everything that can be asked of the bytes of its entry.
+-- What a step over an upload of fields tells, in a mode: its record, and everything that can be asked of the bytes of its entry.
 use Prim.Native.Nat.{ℕ, _-_}
+use mathlib.Core.Bool.{Bool}
 use mathlib.Core.List.{List}
 use mathlib.Core.Option.{Option, none, some}
 use Rattle.le.specs.Le.{if_then_else_, part}
@@ -31,8 +32,8 @@ pub record Field : Type 0 where
   pub attributes : List (Asked Attribute)
 
 -- the record of a step with its GUID, and what is asked of the entry's bytes e: its strings, and each attribute by its number
-abbrev pub fieldTold : AdsFieldInfo → List ℕ → List ℕ → Field
-fieldTold info guid e =
+abbrev pub fieldTold : Bool → AdsFieldInfo → List ℕ → List ℕ → Field
+fieldTold mode info guid e =
     record {
       version = info .version;
       hash = info .«hash_value»;
@@ -41,19 +42,19 @@ fieldTold info guid e =
       offset = info .offset;
       type-id = info .«type_id»;
       flags = info .flags;
-      name = fieldName e;
-      type-name = fieldTypeName e;
-      comment = fieldComment e;
+      name = fieldName mode e;
+      type-name = fieldTypeName mode e;
+      comment = fieldComment mode e;
       guid = if info .«has_guid» then some guid else none;
-      attributes = asks (λ k. attributeTold (ownBytes 42 e) (fieldAttribute e k)) (info .attributes .count);
+      attributes = asks (λ k. attributeTold (ownBytes 42 e) (fieldAttribute mode e k)) (info .attributes .count);
     }
 
 -- what an answer tells of the upload s: the entry is the bytes before the cursor, as many as its record says
-abbrev pub stepTold : List ℕ → Stepped → Tells Field
-stepTold s t =
+abbrev pub stepTold : Bool → List ℕ → Stepped → Tells Field
+stepTold mode s t =
     byStep (t .step)
     (End (t .cursor .at))
-    (λ info. Entry (fieldTold info (t .guid) (part s (t .cursor .at - info .length) (info .length))) (info .length) (t .cursor .at))
+    (λ info. Entry (fieldTold mode info (t .guid) (part s (t .cursor .at - info .length) (info .length))) (info .length) (t .cursor .at))
     (λ why. Refused (figuresOf why) (t .cursor .at))
 
 -- the cursor beside an answer
@@ -62,4 +63,4 @@ cursorOf t = t .cursor .at
 
 -- the step that the code promises, iterated by that cursor, is the one walk
 abbrev pub OneFieldWalk : Type 0
-OneFieldWalk = OneWalk fieldStep cursorOf
+OneFieldWalk = (mode : Bool) → OneWalk (fieldStep mode) cursorOf

@@ -1,5 +1,6 @@
 -- 01, "Walking": a step over an upload of fields.
 use Prim.Native.Nat.{ℕ}
+use mathlib.Core.Bool.{Bool}
 use mathlib.Core.List.{List}
 use Rattle.refusal.specs.declared.Refusal.{Refusal}
 use Rattle.guid.specs.Guid.{zeros16}
@@ -33,11 +34,12 @@ finished next = stepped Finished zeros16 next
 abbrev pub stepOf : FieldRead → ℕ → Stepped
 stepOf read next = stepped (stepIs (read .answer)) (read .guid) next
 
-abbrev pub entry : List ℕ → ℕ → Stepped
-entry e next = stepOf (fieldEntry e) next
+abbrev pub entry : Bool → List ℕ → ℕ → Stepped
+entry mode e next = stepOf (fieldEntry mode e) next
 
 abbrev pub refused : Refusal → ℕ → Stepped
 refused why next = stepped (Refused why) zeros16 next
 
-unfoldable pub fieldStep : List ℕ → ℕ → Stepped
-fieldStep s at = stepBy finished entry refused s at
+-- in a mode, which decides only what an entry's own bytes give
+unfoldable pub fieldStep : Bool → List ℕ → ℕ → Stepped
+fieldStep mode s at = stepBy finished (entry mode) refused s at

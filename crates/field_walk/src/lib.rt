@@ -34,8 +34,8 @@ impl Cursor {
         Cursor { at: 0 }
     }
 
-    pub fn step(self, bytes: &[u8]) -> Stepped
-        ensures { λ r. ⌜ r ≡ fieldStep (now (bytes .entry)) (self .at) ⌝ }
+    pub fn step(self, bytes: &[u8], checked: bool) -> Stepped
+        ensures { λ r. ⌜ r ≡ fieldStep checked (now (bytes .entry)) (self .at) ⌝ }
     {
         let at = self.at;
         let claimed = entry::claim_at(bytes, at);
@@ -47,7 +47,10 @@ impl Cursor {
                 guid: [0u8; 16],
                 cursor: Cursor { at: next },
             },
-            Met::Entry(size) => step_of(field::read_entry(le::part_of(bytes, at, size)), next),
+            Met::Entry(size) => step_of(
+                field::read_entry(le::part_of(bytes, at, size), checked),
+                next,
+            ),
             Met::Refused(why) => Stepped {
                 step: Step::Refused(why),
                 guid: [0u8; 16],

@@ -149,6 +149,7 @@ fn build(out: &mut [u8]) -> usize
     at
 }
 
+// In the checked mode, in which demand 3 holds too; `show_all` walks in the present one.
 fn walk_all(bytes: &[u8]) -> Seen {
     let mut records: usize = 0;
     let mut refusals: usize = 0;
@@ -159,7 +160,7 @@ fn walk_all(bytes: &[u8]) -> Seen {
     let mut left: usize = 1000;
     while 0 < left {
         left = left - 1;
-        let stepped = cursor.step(bytes);
+        let stepped = cursor.step(bytes, refusal::CHECKED);
         let next = stepped.cursor;
         cursor = next;
         let step = stepped.step;
@@ -210,7 +211,7 @@ fn show_all(bytes: &[u8]) {
     let mut left: usize = 1000;
     while 0 < left {
         left = left - 1;
-        let stepped = cursor.step(bytes);
+        let stepped = cursor.step(bytes, refusal::PRESENT);
         let next = stepped.cursor;
         cursor = next;
         let step = stepped.step;

@@ -18,11 +18,15 @@ use Rattle.names.specs.Near.{low, endsNear}
 use Rattle.names.proofs.Laws.{low-small, other-length, ends-differ, ends-none, ends-last}
 use Rattle.refusal.specs.Refusal.{limit}
 use Rattle.refusal.specs.Writing.{Bytes, Refuse}
+use Rattle.refusal.specs.Ends.{endsIn, byChecked}
+use Rattle.refusal.specs.declared.Checked.{Checked}
+use Rattle.refusal.specs.declared.Checked.the-variants as checks
 use Rattle.entry.specs.Entry.{claimAt}
 use Rattle.entry.specs.declared.Met.{Met}
 use Rattle.entry.specs.declared.Met.the-variants as met
 use Rattle.entry.proofs.Claims.{meets, moves-on}
-use Rattle.symbol.specs.Symbol.{symbolEntry, sectionsOf, infoOf, infoRecord, stringsEnd, refused}
+use Rattle.symbol.specs.Symbol.{symbolPresent, bySymbol, symbolEntry, symbolEnds, sectionsOf, infoOf, infoRecord, stringsEnd, refused}
+use Rattle.symbol.specs.declared.SymbolRead.{SymbolRead}
 use Rattle.refusal.specs.declared.Refusal.{Refusal}
 use Rattle.refusal.specs.declared.Refusal.the-variants.{TooShort, EntryLengthMismatch, TooLarge, ZeroEntryLength, NameNotFound}
 use Rattle.walk.specs.Walk.{symbolStep, stepIs}
@@ -78,18 +82,27 @@ rest-from s at (suc n) h k =
 rest-step : (s : List ℕ) (at : ℕ) → at < length s → rest s at ≡ at ∷ (if stands s at then [] else rest s (claimAt s at .next))
 rest-step s at h = rest-from s at (length s - at) h (omega arith)
 
--- an entry is accepted where its header and its strings are there, whatever its sections hold; then its length and its name's are these
-pub light : {A : Type 0} (f : ℕ → ℕ → A) (x : A) (e : List ℕ)
-    → byRecord (stepIs (symbolEntry e .answer)) (λ info. f (info .length) (info .«name_len»)) x ≡ (if ltb (length e) 30 then x else if ltb (length e) (stringsEnd e) then x else f (length e) (le2 e 24))
-unfolding symbolEntry infoOf infoRecord
-light {A} f x e = by (ltb (length e) 30) (ltb (length e) (stringsEnd e))
+-- the end bytes that a mode asks of an entry
+abbrev pub endsOf : Bool → List ℕ → Checked
+endsOf mode e = endsIn mode e (symbolEnds e (infoRecord e (sectionsOf e (stringsEnd e) (le2 e 20))))
+
+-- an entry is accepted where its header and its strings are there and its end bytes are as the mode asks, whatever its sections hold; then its length and its name's are these
+pub light : {A : Type 0} (mode : Bool) (f : ℕ → ℕ → A) (x : A) (e : List ℕ)
+    → byRecord (stepIs (symbolEntry mode e .answer)) (λ info. f (info .length) (info .«name_len»)) x
+    ≡ (if ltb (length e) 30 then x else if ltb (length e) (stringsEnd e) then x else byChecked (endsOf mode e) (f (length e) (le2 e 24)) (λ why. x))
+unfolding symbolEntry symbolPresent infoOf infoRecord
+light {A} mode f x e = by (ltb (length e) 30) (ltb (length e) (stringsEnd e)) (endsOf mode e) refl
   where
-    by : (p q : Bool)
-        → byRecord (stepIs ((if p then refused (TooShort 30 (length e)) else if q then refused (EntryLengthMismatch (stringsEnd e) (length e)) else infoOf e (sectionsOf e (stringsEnd e) (le2 e 20))) .answer)) (λ info. f (info .length) (info .«name_len»)) x
-        ≡ (if p then x else if q then x else f (length e) (le2 e 24))
-    by true q = refl
-    by false true = refl
-    by false false = refl
+    read : Bool → Bool → SymbolRead
+    read p q = if p then refused (TooShort 30 (length e)) else if q then refused (EntryLengthMismatch (stringsEnd e) (length e)) else infoOf e (sectionsOf e (stringsEnd e) (le2 e 20))
+
+    by : (p q : Bool) (c : Checked) → endsOf mode e ≡ c
+        → byRecord (stepIs (bySymbol (read p q .answer) (λ r. byChecked (endsIn mode e (symbolEnds e r)) (read p q) refused) (λ why. read p q) .answer)) (λ info. f (info .length) (info .«name_len»)) x
+        ≡ (if p then x else if q then x else byChecked c (f (length e) (le2 e 24)) (λ why. x))
+    by true q c k = refl
+    by false true c k = refl
+    by false false checks.Passed k = simp k
+    by false false (checks.Refused why) k = simp k
 
 -- the bytes from a place on, taken for an entry, have that name
 abbrev carries : List ℕ → List ℕ → ℕ → Bool
@@ -111,36 +124,37 @@ module _ (s name : List ℕ) (at size : ℕ) (room : at + size ≤ length s) whe
       by there false true true e f g = ap (λ (k : ℕ). sameName (part s (at + 30) k) name) (eqb-true (le2 s (at + 24)) (length name) f)
       by there false true false e f g = ap (λ (k : ℕ). sameName (part s (at + 30) k) name) (eqb-true (le2 s (at + 24)) (length name) f) ∙ ends-differ (part s (at + 30) (length name)) name g
 
-  named-by : (p q : Bool) → ltb (length (part s at size)) 30 ≡ p → ltb (length (part s at size)) (stringsEnd (part s at size)) ≡ q
-      → (if p then false else if q then false else sameName (part (part s at (length (part s at size))) 30 (le2 (part s at size) 24)) name)
-      ≡ (if carries s name at then (if p then false else if q then false else true) else false)
-  named-by true q e f = sym (never (carries s name at))
-  named-by false true e f = sym (never (carries s name at))
-  named-by false false e f =
+  named-by : (p q : Bool) (c : Checked) → ltb (length (part s at size)) 30 ≡ p → ltb (length (part s at size)) (stringsEnd (part s at size)) ≡ q
+      → (if p then false else if q then false else byChecked c (sameName (part (part s at (length (part s at size))) 30 (le2 (part s at size) 24)) name) (λ why. false))
+      ≡ (if carries s name at then (if p then false else if q then false else byChecked c true (λ why. false)) else false)
+  named-by true q c e f = sym (never (carries s name at))
+  named-by false true c e f = sym (never (carries s name at))
+  named-by false false (checks.Refused why) e f = sym (never (carries s name at))
+  named-by false false checks.Passed e f =
       let l = length-part s at size room in
       let strings : 33 + le2 (part s at size) 24 ≤ size = omega (arith, l, ltb-false (length (part s at size)) (stringsEnd (part s at size)) f) in
       ap (λ (k : ℕ). sameName (part (part s at k) 30 (le2 (part s at size) 24)) name) l ∙ carries-own strings ∙ sym (same-so-far (carries s name at))
 
 -- a step gives a record of a name exactly where the bytes have the name and are accepted
-name-first : (s name : List ℕ) (at : ℕ) → names s name at ≡ (if carries s name at then accepted s at else false)
+name-first : (mode : Bool) (s name : List ℕ) (at : ℕ) → names mode s name at ≡ (if carries s name at then accepted mode s at else false)
 unfolding names accepted symbolStep
-name-first s name at = by (claimAt s at .met) refl
+name-first mode s name at = by (claimAt s at .met) refl
   where
-    by : (m : Met) → claimAt s at .met ≡ m → names s name at ≡ (if carries s name at then accepted s at else false)
+    by : (m : Met) → claimAt s at .met ≡ m → names mode s name at ≡ (if carries s name at then accepted mode s at else false)
     by met.Finished e = simp e (sym (never (carries s name at)))
     by (met.Refused why) e = simp e (sym (never (carries s name at)))
     by (met.Entry size) e =
-        simp e (light (λ l n. sameName (part (part s at l) 30 n) name) false (part s at size)
-        ∙ named-by s name at size (meets s at size e .room) (ltb (length (part s at size)) 30) (ltb (length (part s at size)) (stringsEnd (part s at size))) refl refl
-        ∙ ap (λ (t : Bool). if carries s name at then t else false) (sym (light (λ l n. true) false (part s at size))))
+        simp e (light mode (λ l n. sameName (part (part s at l) 30 n) name) false (part s at size)
+        ∙ named-by s name at size (meets s at size e .room) (ltb (length (part s at size)) 30) (ltb (length (part s at size)) (stringsEnd (part s at size))) (endsOf mode (part s at size)) refl refl
+        ∙ ap (λ (t : Bool). if carries s name at then t else false) (sym (light mode (λ l n. true) false (part s at size))))
 
 -- an accepted entry moves the cursor
-module _ (s : List ℕ) (at : ℕ) where
-  moved-by : (size : ℕ) (p q : Bool) → at + size ≤ length s → ltb (length (part s at size)) 30 ≡ p → (if p then false else if q then false else true) ≡ true → 30 ≤ size
-  moved-by size true q room e h = absurd (not-both h refl)
-  moved-by size false q room e h = omega (arith, length-part s at size room, ltb-false (length (part s at size)) 30 e)
+module _ (mode : Bool) (s : List ℕ) (at : ℕ) where
+  moved-by : (size : ℕ) (p q : Bool) (c : Checked) → at + size ≤ length s → ltb (length (part s at size)) 30 ≡ p → (if p then false else if q then false else byChecked c true (λ why. false)) ≡ true → 30 ≤ size
+  moved-by size true q c room e h = absurd (not-both h refl)
+  moved-by size false q c room e h = omega (arith, length-part s at size room, ltb-false (length (part s at size)) 30 e)
 
-  accepted-moves : accepted s at ≡ true → at < claimAt s at .next
+  accepted-moves : accepted mode s at ≡ true → at < claimAt s at .next
   unfolding accepted symbolStep
   accepted-moves h = by (claimAt s at .met) refl
     where
@@ -149,34 +163,35 @@ module _ (s : List ℕ) (at : ℕ) where
       by (met.Refused why) e = absurd (not-both h (simp e))
       by (met.Entry size) e =
           let m = meets s at size e in
-          let i = moved-by size (ltb (length (part s at size)) 30) (ltb (length (part s at size)) (stringsEnd (part s at size))) (m .room) refl (sym (light (λ l n. true) false (part s at size)) ∙ simp e at h) in
+          let i = moved-by size (ltb (length (part s at size)) 30) (ltb (length (part s at size)) (stringsEnd (part s at size))) (endsOf mode (part s at size)) (m .room) refl (sym (light mode (λ l n. true) false (part s at size)) ∙ simp e at h) in
           omega (arith, m .next)
 
-module _ (s name : List ℕ) (at : ℕ) where
+module _ (mode : Bool) (s name : List ℕ) (at : ℕ) where
   -- a place that does not move the cursor has no name
-  zero-nameless : claimAt s at .next ≡ at → names s name at ≡ false
-  zero-nameless z = by (accepted s at) refl
+  zero-nameless : claimAt s at .next ≡ at → names mode s name at ≡ false
+  zero-nameless z = by (accepted mode s at) refl
     where
-      by : (t : Bool) → accepted s at ≡ t → names s name at ≡ false
-      by false e = name-first s name at ∙ simp e (never (carries s name at))
-      by true e = absurd (omega (arith, z, accepted-moves s at e))
+      by : (t : Bool) → accepted mode s at ≡ t → names mode s name at ≡ false
+      by false e = name-first mode s name at ∙ simp e (never (carries s name at))
+      by true e = absurd (omega (arith, z, accepted-moves mode s at e))
 
   -- nor has one where no entry is met
-  pub finished-nameless : claimAt s at .met ≡ met.Finished → names s name at ≡ false
+  pub finished-nameless : claimAt s at .met ≡ met.Finished → names mode s name at ≡ false
   unfolding names symbolStep
   finished-nameless e = simp e
 
-  pub refused-nameless : (why : Refusal) → claimAt s at .met ≡ met.Refused why → names s name at ≡ false
+  pub refused-nameless : (why : Refusal) → claimAt s at .met ≡ met.Refused why → names mode s name at ≡ false
   unfolding names symbolStep
   refused-nameless why e = simp e
 
   -- nor has one where the name is not likely; else the name decides, and then the entry
-  pub not-likely : likely s name at ≡ false → names s name at ≡ false
-  not-likely h = name-first s name at ∙ simp h
+  pub not-likely : likely s name at ≡ false → names mode s name at ≡ false
+  not-likely h = name-first mode s name at ∙ simp h
 
-  pub name-decides : likely s name at ≡ true → names s name at ≡ (if sameName (part s (at + 30) (length name)) name then accepted s at else false)
-  name-decides h = name-first s name at ∙ simp h
+  pub name-decides : likely s name at ≡ true → names mode s name at ≡ (if sameName (part s (at + 30) (length name)) name then accepted mode s at else false)
+  name-decides h = name-first mode s name at ∙ simp h
 
+module _ (s name : List ℕ) (at : ℕ) where
   likely-by : (p q : Bool) → (if p then false else q) ≡ true → p ≡ false
   likely-by true q h = absurd (not-both h refl)
   likely-by false q h = refl
@@ -204,109 +219,111 @@ module _ (s name : List ℕ) (at : ℕ) (room : 30 + length name ≤ length s - 
   likely-last last e = simp (le-ltb (length s - at) (30 + length name) room, ends-last s name (at + 30) last e) (sym (both-by (le2 s (at + 24)) (length name) (low (getD s (at + 30 + last) 0)) (low (getD name last 0)) (low-small (getD s (at + 30 + last) 0)) (low-small (getD name last 0)) _ _ refl refl))
 
 -- the inner and the public definitions, from a place on
-abbrev pub startsFrom : List ℕ → ℕ → List ℕ
-startsFrom s at = those (accepted s) (rest s at)
+abbrev pub startsFrom : Bool → List ℕ → ℕ → List ℕ
+startsFrom mode s at = those (accepted mode s) (rest s at)
 
 abbrev pub zeroFrom : List ℕ → ℕ → Bool
 zeroFrom s at = any (stands s) (rest s at)
 
-abbrev pub tallyFrom : List ℕ → ℕ → ℕ → Tally
-tallyFrom s at count = if zeroFrom s at then ZeroClaim else Accepted (count + length (startsFrom s at))
+abbrev pub tallyFrom : Bool → List ℕ → ℕ → ℕ → Tally
+tallyFrom mode s at count = if zeroFrom s at then ZeroClaim else Accepted (count + length (startsFrom mode s at))
 
-abbrev pub findFrom : List ℕ → List ℕ → ℕ → FindAnswer
-findFrom s name at = firstOf (names s name) (rest s at) (if zeroFrom s at then Refused ZeroEntryLength else Refused NameNotFound)
+abbrev pub findFrom : Bool → List ℕ → List ℕ → ℕ → FindAnswer
+findFrom mode s name at = firstOf (names mode s name) (rest s at) (if zeroFrom s at then Refused ZeroEntryLength else Refused NameNotFound)
 
-pub starts-whole : (s : List ℕ) → starts s ≡ startsFrom s 0
+pub starts-whole : (mode : Bool) (s : List ℕ) → starts mode s ≡ startsFrom mode s 0
 unfolding starts
-starts-whole s = rw whole
+starts-whole mode s = rw whole
 
-pub tally-whole : (s : List ℕ) → tallyOf s ≡ tallyFrom s 0 0
+pub tally-whole : (mode : Bool) (s : List ℕ) → tallyOf mode s ≡ tallyFrom mode s 0 0
 unfolding tallyOf starts
-tally-whole s = rw whole (simp zero-add)
+tally-whole mode s = rw whole (simp zero-add)
 
-pub find-whole : (s name : List ℕ) → length s ≤ limit → find s name ≡ findFrom s name 0
+pub find-whole : (mode : Bool) (s name : List ℕ) → length s ≤ limit → find mode s name ≡ findFrom mode s name 0
 unfolding find
-find-whole s name h = simp (le-ltb limit (length s) h, whole)
+find-whole mode s name h = simp (le-ltb limit (length s) h, whole)
 
 -- at the end
-module _ (s : List ℕ) (at : ℕ) (h : length s ≤ at) where
-  pub starts-end : startsFrom s at ≡ []
+module _ (mode : Bool) (s : List ℕ) (at : ℕ) (h : length s ≤ at) where
+  pub starts-end : startsFrom mode s at ≡ []
   unfolding those
   starts-end = simp (rest-end s at h)
 
-  pub tally-end : (count : ℕ) → tallyFrom s at count ≡ Accepted count
+  pub tally-end : (count : ℕ) → tallyFrom mode s at count ≡ Accepted count
   unfolding those any
   tally-end count = simp (rest-end s at h, add-zero)
 
-  pub find-end : (name : List ℕ) → findFrom s name at ≡ Refused NameNotFound
+  pub find-end : (name : List ℕ) → findFrom mode s name at ≡ Refused NameNotFound
   unfolding firstOf any
   find-end name = simp (rest-end s at h)
 
 -- what a look at a place tells
-module _ (s : List ℕ) (at : ℕ) (k : Looked) (e : k ≡ lookAt s at) where
+module _ (mode : Bool) (s : List ℕ) (at : ℕ) (k : Looked) (e : k ≡ lookAt mode s at) where
   pub looked-next : k .next ≡ claimAt s at .next
   unfolding lookAt
   looked-next = ap (λ (x : Looked). x .next) e
 
-  pub looked-accepted : k .accepted ≡ accepted s at
+  pub looked-accepted : k .accepted ≡ accepted mode s at
   unfolding lookAt
   looked-accepted = ap (λ (x : Looked). x .accepted) e
 
 -- before the end, where it is known where the next step begins
-module _ (s : List ℕ) (at : ℕ) (h : at < length s) where
-  pub find-hit : (name : List ℕ) → names s name at ≡ true → findFrom s name at ≡ Found at
+module _ (s : List ℕ) (at : ℕ) (h : at < length s) (next : ℕ) (e : next ≡ claimAt s at .next) where
+  -- a zero claim
+  standing : next ≡ at → stands s at ≡ true
+  standing z = eq-eqb _ _ (sym e ∙ z)
+
+  pub zero-here : next ≡ at → zeroFrom s at ≡ true
+  unfolding any
+  zero-here z = simp (rest-step s at h, standing z)
+
+  -- any other step
+  module _ (z : next ≡ at → ⊥) where
+    pub ahead : at < next
+    ahead = omega (arith, moves-on s at h, e, z)
+
+    going : stands s at ≡ false
+    going = ne-eqb (claimAt s at .next) at (λ x. z (e ∙ x))
+
+    rest-on : rest s at ≡ at ∷ rest s next
+    rest-on = rest-step s at h ∙ simp (going, e)
+
+    pub zero-on : zeroFrom s at ≡ zeroFrom s next
+    unfolding any
+    zero-on = simp (rest-on, going)
+
+-- the same of what a mode accepts
+module _ (mode : Bool) (s : List ℕ) (at : ℕ) (h : at < length s) where
+  pub find-hit : (name : List ℕ) → names mode s name at ≡ true → findFrom mode s name at ≡ Found at
   unfolding firstOf
   find-hit name n = simp (rest-step s at h, n)
 
   module _ (next : ℕ) (e : next ≡ claimAt s at .next) where
-    -- a zero claim
-    module _ (z : next ≡ at) where
-      standing : stands s at ≡ true
-      standing = eq-eqb _ _ (sym e ∙ z)
+    pub tally-zero : (z : next ≡ at) (count : ℕ) → tallyFrom mode s at count ≡ ZeroClaim
+    tally-zero z count = simp (zero-here s at h next e z)
 
-      pub zero-here : zeroFrom s at ≡ true
-      unfolding any
-      zero-here = simp (rest-step s at h, standing)
+    pub find-zero : (z : next ≡ at) (name : List ℕ) → findFrom mode s name at ≡ Refused ZeroEntryLength
+    unfolding firstOf any
+    find-zero z name = simp (rest-step s at h, zero-nameless mode s name at (sym e ∙ z), standing s at h next e z)
 
-      pub tally-zero : (count : ℕ) → tallyFrom s at count ≡ ZeroClaim
-      tally-zero count = simp zero-here
-
-      pub find-zero : (name : List ℕ) → findFrom s name at ≡ Refused ZeroEntryLength
-      unfolding firstOf any
-      find-zero name = simp (rest-step s at h, zero-nameless s name at (sym e ∙ z), standing)
-
-    -- any other step
     module _ (z : next ≡ at → ⊥) where
-      pub ahead : at < next
-      ahead = omega (arith, moves-on s at h, e, z)
-
-      going : stands s at ≡ false
-      going = ne-eqb (claimAt s at .next) at (λ x. z (e ∙ x))
-
-      rest-on : rest s at ≡ at ∷ rest s next
-      rest-on = rest-step s at h ∙ simp (going, e)
-
-      pub zero-on : zeroFrom s at ≡ zeroFrom s next
-      unfolding any
-      zero-on = simp (rest-on, going)
-
-      pub starts-entry : accepted s at ≡ true → startsFrom s at ≡ at ∷ startsFrom s next
+      pub starts-entry : accepted mode s at ≡ true → startsFrom mode s at ≡ at ∷ startsFrom mode s next
       unfolding those
-      starts-entry x = simp (rest-on, x)
+      starts-entry x = simp (rest-on s at h next e z, x)
 
-      pub starts-other : accepted s at ≡ false → startsFrom s at ≡ startsFrom s next
+      pub starts-other : accepted mode s at ≡ false → startsFrom mode s at ≡ startsFrom mode s next
       unfolding those
-      starts-other x = simp (rest-on, x)
+      starts-other x = simp (rest-on s at h next e z, x)
 
-      pub tally-entry : (count : ℕ) → accepted s at ≡ true → tallyFrom s next (count + 1) ≡ tallyFrom s at count
-      tally-entry count x = simp (zero-on, starts-entry x) (ap (λ (m : ℕ). if zeroFrom s next then ZeroClaim else Accepted m) (omega arith))
+      pub tally-entry : (count : ℕ) → accepted mode s at ≡ true → tallyFrom mode s next (count + 1) ≡ tallyFrom mode s at count
+      tally-entry count x = simp (zero-on s at h next e z, starts-entry x) (ap (λ (m : ℕ). if zeroFrom s next then ZeroClaim else Accepted m) (omega arith))
 
-      pub tally-other : (count : ℕ) → accepted s at ≡ false → tallyFrom s next count ≡ tallyFrom s at count
-      tally-other count x = simp (zero-on, starts-other x)
+      pub tally-other : (count : ℕ) → accepted mode s at ≡ false → tallyFrom mode s next count ≡ tallyFrom mode s at count
+      tally-other count x = simp (zero-on s at h next e z, starts-other x)
 
-      pub find-on : (name : List ℕ) → names s name at ≡ false → findFrom s name next ≡ findFrom s name at
+      pub find-on : (name : List ℕ) → names mode s name at ≡ false → findFrom mode s name next ≡ findFrom mode s name at
       unfolding firstOf any
-      find-on name n = simp (rest-on, n, going)
+      find-on name n = simp (rest-on s at h next e z, n, going s at h next e z)
 
 -- a slot written, and the rest still to write
 pub put-turn : (l : List ℕ) (n a : ℕ) (xs : List ℕ) → n < length l → put (set l n a) (n + 1) xs ≡ put l n (a ∷ xs)
@@ -331,19 +348,19 @@ zero-by : (b : Bool) (m : ℕ) → (if b then ZeroClaim else Accepted m) ≡ Zer
 zero-by true m e = refl
 zero-by false m e = let z : _≡_ {A = ℕ} 0 1 = cc in absurd (omega arith)
 
-module _ (s : List ℕ) where
-  pub tallied : (n : ℕ) → tallyOf s ≡ Accepted n → (any (stands s) (steps s) ≡ false) × (length (starts s) ≡ n)
+module _ (mode : Bool) (s : List ℕ) where
+  pub tallied : (n : ℕ) → tallyOf mode s ≡ Accepted n → (any (stands s) (steps s) ≡ false) × (length (starts mode s) ≡ n)
   unfolding tallyOf
-  tallied n e = tally-by (any (stands s) (steps s)) (length (starts s)) n e
+  tallied n e = tally-by (any (stands s) (steps s)) (length (starts mode s)) n e
 
-  pub index-large : limit < length s → indexing s ≡ Refuse (TooLarge (length s))
+  pub index-large : limit < length s → indexing mode s ≡ Refuse (TooLarge (length s))
   unfolding indexing
   index-large h = simp (lt-ltb limit (length s) h)
 
-  pub index-zero : length s ≤ limit → tallyOf s ≡ ZeroClaim → indexing s ≡ Refuse ZeroEntryLength
+  pub index-zero : length s ≤ limit → tallyOf mode s ≡ ZeroClaim → indexing mode s ≡ Refuse ZeroEntryLength
   unfolding indexing tallyOf
-  index-zero h e = simp (le-ltb limit (length s) h, zero-by (any (stands s) (steps s)) (length (starts s)) e)
+  index-zero h e = simp (le-ltb limit (length s) h, zero-by (any (stands s) (steps s)) (length (starts mode s)) e)
 
-  pub index-starts : length s ≤ limit → any (stands s) (steps s) ≡ false → indexing s ≡ Bytes (starts s)
+  pub index-starts : length s ≤ limit → any (stands s) (steps s) ≡ false → indexing mode s ≡ Bytes (starts mode s)
   unfolding indexing
   index-starts h e = simp (le-ltb limit (length s) h, e)

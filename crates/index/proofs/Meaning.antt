@@ -58,21 +58,21 @@ those-ascend test least (next {at = at} {more = more} h a) = turn (test at) (tho
 
 pub starts-ascend : StartsAscend
 unfolding starts steps
-starts-ascend s = those-ascend (accepted s) 0 (steps-ascend s 0 (length s))
+starts-ascend mode s = those-ascend (accepted mode s) 0 (steps-ascend s 0 (length s))
 
 -- the name that finding looks at is the one that the entry's bytes tell
-names-told : (s name : List ℕ) (at : ℕ) → names s name at ≡ named s name at
+names-told : (mode : Bool) (s name : List ℕ) (at : ℕ) → names mode s name at ≡ named mode s name at
 unfolding names accepted named symbolName
-names-told s name at = by (symbolStep s at .step) refl
+names-told mode s name at = by (symbolStep mode s at .step) refl
   where
-    by : (t : Step) → symbolStep s at .step ≡ t
+    by : (t : Step) → symbolStep mode s at .step ≡ t
         → byRecord t (λ info. sameName (part (part s at (info .length)) 30 (info .«name_len»)) name) false
-        ≡ (if byRecord t (λ info. true) false then sameName (symbolName (part s at (claimAt s at .next - at))) name else false)
+        ≡ (if byRecord t (λ info. true) false then sameName (symbolName mode (part s at (claimAt s at .next - at))) name else false)
     by step.Finished e = refl
     by (step.Refused why) e = refl
     by (step.Record info) e =
-        let r = steps-read s at info e in
-        let n : claimAt s at .next - at ≡ info .length = omega (arith, walking.moves kind s at, r .moves) in
+        let r = steps-read mode s at info e in
+        let n : claimAt s at .next - at ≡ info .length = omega (arith, walking.moves (kind mode) s at, r .moves) in
         simp (n, r .answers)
 
 -- the first that passes a test
@@ -103,16 +103,16 @@ small : (b : Bool) (why : Refusal) (y : FindAnswer) (at : ℕ) → (if b then Re
 small true why y at h = absurd (let u : _≡_ {A = ℕ} 0 1 = cc in omega arith)
 small false why y at h = h
 
-found : (s name places : List ℕ) (b : Bool) (large : Refusal) (other : FindAnswer) (at : ℕ) → ((other ≡ Found at) → ⊥)
-    → (if b then Refused large else firstOf (names s name) places other) ≡ Found at → Finds s name places at
-found s name places b large other at never h =
-    let r = first-is (names s name) places other at never (small b large _ at h) in
-    record { before = r .0; after = r .1; among = r .2; has = sym (names-told s name at) ∙ r .3; first = sym (any-same (names s name) (named s name) (names-told s name) (r .0)) ∙ r .4 }
+found : (mode : Bool) (s name places : List ℕ) (b : Bool) (large : Refusal) (other : FindAnswer) (at : ℕ) → ((other ≡ Found at) → ⊥)
+    → (if b then Refused large else firstOf (names mode s name) places other) ≡ Found at → Finds mode s name places at
+found mode s name places b large other at never h =
+    let r = first-is (names mode s name) places other at never (small b large _ at h) in
+    record { before = r .0; after = r .1; among = r .2; has = sym (names-told mode s name at) ∙ r .3; first = sym (any-same (names mode s name) (named mode s name) (names-told mode s name) (r .0)) ∙ r .4 }
 
 pub found-is-first : FoundIsFirst
 unfolding find findIndexed
-found-is-first s name at =
-    (λ h. found s name (steps s) (ltb limit (length s)) _ _ at (refused (any (stands s) (steps s)) _ _ at) h, λ slots h. found s name slots (ltb limit (length s)) _ _ at (refused true _ NameNotFound at) h)
+found-is-first mode s name at =
+    (λ h. found mode s name (steps s) (ltb limit (length s)) _ _ at (refused (any (stands s) (steps s)) _ _ at) h, λ slots h. found mode s name slots (ltb limit (length s)) _ _ at (refused true _ NameNotFound at) h)
 
 -- what is not found stands nowhere
 none-is : (test : ℕ → Bool) (l : List ℕ) (other : FindAnswer) (why : Refusal) → firstOf test l other ≡ Refused why → (any test l ≡ false) × (other ≡ Refused why)
@@ -125,19 +125,19 @@ none-is test (x ∷ l) other why h = turn (none-is test l other why) (test x) h
     turn on true k = absurd (let u : _≡_ {A = ℕ} 0 1 = cc in omega arith)
     turn on false k = on k
 
-nowhere : (s name places : List ℕ) (other : FindAnswer) (why : Refusal) → firstOf (names s name) places other ≡ Refused why → any (named s name) places ≡ false
-nowhere s name places other why h = sym (any-same (names s name) (named s name) (names-told s name) places) ∙ none-is (names s name) places other why h .0
+nowhere : (mode : Bool) (s name places : List ℕ) (other : FindAnswer) (why : Refusal) → firstOf (names mode s name) places other ≡ Refused why → any (named mode s name) places ≡ false
+nowhere mode s name places other why h = sym (any-same (names mode s name) (named mode s name) (names-told mode s name) places) ∙ none-is (names mode s name) places other why h .0
 
 pub refused-is-nowhere : RefusedIsNowhere
 unfolding find findIndexed
-refused-is-nowhere s name why small =
+refused-is-nowhere mode s name why small =
     let t = le-ltb limit (length s) small in
-    (λ h. nowhere s name (steps s) _ why (simp t at h), λ slots h. nowhere s name slots _ why (simp t at h))
+    (λ h. nowhere mode s name (steps s) _ why (simp t at h), λ slots h. nowhere mode s name slots _ why (simp t at h))
 
 -- the case that a name is typed in makes no difference
-names-either : (s name typed : List ℕ) → sameName name typed ≡ true → (at : ℕ) → names s typed at ≡ names s name at
+names-either : (mode : Bool) (s name typed : List ℕ) → sameName name typed ≡ true → (at : ℕ) → names mode s typed at ≡ names mode s name at
 unfolding names
-names-either s name typed e at = by (symbolStep s at .step)
+names-either mode s name typed e at = by (symbolStep mode s at .step)
   where
     own : AdsSymbolInfo → List ℕ
     own info = part (part s at (info .length)) 30 (info .«name_len»)
@@ -154,6 +154,6 @@ first-same f g h (x ∷ l) other = simp (h x, first-same f g h l other)
 
 pub any-case : AnyCase
 unfolding find findIndexed
-any-case s name typed e =
-    let same = first-same (names s typed) (names s name) (names-either s name typed e) in
+any-case mode s name typed e =
+    let same = first-same (names mode s typed) (names mode s name) (names-either mode s name typed e) in
     (simp (same (steps s)), λ slots. simp (same slots))

@@ -66,27 +66,27 @@ number-those test (at ∷ l) = turn (number-those test l) (test at)
     turn h false = h
 
 -- what is known where an index was built
-module _ (s old new : List ℕ) (n : ℕ) where
+module _ (mode : Bool) (s old new : List ℕ) (n : ℕ) where
   built-by : (p q : Bool) (a b : Refusal) (c bs : List ℕ) → (if p then Refuse a else if q then Refuse b else Bytes c) ≡ Bytes bs → (p ≡ false) × (q ≡ false) × (bs ≡ c)
   built-by p q a b c bs h =
       let x = passed p a _ bs h in
       let y = passed q b (Bytes c) bs (x .1) in
       (x .0, y .0, let z : Bytes c ≡ Bytes bs = y .1 in cc)
 
-  built : Writes (indexing s) old new (Done n) → (ltb limit (length s) ≡ false) × (any (stands s) (steps s) ≡ false) × (length (starts s) ≡ n) × (take n new ≡ starts s)
+  built : Writes (indexing mode s) old new (Done n) → (ltb limit (length s) ≡ false) × (any (stands s) (steps s) ≡ false) × (length (starts mode s) ≡ n) × (take n new ≡ starts mode s)
   unfolding indexing
   built w =
-      let d = done-by (indexing s) old new n w in
-      let b = built-by (ltb limit (length s)) (any (stands s) (steps s)) (TooLarge (length s)) ZeroEntryLength (starts s) (d .bytes) (d .given) in
+      let d = done-by (indexing mode s) old new n w in
+      let b = built-by (ltb limit (length s)) (any (stands s) (steps s)) (TooLarge (length s)) ZeroEntryLength (starts mode s) (d .bytes) (d .given) in
       (b .0, b .1, rw (sym (b .2)) (d .long), d .first ∙ b .2)
 
   -- an index has as many slots as the walk has accepted entries
-  pub index-length : Writes (indexing s) old new (Done n) → n ≡ number (accepted s) (steps s)
+  pub index-length : Writes (indexing mode s) old new (Done n) → n ≡ number (accepted mode s) (steps s)
   unfolding starts
-  index-length w = sym (built w .2) ∙ number-those (accepted s) (steps s)
+  index-length w = sym (built w .2) ∙ number-those (accepted mode s) (steps s)
 
   -- and stands within the slots
-  pub index-fits : Writes (indexing s) old new (Done n) → n ≤ length new
+  pub index-fits : Writes (indexing mode s) old new (Done n) → n ≤ length new
   index-fits w = omega (arith, ap length (built w .3), built w .2, length-take n new)
 
 -- the first of those that pass a weaker test
@@ -101,9 +101,9 @@ first-those p q h (at ∷ l) other = turn (first-those p q h l other) (p at) (q 
     turn k true false a b = absurd (not-both (h at a) b)
     turn k false false a b = k
 
-names-accepted : (s name : List ℕ) (at : ℕ) → names s name at ≡ true → accepted s at ≡ true
+names-accepted : (mode : Bool) (s name : List ℕ) (at : ℕ) → names mode s name at ≡ true → accepted mode s at ≡ true
 unfolding names accepted
-names-accepted s name at e = by-step (symbolStep s at .step) (λ info. sameName (part (part s at (info .length)) 30 (info .«name_len»)) name) e
+names-accepted mode s name at e = by-step (symbolStep mode s at .step) (λ info. sameName (part (part s at (info .length)) 30 (info .«name_len»)) name) e
   where
     by-step : (t : Step) (f : AdsSymbolInfo → Bool) → byRecord t f false ≡ true → byRecord t (λ info. true) false ≡ true
     by-step step.Finished f x = x
@@ -111,8 +111,8 @@ names-accepted s name at e = by-step (symbolStep s at .step) (λ info. sameName 
     by-step (step.Refused why) f x = x
 
 -- through an index that was built, a name is found as without one
-pub same-find : (s old new : List ℕ) (n : ℕ) → Writes (indexing s) old new (Done n) → (name : List ℕ) → findIndexed s (take n new) name ≡ find s name
+pub same-find : (mode : Bool) (s old new : List ℕ) (n : ℕ) → Writes (indexing mode s) old new (Done n) → (name : List ℕ) → findIndexed mode s (take n new) name ≡ find mode s name
 unfolding find findIndexed starts
-same-find s old new n w name =
-    let b = built s old new n w in
-    simp (b .0, b .1, b .3) (first-those (names s name) (accepted s) (names-accepted s name) (steps s) _)
+same-find mode s old new n w name =
+    let b = built mode s old new n w in
+    simp (b .0, b .1, b .3) (first-those (names mode s name) (accepted mode s) (names-accepted mode s name) (steps s) _)

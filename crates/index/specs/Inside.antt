@@ -17,11 +17,11 @@ use Rattle.index.specs.declared.Tally.the-variants.{Accepted, ZeroClaim}
 use Rattle.index.specs.declared.Looked.{Looked}
 
 -- an entry's own bytes give a record
-unfoldable pub accepts : List ℕ → Bool
-accepts e = byRecord (stepIs (symbolEntry e .answer)) (λ info. true) false
+unfoldable pub accepts : Bool → List ℕ → Bool
+accepts mode e = byRecord (stepIs (symbolEntry mode e .answer)) (λ info. true) false
 
-unfoldable pub lookAt : List ℕ → ℕ → Looked
-lookAt s at = record { accepted = accepted s at; next = claimAt s at .next }
+unfoldable pub lookAt : Bool → List ℕ → ℕ → Looked
+lookAt mode s at = record { accepted = accepted mode s at; next = claimAt s at .next }
 
 -- the bytes from a place on, taken for an entry, have room for the name asked for, tell its length and are near it at its last byte
 unfoldable pub likely : List ℕ → List ℕ → ℕ → Bool
@@ -31,5 +31,5 @@ likely s name at =
     else false
 
 -- how many entries are accepted, unless a zero claim is met
-unfoldable pub tallyOf : List ℕ → Tally
-tallyOf s = if any (stands s) (steps s) then ZeroClaim else Accepted (length (starts s))
+unfoldable pub tallyOf : Bool → List ℕ → Tally
+tallyOf mode s = if any (stands s) (steps s) then ZeroClaim else Accepted (length (starts mode s))

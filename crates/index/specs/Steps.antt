@@ -1,4 +1,4 @@
--- Which steps of a walk over an upload give a record.
+-- Which steps of a walk over an upload give a record, in a mode.
 use Prim.Native.Nat.{ℕ}
 use mathlib.Core.Bool.{Bool, true, false}
 use mathlib.Core.List.{List, [], _∷_}
@@ -15,12 +15,12 @@ byRecord (step.Record info) on other = on info
 byRecord (step.Refused why) on other = other
 
 -- a step from here gives a record
-unfoldable pub accepted : List ℕ → ℕ → Bool
-accepted s at = byRecord (symbolStep s at .step) (λ info. true) false
+unfoldable pub accepted : Bool → List ℕ → ℕ → Bool
+accepted mode s at = byRecord (symbolStep mode s at .step) (λ info. true) false
 
 -- a step from here gives a record of that name, which stands in the entry after its header
-unfoldable pub names : List ℕ → List ℕ → ℕ → Bool
-names s name at = byRecord (symbolStep s at .step) (λ info. sameName (part (part s at (info .length)) 30 (info .«name_len»)) name) false
+unfoldable pub names : Bool → List ℕ → List ℕ → ℕ → Bool
+names mode s name at = byRecord (symbolStep mode s at .step) (λ info. sameName (part (part s at (info .length)) 30 (info .«name_len»)) name) false
 
 -- those of some places that pass a test, in order
 unfoldable pub those : (ℕ → Bool) → List ℕ → List ℕ

@@ -1,7 +1,9 @@
-// The index of starts, and finding a symbol by name. Neither reads an entry's sections: its header and the lengths of its strings decide whether it is accepted.
+// The index of starts, and finding a symbol by name. In the present mode neither reads an entry's sections: its header and the lengths of its strings decide whether it is accepted.
 use entry::Met;
 use refusal::Refusal;
 use refusal::Written;
+use symbol::SymbolAnswer;
+use symbol::SymbolRead;
 ghost use mathlib.Core.Path.{_≡_};
 ghost use Prim.Native.Nat.{_≤_};
 ghost use mathlib.Core.Bool.{true, false};
@@ -9,7 +11,8 @@ ghost use lib.ListN.{length};
 ghost use Rattle.refusal.specs.Refusal.{limit};
 ghost use Rattle.refusal.specs.Writing.{Writes};
 ghost use Rattle.entry.specs.Walk.{stands, steps, any};
-ghost use Rattle.index.specs.Steps.{names};
+ghost use Rattle.walk.specs.Walk.{stepIs};
+ghost use Rattle.index.specs.Steps.{byRecord, names};
 ghost use Rattle.index.specs.Index.{starts, indexing, find, findIndexed};
 ghost use Rattle.index.specs.Inside.{accepts, lookAt, likely, tallyOf};
 ghost use Rattle.le.specs.Put.{put};
@@ -31,9 +34,22 @@ enum Tally {
     ZeroClaim,
 }
 
-fn accepts(e: &[u8]) -> bool
-    ensures { λ r. ⌜ r ≡ accepts (now (e .entry)) ⌝ }
+fn is_record(read: SymbolRead) -> bool
+    ensures { λ r. ⌜ r ≡ byRecord (stepIs (read .answer)) (λ info. true) false ⌝ }
 {
+    let answer = read.answer;
+    match answer {
+        SymbolAnswer::Record(_) => true,
+        SymbolAnswer::Refused(_) => false,
+    }
+}
+
+fn accepts(e: &[u8], checked: bool) -> bool
+    ensures { λ r. ⌜ r ≡ accepts checked (now (e .entry)) ⌝ }
+{
+    if checked {
+        return is_record(symbol::read_checked(e));
+    }
     let length = e.len();
     if length < 30 {
         return false;
@@ -47,15 +63,15 @@ fn accepts(e: &[u8]) -> bool
     true
 }
 
-fn look_at(bytes: &[u8], at: usize) -> Looked
-    ensures { λ r. ⌜ r ≡ lookAt (now (bytes .entry)) at ⌝ }
+fn look_at(bytes: &[u8], at: usize, checked: bool) -> Looked
+    ensures { λ r. ⌜ r ≡ lookAt checked (now (bytes .entry)) at ⌝ }
 {
     let claimed = entry::claim_at(bytes, at);
     let met = claimed.met;
     let next = claimed.next;
     match met {
         Met::Entry(size) => Looked {
-            accepted: accepts(le::part_of(bytes, at, size)),
+            accepted: accepts(le::part_of(bytes, at, size), checked),
             next,
         },
         Met::Finished => Looked {
@@ -102,24 +118,24 @@ fn likely_at_once(bytes: &[u8], at: usize, name: &[u8]) -> bool
 }
 
 // Whether the entry at a place has the name asked for, where that is likely. The rest of it is looked at only where it has.
-fn named(bytes: &[u8], at: usize, name: &[u8]) -> bool
+fn named(bytes: &[u8], at: usize, name: &[u8], checked: bool) -> bool
     requires { ⌜ likely (now bytes) (now name) at ≡ true ⌝ }
-    ensures { λ r. ⌜ r ≡ names (now (bytes .entry)) (now (name .entry)) at ⌝ }
+    ensures { λ r. ⌜ r ≡ names checked (now (bytes .entry)) (now (name .entry)) at ⌝ }
 {
     if names::same_name(bytes, at + 30, name) {
-        let looked = look_at(bytes, at);
+        let looked = look_at(bytes, at, checked);
         return looked.accepted;
     }
     false
 }
 
-fn count_accepted(bytes: &[u8]) -> Tally
-    ensures { λ r. ⌜ r ≡ tallyOf (now (bytes .entry)) ⌝ }
+fn count_accepted(bytes: &[u8], checked: bool) -> Tally
+    ensures { λ r. ⌜ r ≡ tallyOf checked (now (bytes .entry)) ⌝ }
 {
     let mut at = 0;
     let mut count = 0;
     while at < bytes.len() {
-        let looked = look_at(bytes, at);
+        let looked = look_at(bytes, at, checked);
         let accepted = looked.accepted;
         let next = looked.next;
         if next == at {
@@ -134,14 +150,14 @@ fn count_accepted(bytes: &[u8]) -> Tally
 }
 
 // The slots are known to be enough, and no zero claim to be met.
-fn write_starts(bytes: &[u8], slots: &mut [u32])
-    requires { ⌜ (length (now bytes) ≤ limit) × ((any (stands (now bytes)) (steps (now bytes)) ≡ false) × (length (starts (now bytes)) ≤ length (now slots))) ⌝ }
-    ensures { λ _. ⌜ now (slots .exit) ≡ put (now (slots .entry)) 0 (starts (now (bytes .entry))) ⌝ }
+fn write_starts(bytes: &[u8], checked: bool, slots: &mut [u32])
+    requires { ⌜ (length (now bytes) ≤ limit) × ((any (stands (now bytes)) (steps (now bytes)) ≡ false) × (length (starts checked (now bytes)) ≤ length (now slots))) ⌝ }
+    ensures { λ _. ⌜ now (slots .exit) ≡ put (now (slots .entry)) 0 (starts checked (now (bytes .entry))) ⌝ }
 {
     let mut at = 0;
     let mut count = 0;
     while at < bytes.len() {
-        let looked = look_at(bytes, at);
+        let looked = look_at(bytes, at, checked);
         let accepted = looked.accepted;
         let next = looked.next;
         if next == at {
@@ -157,28 +173,28 @@ fn write_starts(bytes: &[u8], slots: &mut [u32])
 }
 
 // The upload is walked before a slot is written, so a refusal leaves the slots as they were.
-pub fn build(bytes: &[u8], slots: &mut [u32]) -> Written
-    ensures { λ r. ⌜ Writes (indexing (now (bytes .entry))) (now (slots .entry)) (now (slots .exit)) r ⌝ }
+pub fn build(bytes: &[u8], checked: bool, slots: &mut [u32]) -> Written
+    ensures { λ r. ⌜ Writes (indexing checked (now (bytes .entry))) (now (slots .entry)) (now (slots .exit)) r ⌝ }
 {
     let length = bytes.len();
     if refusal::LIMIT < length {
         return Written::Refused(Refusal::TooLarge { length });
     }
-    match count_accepted(bytes) {
+    match count_accepted(bytes, checked) {
         Tally::Accepted(needed) => {
             let lent = slots.len();
             if lent < needed {
                 return Written::Refused(Refusal::OutputTooSmall { needed, lent });
             }
-            write_starts(bytes, slots);
+            write_starts(bytes, checked, slots);
             Written::Done(needed)
         }
         Tally::ZeroClaim => Written::Refused(Refusal::ZeroEntryLength),
     }
 }
 
-pub fn find(bytes: &[u8], name: &[u8]) -> FindAnswer
-    ensures { λ r. ⌜ r ≡ find (now (bytes .entry)) (now (name .entry)) ⌝ }
+pub fn find(bytes: &[u8], checked: bool, name: &[u8]) -> FindAnswer
+    ensures { λ r. ⌜ r ≡ find checked (now (bytes .entry)) (now (name .entry)) ⌝ }
 {
     let length = bytes.len();
     if refusal::LIMIT < length {
@@ -196,7 +212,7 @@ pub fn find(bytes: &[u8], name: &[u8]) -> FindAnswer
         match met {
             Met::Entry(_) => {
                 if likely_at_once(bytes, here, name) {
-                    if named(bytes, here, name) {
+                    if named(bytes, here, name, checked) {
                         return FindAnswer::Found(here);
                     }
                 }
@@ -208,8 +224,8 @@ pub fn find(bytes: &[u8], name: &[u8]) -> FindAnswer
     FindAnswer::Refused(Refusal::NameNotFound)
 }
 
-pub fn find_indexed(bytes: &[u8], slots: &[u32], name: &[u8]) -> FindAnswer
-    ensures { λ r. ⌜ r ≡ findIndexed (now (bytes .entry)) (now (slots .entry)) (now (name .entry)) ⌝ }
+pub fn find_indexed(bytes: &[u8], checked: bool, slots: &[u32], name: &[u8]) -> FindAnswer
+    ensures { λ r. ⌜ r ≡ findIndexed checked (now (bytes .entry)) (now (slots .entry)) (now (name .entry)) ⌝ }
 {
     let length = bytes.len();
     if refusal::LIMIT < length {
@@ -220,7 +236,7 @@ pub fn find_indexed(bytes: &[u8], slots: &[u32], name: &[u8]) -> FindAnswer
         let at = slots[i] as usize;
         i += 1;
         if likely(bytes, at, name) {
-            if named(bytes, at, name) {
+            if named(bytes, at, name, checked) {
                 return FindAnswer::Found(at);
             }
         }

@@ -74,8 +74,8 @@ fn put_entry(rig: &mut [u8; 1600], i: usize)
 
 fn find_both(rig: &[u8], slots: &[u32], name: &[u8]) {
     text(name);
-    answer(index::find(rig, name));
-    answer(index::find_indexed(rig, slots, name));
+    answer(index::find(rig, refusal::PRESENT, name));
+    answer(index::find_indexed(rig, refusal::PRESENT, slots, name));
     text(b"\n");
 }
 
@@ -98,7 +98,7 @@ fn find_all(rig: &[u8], slots: &[u32]) {
 }
 
 fn survey(rig: &[u8; 1600], slots: &mut [u32]) {
-    match index::build(rig, slots) {
+    match index::build(rig, refusal::PRESENT, slots) {
         Written::Done(n) => {
             text(b"index ");
             number(n);

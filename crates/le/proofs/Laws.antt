@@ -9,6 +9,7 @@ use native.Mathlib.Numerals.{add-one}
 use native.Mathlib.Omega.{arith}
 use lib.ListN.{length, take, drop, set, getD, length-append, length-drop, take-append-drop, drop-of-length-le, List·getD-eq-default}
 use lib.Seq.{take-nil, take-suc-set, getD-take, getD-drop, sets, sets-eq, take-at, drop-at, drop-drop, length-take-le, take-suc, take-all, take-take}
+use borrow.Author.Tests.{eqb-true}
 use Rattle.le.specs.Le.{le2, le4, bytes2, bytes4, part, zeroAt}
 use Rattle.le.specs.Put.{put, Wrote}
 
@@ -156,6 +157,11 @@ getD-any (x ∷ s) (suc k) a b h = getD-any s k a b (omega arith)
 
 pub zero-here : (s : List ℕ) (k : ℕ) → k < length s → eqb (getD s k 0) 0 ≡ zeroAt s k
 zero-here s k h = ap (λ (x : ℕ). eqb x 0) (getD-any s k 0 1 h)
+
+pub zero-is : (s : List ℕ) (k : ℕ) → zeroAt s k ≡ true → getD s k 0 ≡ 0
+zero-is [] k h = refl
+zero-is (x ∷ s) zero h = eqb-true x 0 h
+zero-is (x ∷ s) (suc k) h = zero-is s k h
 
 pub zero-past : (s : List ℕ) (k : ℕ) → length s ≤ k → zeroAt s k ≡ false
 zero-past s k h = ap (λ (x : ℕ). eqb x 0) (List·getD-eq-default s 1 h)

@@ -10,6 +10,11 @@ pub otherwise : {A : Type 0} {x y z : A} (b : Bool) → (if b then x else y) ≡
 otherwise true h not = absurd (not h)
 otherwise false h not = (refl, h)
 
+-- two tests, both of which hold
+pub both : (a b : Bool) → (if a then b else false) ≡ true → (a ≡ true) × (b ≡ true)
+both true b h = (refl, h)
+both false b h = absurd (let z : _≡_ {A = ℕ} 0 1 = cc in omega arith)
+
 -- what holds of both answers holds of the one that is given
 pub by-test : {A : Type 0} (P : A → Type 0) (b : Bool) {x y : A} → P x → P y → P (if b then x else y)
 by-test P true p q = p

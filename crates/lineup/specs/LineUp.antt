@@ -1,10 +1,11 @@
--- 01, "Line-up table": L1 to L12.
+-- 01, "Line-up table": L1 to L12, of the present mode.
 use Prim.Native.Nat.{ℕ}
 use mathlib.Core.Path.{_≡_}
 use mathlib.Core.Bool.{true, false}
 use mathlib.Core.List.{List, [], _∷_}
 use lib.ListN.{replicate}
 use Rattle.refusal.specs.Refusal.{numbered, figuresOf}
+use Rattle.refusal.specs.Ends.{presentMode}
 use Rattle.refusal.specs.Asked.{Asked, Given, Refused}
 use Rattle.entry.specs.Tells as tells
 use Rattle.entry.specs.Tells.{Tells}
@@ -41,14 +42,14 @@ abbrev renamed : RefactorAnswer → Asked AdsRefactorInfo
 renamed t = byRefactor t Given (λ why. Refused (figuresOf why))
 
 abbrev symbolAsked : List ℕ → Asked AdsSymbolInfo
-symbolAsked s = bySymbol (symbolRead s .answer) Given (λ why. Refused (figuresOf why))
+symbolAsked s = bySymbol (symbolRead presentMode s .answer) Given (λ why. Refused (figuresOf why))
 
 abbrev fieldAsked : List ℕ → Asked AdsFieldInfo
-fieldAsked s = byField (fieldRead s .answer) Given (λ why. Refused (figuresOf why))
+fieldAsked s = byField (fieldRead presentMode s .answer) Given (λ why. Refused (figuresOf why))
 
 -- a step from the start of an upload, and the place where the next one begins
 abbrev walked : List ℕ → Tells Symbol
-walked s = stepTold s (symbolStep s 0)
+walked s = stepTold presentMode s (symbolStep presentMode s 0)
 
 pub record LineUp : Type 0 where
   -- empty data: finished
@@ -81,18 +82,18 @@ pub record LineUp : Type 0 where
     «refactor_infos» = record { first = 37; count = 0 };
     unread = 0;
   })
-  pub l7-name : symbolName entry37 ≡ 0x5A ∷ []
-  pub l7-type-name : symbolTypeName entry37 ≡ 0x49 ∷ 0x4E ∷ 0x54 ∷ []
-  pub l7-comment : symbolComment entry37 ≡ []
+  pub l7-name : symbolName presentMode entry37 ≡ 0x5A ∷ []
+  pub l7-type-name : symbolTypeName presentMode entry37 ≡ 0x49 ∷ 0x4E ∷ 0x54 ∷ []
+  pub l7-comment : symbolComment presentMode entry37 ≡ []
   -- attribute 01 01 75 00 B0 00: six bytes
-  pub l8 : asked (attributeRead (1 ∷ 1 ∷ 0x75 ∷ 0 ∷ 0xB0 ∷ 0 ∷ [])) ≡ Given (record { name = 2; «name_len» = 1; value = 4; «value_len» = 1; next = 6 })
+  pub l8 : asked (attributeRead presentMode (1 ∷ 1 ∷ 0x75 ∷ 0 ∷ 0xB0 ∷ 0 ∷ [])) ≡ Given (record { name = 2; «name_len» = 1; value = 4; «value_len» = 1; next = 6 })
   -- the same without its last byte: 1 (6, 5)
-  pub l9 : asked (attributeRead (1 ∷ 1 ∷ 0x75 ∷ 0 ∷ 0xB0 ∷ [])) ≡ Refused (numbered 1 6 5)
+  pub l9 : asked (attributeRead presentMode (1 ∷ 1 ∷ 0x75 ∷ 0 ∷ 0xB0 ∷ [])) ≡ Refused (numbered 1 6 5)
   -- refactor 01 00 00 01 01 00 41 00: count 0x01000001, follower
-  pub l10 : renamed (refactorRead (1 ∷ 0 ∷ 0 ∷ 1 ∷ 1 ∷ 0 ∷ 0x41 ∷ 0 ∷ []))
+  pub l10 : renamed (refactorRead presentMode (1 ∷ 0 ∷ 0 ∷ 1 ∷ 1 ∷ 0 ∷ 0x41 ∷ 0 ∷ []))
       ≡ Given (record { «refactor_count» = 0x01000001; «next_refactor_info» = true; name = 6; «name_len» = 1; next = 8 })
   -- packed 2: count 0
-  pub l11 : renamed (refactorRead (2 ∷ 0 ∷ 0 ∷ 0 ∷ 0 ∷ 0 ∷ 0 ∷ []))
+  pub l11 : renamed (refactorRead presentMode (2 ∷ 0 ∷ 0 ∷ 0 ∷ 0 ∷ 0 ∷ 0 ∷ []))
       ≡ Given (record { «refactor_count» = 0; «next_refactor_info» = false; name = 6; «name_len» = 0; next = 7 })
   -- direct field, 42 bytes claiming 41: 4 (42, 41)
   pub l12 : fieldAsked (claiming 41 41) ≡ Refused (numbered 4 42 41)

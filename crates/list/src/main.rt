@@ -1,4 +1,5 @@
 // 01's `list`: hexadecimal lines on standard input, their listing on standard output.
 fn main() {
-    lister::run();
+    // The listing program is of the present mode.
+    lister::run(false);
 }

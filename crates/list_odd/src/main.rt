@@ -1,4 +1,5 @@
 // `list` on odd frames: crates/list_odd/stdin and stdout are written by tools/list_odd.py.
 fn main() {
-    lister::run();
+    // The listing program is of the present mode.
+    lister::run(false);
 }

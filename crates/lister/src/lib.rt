@@ -18,6 +18,7 @@ fn say(out: &[u8], said: usize) {
 }
 
 fn run_in(
+    checked: bool,
     buf: &mut [u8; PART],
     line: &mut [u8; LINE],
     frame: &mut [u8; FRAME],
@@ -37,20 +38,28 @@ fn run_in(
         turns = turns - 1;
         let n = io::read_full(0, buf);
         if n == 0 {
-            let said = parts::list_rest(at.number, at.held, line, frame, out);
+            let said = parts::list_rest(at.number, at.held, line, checked, frame, out);
             say(out, said);
             return;
         }
-        at = parts::list_part(le::part_of(buf, 0, n), at.number, at.held, line, frame, out);
+        at = parts::list_part(
+            le::part_of(buf, 0, n),
+            checked,
+            at.number,
+            at.held,
+            line,
+            frame,
+            out,
+        );
         say(out, at.said);
     }
 }
 
-// It takes nothing, gives nothing and changes nothing that a caller has: there is nothing that a contract could speak of.
-pub fn run() {
+// It takes only the mode, gives nothing and changes nothing that a caller has: there is nothing that a contract could speak of.
+pub fn run(checked: bool) {
     let mut buf = [0u8; PART];
     let mut line = [0u8; LINE];
     let mut frame = [0u8; FRAME];
     let mut out = [0u8; TEXT];
-    run_in(&mut buf, &mut line, &mut frame, &mut out);
+    run_in(checked, &mut buf, &mut line, &mut frame, &mut out);
 }

@@ -13,17 +13,17 @@ use Rattle.lines.specs.Lines.{lineFeed}
 use Rattle.listing.specs.Listing.{frameText, inputText}
 
 -- two lines above 32,768 characters are refused alike, whatever follows in them
-frame-cut : (number : ℕ) (k l : List ℕ) → 32768 < length k → 32768 < length l → frameText number k ≡ frameText number l
+frame-cut : (mode : Bool) (number : ℕ) (k l : List ℕ) → 32768 < length k → 32768 < length l → frameText mode number k ≡ frameText mode number l
 unfolding frameText frameOf
-frame-cut number k l p q = simp (lt-ltb _ _ p, lt-ltb _ _ q)
+frame-cut mode number k l p q = simp (lt-ltb _ _ p, lt-ltb _ _ q)
 
 cut-by : (b : Bool) (x y u v : List ℕ) → x ≡ y → u ≡ v → (if b then x else u) ≡ (if b then y else v)
 cut-by true x y u v e f = e
 cut-by false x y u v e f = f
 
-pub input-cut : (number : ℕ) (k l s : List ℕ) → 32768 < length k → 32768 < length l → inputText number k s ≡ inputText number l s
+pub input-cut : (mode : Bool) (number : ℕ) (k l s : List ℕ) → 32768 < length k → 32768 < length l → inputText mode number k s ≡ inputText mode number l s
 unfolding inputText
-input-cut number k l [] p q = frame-cut number k l p q
-input-cut number k l (c ∷ s) p q =
-    cut-by (eqb c lineFeed) _ _ _ _ (ap (λ (x : List ℕ). x ++ inputText (number + 1) [] s) (frame-cut number k l p q))
-    (input-cut number (k ++ (c ∷ [])) (l ++ (c ∷ [])) s (simp length-append (omega arith)) (simp length-append (omega arith)))
+input-cut mode number k l [] p q = frame-cut mode number k l p q
+input-cut mode number k l (c ∷ s) p q =
+    cut-by (eqb c lineFeed) _ _ _ _ (ap (λ (x : List ℕ). x ++ inputText mode (number + 1) [] s) (frame-cut mode number k l p q))
+    (input-cut mode number (k ++ (c ∷ [])) (l ++ (c ∷ [])) s (simp length-append (omega arith)) (simp length-append (omega arith)))

@@ -16,6 +16,7 @@ use Rattle.refusal.specs.declared.Refusal.{Refusal}
 use Rattle.refusal.specs.declared.Refusal.the-variants.{ZeroEntryLength}
 use Rattle.refusal.specs.declared.Written.{Written}
 use Rattle.refusal.specs.declared.Written.the-variants.{Done, Refused}
+use Rattle.refusal.specs.Ends.{presentMode}
 use Rattle.refusal.specs.Writing.{Writing, Bytes, Refuse, Writes}
 use Rattle.refusal.proofs.DoneBy.{done-by}
 use Rattle.entry.specs.declared.Claimed.{Claimed}
@@ -53,12 +54,6 @@ claim-inside s at h =
     (λ e. within P (ltb (length s - at) (le4 s at)) _ _ (λ e. (omega arith, omega arith))
     (λ e. (omega arith, omega (arith, ltb-false (length s - at) (le4 s at) e))))))
 
-step-claim : (s : List ℕ) (at : ℕ) → symbolStep s at .cursor .at ≡ claimAt s at .next
-step-claim s at = walking.moves kind s at
-
-pub step-inside : (s : List ℕ) (at : ℕ) → at < length s → Inside s at (symbolStep s at .cursor .at)
-step-inside s at h = rw step-claim (claim-inside s at h)
-
 next-by : (b : Bool) (x at n : ℕ) → eqb x at ≡ b → at ≤ x → x ≤ n → at < n → (at < (if b then n else x)) × ((if b then n else x) ≤ n)
 next-by true x at n e p q h = (h, omega arith)
 next-by false x at n e p q h = (omega (arith, eqb-false x at e), q)
@@ -66,95 +61,98 @@ next-by false x at n e p q h = (omega (arith, eqb-false x at e), q)
 pub next-inside : (s : List ℕ) (at : ℕ) → at < length s → (at < stepNext s at) × (stepNext s at ≤ length s)
 unfolding stepNext
 next-inside s at h =
-    let i : Inside s at (symbolStep s at .cursor .at) = step-inside s at h in
-    next-by (eqb (symbolStep s at .cursor .at) at) (symbolStep s at .cursor .at) at (length s) refl (i .0) (i .1) h
+    let i : Inside s at (claimAt s at .next) = claim-inside s at h in
+    next-by (stands s at) (claimAt s at .next) at (length s) refl (i .0) (i .1) h
 
 -- by whether a step, as the walk gave it, moved
-module _ (number : ℕ) (s : List ℕ) (at : ℕ) (x : Stepped) (e : x ≡ symbolStep s at) where
-  pub stays : x .cursor .at ≡ at → (refusalLine number at ZeroEntryLength ≡ stepText number s at) × (length s ≡ stepNext s at)
+module _ (mode : Bool) (number : ℕ) (s : List ℕ) (at : ℕ) (x : Stepped) (e : x ≡ symbolStep mode s at) where
+  claimed : x .cursor .at ≡ claimAt s at .next
+  claimed = ap (λ (y : Stepped). y .cursor .at) e ∙ walking.moves (kind mode) s at
+
+  pub stays : x .cursor .at ≡ at → (refusalLine number at ZeroEntryLength ≡ stepText mode number s at) × (length s ≡ stepNext s at)
   unfolding stepText stepNext
-  stays p = (simp (← e, eq-eqb _ _ p), simp (← e, eq-eqb _ _ p))
+  stays p = (simp (← e, eq-eqb _ _ p), simp (← claimed, eq-eqb _ _ p))
 
   pub moves : ((x .cursor .at ≡ at) → ⊥)
-      → (byStep (x .step) [] (λ r. entryLine number at r (part s at (x .cursor .at - at))) (refusalLine number at) ≡ stepText number s at) × (x .cursor .at ≡ stepNext s at)
+      → (byStep (x .step) [] (λ r. entryLine mode number at r (part s at (x .cursor .at - at))) (refusalLine number at) ≡ stepText mode number s at) × (x .cursor .at ≡ stepNext s at)
   unfolding stepText stepNext
-  moves p = (simp (← e, ne-eqb _ _ p), simp (← e, ne-eqb _ _ p))
+  moves p = (simp (← e, ne-eqb _ _ p), simp (← claimed, ne-eqb _ _ p))
 
   -- an entry's line has room in 239 bytes for each byte of the entry, since an entry is not short
   pub long : (info : AdsSymbolInfo) → x .step ≡ step.Record info → at + 33 ≤ x .cursor .at
-  long info h = rw e (steps-long s at info (rw e at h))
+  long info h = rw e (steps-long mode s at info (rw e at h))
 
 -- the loop over a frame: so much text is written, the rest of the text is left, and no more than 239 bytes for each byte
-pub record Begun (number : ℕ) (s old : List ℕ) (start : ℕ) (new : List ℕ) (at said left : ℕ) : Type 0 where
+pub record Begun (mode : Bool) (number : ℕ) (s old : List ℕ) (start : ℕ) (new : List ℕ) (at said left : ℕ) : Type 0 where
   pub done : List ℕ
   pub wrote : Wrote old start done new said
-  pub rest : done ++ walkText number s at left ≡ walkText number s 0 (length s)
+  pub rest : done ++ walkText mode number s at left ≡ walkText mode number s 0 (length s)
   pub low : said + (length s - at) * 239 ≤ start + length s * 239
 
-walk-step : (number : ℕ) (s : List ℕ) (at left : ℕ) → 0 < left → walkText number s at left ≡ (if leb (length s) at then [] else stepText number s at ++ walkText number s (stepNext s at) (left - 1))
+walk-step : (mode : Bool) (number : ℕ) (s : List ℕ) (at left : ℕ) → 0 < left → walkText mode number s at left ≡ (if leb (length s) at then [] else stepText mode number s at ++ walkText mode number s (stepNext s at) (left - 1))
 unfolding walkText
-walk-step number s at zero h = absurd (omega arith)
-walk-step number s at (suc n) h = simp sub-one
+walk-step mode number s at zero h = absurd (omega arith)
+walk-step mode number s at (suc n) h = simp sub-one
 
-walk-none : (number : ℕ) (s : List ℕ) (at left : ℕ) → left ≤ 0 → walkText number s at left ≡ []
+walk-none : (mode : Bool) (number : ℕ) (s : List ℕ) (at left : ℕ) → left ≤ 0 → walkText mode number s at left ≡ []
 unfolding walkText
-walk-none number s at zero h = refl
-walk-none number s at (suc n) h = absurd (omega arith)
+walk-none mode number s at zero h = refl
+walk-none mode number s at (suc n) h = absurd (omega arith)
 
-module _ {number : ℕ} {s old : List ℕ} {start : ℕ} where
-  pub begin : start + length s * 239 ≤ length old → Begun number s old start old 0 start (length s)
+module _ {mode : Bool} {number : ℕ} {s old : List ℕ} {start : ℕ} where
+  pub begin : start + length s * 239 ≤ length old → Begun mode number s old start old 0 start (length s)
   begin h = record { done = []; wrote = wrote-none (omega arith); rest = refl; low = omega arith }
 
-  module _ {new : List ℕ} {at said left : ℕ} (b : Begun number s old start new at said left) where
-    ended : walkText number s at left ≡ [] → Put (length s * 239) old start (walkText number s 0 (length s)) new said
+  module _ {new : List ℕ} {at said left : ℕ} (b : Begun mode number s old start new at said left) where
+    ended : walkText mode number s at left ≡ [] → Put (length s * 239) old start (walkText mode number s 0 (length s)) new said
     ended e = record {
       wrote = same-bytes (sym (append-nil (b .done)) ∙ ap (λ (x : List ℕ). b .done ++ x) (sym e) ∙ b .rest) (b .wrote);
       low = omega (arith, b .low);
     }
 
-    pub stop-end : 0 < left → length s ≤ at → Put (length s * 239) old start (walkText number s 0 (length s)) new said
-    stop-end h p = ended (walk-step number s at left h ∙ simp (le-leb _ _ p))
+    pub stop-end : 0 < left → length s ≤ at → Put (length s * 239) old start (walkText mode number s 0 (length s)) new said
+    stop-end h p = ended (walk-step mode number s at left h ∙ simp (le-leb _ _ p))
 
-    pub stop-left : left ≤ 0 → Put (length s * 239) old start (walkText number s 0 (length s)) new said
-    stop-left h = ended (walk-none number s at left h)
+    pub stop-left : left ≤ 0 → Put (length s * 239) old start (walkText mode number s 0 (length s)) new said
+    stop-left h = ended (walk-none mode number s at left h)
 
     pub go-on : {new' : List ℕ} {next said' : ℕ} → 0 < left → at < length s
-        → Put ((stepNext s at - at) * 239) new said (stepText number s at) new' said' → next ≡ stepNext s at → Begun number s old start new' next said' (left - 1)
+        → Put ((stepNext s at - at) * 239) new said (stepText mode number s at) new' said' → next ≡ stepNext s at → Begun mode number s old start new' next said' (left - 1)
     go-on {new'} {next} {said'} h p w e =
         let i : (at < stepNext s at) × (stepNext s at ≤ length s) = next-inside s at p in
-        let r : walkText number s at left ≡ stepText number s at ++ walkText number s next (left - 1) =
-        walk-step number s at left h ∙ simp (lt-leb _ _ p, e) in
+        let r : walkText mode number s at left ≡ stepText mode number s at ++ walkText mode number s next (left - 1) =
+        walk-step mode number s at left h ∙ simp (lt-leb _ _ p, e) in
         record {
-          done = b .done ++ stepText number s at;
+          done = b .done ++ stepText mode number s at;
           wrote = after (b .wrote) (w .wrote);
-          rest = append-assoc (b .done) (stepText number s at) (walkText number s next (left - 1)) ∙ ap (λ (x : List ℕ). b .done ++ x) (sym r) ∙ b .rest;
+          rest = append-assoc (b .done) (stepText mode number s at) (walkText mode number s next (left - 1)) ∙ ap (λ (x : List ℕ). b .done ++ x) (sym r) ∙ b .rest;
           low = omega (arith, w .low, b .low);
         }
 
 -- what a line spells, as the walk finds it in the buffer
 -- the turns of the loop are the steps of the walk
-walk-steps : (number : ℕ) (s : List ℕ) (at left : ℕ) → walkText number s at left ≡ stepsText number s (stepsFrom s at left)
+walk-steps : (mode : Bool) (number : ℕ) (s : List ℕ) (at left : ℕ) → walkText mode number s at left ≡ stepsText mode number s (stepsFrom s at left)
 unfolding walkText stepsText stepsFrom stepNext
-walk-steps number s at zero = refl
-walk-steps number s at (suc left) = turn (walk-steps number s (claimAt s at .next) left) (ended left) (leb (length s) at) (stands s at) refl
+walk-steps mode number s at zero = refl
+walk-steps mode number s at (suc left) = turn (walk-steps mode number s (claimAt s at .next) left) (ended left) (leb (length s) at) (stands s at) refl
   where
-    ended : (n : ℕ) → walkText number s (length s) n ≡ []
+    ended : (n : ℕ) → walkText mode number s (length s) n ≡ []
     ended zero = refl
     ended (suc n) = simp (le-leb (length s) (length s) (omega arith))
 
-    turn : walkText number s (claimAt s at .next) left ≡ stepsText number s (stepsFrom s (claimAt s at .next) left) → walkText number s (length s) left ≡ [] → (end stand : Bool) → stands s at ≡ stand
-        → (if end then [] else stepText number s at ++ walkText number s (stepNext s at) left) ≡ stepsText number s (if end then [] else at ∷ (if stand then [] else stepsFrom s (claimAt s at .next) left))
+    turn : walkText mode number s (claimAt s at .next) left ≡ stepsText mode number s (stepsFrom s (claimAt s at .next) left) → walkText mode number s (length s) left ≡ [] → (end stand : Bool) → stands s at ≡ stand
+        → (if end then [] else stepText mode number s at ++ walkText mode number s (stepNext s at) left) ≡ stepsText mode number s (if end then [] else at ∷ (if stand then [] else stepsFrom s (claimAt s at .next) left))
     turn on off true stand e = refl
-    turn on off false stand e = ap (λ (l : List ℕ). stepText number s at ++ l) (go stand e)
+    turn on off false stand e = ap (λ (l : List ℕ). stepText mode number s at ++ l) (go stand e)
       where
-        go : (stand : Bool) → stands s at ≡ stand → walkText number s (stepNext s at) left ≡ stepsText number s (if stand then [] else stepsFrom s (claimAt s at .next) left)
-        go true e = simp (step-claim s at, e, off)
-        go false e = simp (step-claim s at, e, on)
+        go : (stand : Bool) → stands s at ≡ stand → walkText mode number s (stepNext s at) left ≡ stepsText mode number s (if stand then [] else stepsFrom s (claimAt s at .next) left)
+        go true e = simp (e, off)
+        go false e = simp (e, on)
 
 -- a frame that was read prints the text of its steps
-text-done : (number : ℕ) (w : Writing) (old new : List ℕ) (n : ℕ) → Writes w old new (Done n) → walkText number (part new 0 n) 0 (length (part new 0 n)) ≡ textOf number w
+text-done : (mode : Bool) (number : ℕ) (w : Writing) (old new : List ℕ) (n : ℕ) → Writes w old new (Done n) → walkText mode number (part new 0 n) 0 (length (part new 0 n)) ≡ textOf mode number w
 unfolding part steps
-text-done number w old new n h = let d = done-by w old new n h in simp (d .first, d .given) (walk-steps number (d .bytes) 0 (length (d .bytes)))
+text-done mode number w old new n h = let d = done-by w old new n h in simp (d .first, d .given) (walk-steps mode number (d .bytes) 0 (length (d .bytes)))
 
 -- a frame has room in 16,384 bytes, so that a refusal is the line's own; each of its bytes is two characters, and a line that is refused has one
 abbrev Short : ℕ → Writing → Type 0
@@ -184,13 +182,13 @@ said-short (Bytes bs) k old new n s l w =
     omega arith
 said-short (Refuse why) k old new n s l w = let e : Done n ≡ Refused why = w .said in let z : _≡_ {A = ℕ} 0 1 = cc in absurd (omega arith)
 
-said-refused : (number : ℕ) (w : Writing) (k : ℕ) (old new : List ℕ) (why : Refusal) → Short k w → length old ≡ 16384 → Writes w old new (Refused why)
-    → (refusalLine number 0 why ≡ textOf number w) × (0 < k)
-said-refused number (Bytes bs) k old new why s l w =
+said-refused : (mode : Bool) (number : ℕ) (w : Writing) (k : ℕ) (old new : List ℕ) (why : Refusal) → Short k w → length old ≡ 16384 → Writes w old new (Refused why)
+    → (refusalLine number 0 why ≡ textOf mode number w) × (0 < k)
+said-refused mode number (Bytes bs) k old new why s l w =
     let t : ltb (length old) (length bs) ≡ false = le-ltb (length old) (length bs) (omega arith) in
     let e : Refused why ≡ Done (length bs) = simp t at (w .said) in
     let z : _≡_ {A = ℕ} 0 1 = cc in absurd (omega arith)
-said-refused number (Refuse why') k old new why s l w =
+said-refused mode number (Refuse why') k old new why s l w =
     let e : Refused why ≡ Refused why' = w .said in
     let i : why ≡ why' = cc in
     (ap (refusalLine number 0) i, s)
@@ -199,31 +197,31 @@ module _ (line : List ℕ) {oldFrame newFrame : List ℕ} {r : Written} (w : Wri
   pub spells : {n : ℕ} → r ≡ Done n → n * 2 ≤ length line
   spells {n} e = said-short (frameOf line) (length line) oldFrame newFrame n (frame-short line) l (rw e at w)
 
-  refused-by : (number : ℕ) {why : Refusal} → r ≡ Refused why → (refusalLine number 0 why ≡ textOf number (frameOf line)) × (0 < length line)
-  refused-by number {why} e = said-refused number (frameOf line) (length line) oldFrame newFrame why (frame-short line) l (rw e at w)
+  refused-by : (mode : Bool) (number : ℕ) {why : Refusal} → r ≡ Refused why → (refusalLine number 0 why ≡ textOf mode number (frameOf line)) × (0 < length line)
+  refused-by mode number {why} e = said-refused mode number (frameOf line) (length line) oldFrame newFrame why (frame-short line) l (rw e at w)
 
   pub not-empty : {why : Refusal} → r ≡ Refused why → 0 < length line
-  not-empty e = refused-by 0 e .1
+  not-empty e = refused-by presentMode 0 e .1
 
-  module _ {number : ℕ} {old new : List ℕ} {at said : ℕ} where
-    pub lists-done : {src : List ℕ} {n : ℕ} → r ≡ Done n → src ≡ part newFrame 0 n → length src ≤ n → Put (length src * 239) old at (walkText number src 0 (length src)) new said
-        → ListsLine number line oldFrame newFrame old at new said
+  module _ {mode : Bool} {number : ℕ} {old new : List ℕ} {at said : ℕ} where
+    pub lists-done : {src : List ℕ} {n : ℕ} → r ≡ Done n → src ≡ part newFrame 0 n → length src ≤ n → Put (length src * 239) old at (walkText mode number src 0 (length src)) new said
+        → ListsLine mode number line oldFrame newFrame old at new said
     unfolding frameText
     lists-done {src} {n} e p k d =
         let u : Writes (frameOf line) oldFrame newFrame (Done n) = rw e at w in
         record {
           text = record {
-            wrote = same-bytes (ap (λ (x : List ℕ). walkText number x 0 (length x)) p ∙ text-done number (frameOf line) oldFrame newFrame n u) (d .wrote);
+            wrote = same-bytes (ap (λ (x : List ℕ). walkText mode number x 0 (length x)) p ∙ text-done mode number (frameOf line) oldFrame newFrame n u) (d .wrote);
             low = omega (arith, spells e, d .low);
           };
           frame = w .left;
         }
 
-    pub lists-refused : {why : Refusal} → r ≡ Refused why → Put 113 old at (refusalLine number 0 why) new said → ListsLine number line oldFrame newFrame old at new said
+    pub lists-refused : {why : Refusal} → r ≡ Refused why → Put 113 old at (refusalLine number 0 why) new said → ListsLine mode number line oldFrame newFrame old at new said
     unfolding frameText
-    lists-refused {why} e d = record { text = record { wrote = same-bytes (refused-by number e .0) (d .wrote); low = omega (arith, not-empty e, d .low) }; frame = w .left }
+    lists-refused {why} e d = record { text = record { wrote = same-bytes (refused-by mode number e .0) (d .wrote); low = omega (arith, not-empty e, d .low) }; frame = w .left }
 
 -- two answers, and two buffers, that one promise allows are equal
-pub one-line : {number : ℕ} {line oldFrame f f' old : List ℕ} {at : ℕ} {new new' : List ℕ} {r r' : ℕ}
-    → ListsLine number line oldFrame f old at new r → ListsLine number line oldFrame f' old at new' r' → (r ≡ r') × ((new ≡ new') × (f ≡ f'))
+pub one-line : {mode : Bool} {number : ℕ} {line oldFrame f f' old : List ℕ} {at : ℕ} {new new' : List ℕ} {r r' : ℕ}
+    → ListsLine mode number line oldFrame f old at new r → ListsLine mode number line oldFrame f' old at new' r' → (r ≡ r') × ((new ≡ new') × (f ≡ f'))
 one-line p q = let t = one-put (p .text) (q .text) in (t .0, (t .1, p .frame ∙ sym (q .frame)))

@@ -1,6 +1,7 @@
--- 01, "Listing": the text that `list` prints.
+-- 01, "Listing": the text that `list` prints, in a mode. The program that 01 asks for is of the present one.
 use Prim.Native.Nat.{ℕ, _+_, _-_, _*_, _/_}
 use mathlib.Core.Path.{_≡_}
+use mathlib.Core.Bool.{Bool}
 use mathlib.Core.List.{List, [], _∷_, _++_}
 use lib.Dec.{eqb}
 use lib.ListN.{length}
@@ -33,39 +34,39 @@ header =
     104 ∷ 105 ∷ 103 ∷ 104 ∷ 10 ∷ []
 
 -- what is printed of the step at a place of a frame: a step that does not move is a zero claim, refusal 10, any other moves over its entry
-unfoldable pub stepText : ℕ → List ℕ → ℕ → List ℕ
-stepText number s at =
-    if eqb (symbolStep s at .cursor .at) at then refusalLine number at ZeroEntryLength
-    else byStep (symbolStep s at .step) []
-    (λ r. entryLine number at r (part s at (symbolStep s at .cursor .at - at)))
+unfoldable pub stepText : Bool → ℕ → List ℕ → ℕ → List ℕ
+stepText mode number s at =
+    if eqb (symbolStep mode s at .cursor .at) at then refusalLine number at ZeroEntryLength
+    else byStep (symbolStep mode s at .step) []
+    (λ r. entryLine mode number at r (part s at (symbolStep mode s at .cursor .at - at)))
     (refusalLine number at)
 
 -- what is printed of the steps that begin at these places
-unfoldable pub stepsText : ℕ → List ℕ → List ℕ → List ℕ
-stepsText number s [] = []
-stepsText number s (at ∷ more) = stepText number s at ++ stepsText number s more
+unfoldable pub stepsText : Bool → ℕ → List ℕ → List ℕ → List ℕ
+stepsText mode number s [] = []
+stepsText mode number s (at ∷ more) = stepText mode number s at ++ stepsText mode number s more
 
 -- a frame is walked from its start, and a zero claim ends its line; a line that is no frame is refused at start 0
-abbrev pub textOf : ℕ → Writing → List ℕ
-textOf number (Bytes s) = stepsText number s (steps s)
-textOf number (Refuse why) = refusalLine number 0 why
+abbrev pub textOf : Bool → ℕ → Writing → List ℕ
+textOf mode number (Bytes s) = stepsText mode number s (steps s)
+textOf mode number (Refuse why) = refusalLine number 0 why
 
 -- what is printed of a line of input, its characters without the LF
-unfoldable pub frameText : ℕ → List ℕ → List ℕ
-frameText number line = textOf number (frameOf line)
+unfoldable pub frameText : Bool → ℕ → List ℕ → List ℕ
+frameText mode number line = textOf mode number (frameOf line)
 
 -- what is printed of the rest of the input, where the line of this number has these characters so far: an LF ends a line, the last may lack it
-unfoldable pub inputText : ℕ → List ℕ → List ℕ → List ℕ
-inputText number line [] = frameText number line
-inputText number line (c ∷ s) =
-    if eqb c lineFeed then frameText number line ++ inputText (number + 1) [] s
-    else inputText number (line ++ (c ∷ [])) s
+unfoldable pub inputText : Bool → ℕ → List ℕ → List ℕ → List ℕ
+inputText mode number line [] = frameText mode number line
+inputText mode number line (c ∷ s) =
+    if eqb c lineFeed then frameText mode number line ++ inputText mode (number + 1) [] s
+    else inputText mode number (line ++ (c ∷ [])) s
 
 -- what `list` prints of its input, whole
-unfoldable pub listing : List ℕ → List ℕ
-listing s = header ++ inputText 1 [] s
+unfoldable pub listing : Bool → List ℕ → List ℕ
+listing mode s = header ++ inputText mode 1 [] s
 
 -- the promise of the listing of a line: its text from a place of one buffer on, at most 239 bytes for two characters, and the frame that it spells in the other
-pub record ListsLine (number : ℕ) (line oldFrame newFrame old : List ℕ) (at : ℕ) (new : List ℕ) (r : ℕ) : Type 0 where
-  pub text : Put (length line * 239 / 2) old at (frameText number line) new r
+pub record ListsLine (mode : Bool) (number : ℕ) (line oldFrame newFrame old : List ℕ) (at : ℕ) (new : List ℕ) (r : ℕ) : Type 0 where
+  pub text : Put (length line * 239 / 2) old at (frameText mode number line) new r
   pub frame : newFrame ≡ leaves (frameOf line) oldFrame

@@ -38,11 +38,18 @@ pub fn write_header(out: &mut [u8]) -> Written
 }
 
 // The line of text of one step of the walk.
-fn put_step(out: &mut [u8], said: usize, number: usize, frame: &[u8], at: usize) -> Listed
+fn put_step(
+    out: &mut [u8],
+    said: usize,
+    number: usize,
+    frame: &[u8],
+    checked: bool,
+    at: usize,
+) -> Listed
     requires { ⌜ (at < length (now frame)) × (said + (length (now frame) - at) * 239 ≤ length (now out)) ⌝ }
-    ensures { λ r. ⌜ (Put ((stepNext (now (frame .entry)) at - at) * 239) (now (out .entry)) said (stepText number (now (frame .entry)) at) (now (out .exit)) (r .said)) × (r .next ≡ stepNext (now (frame .entry)) at) ⌝ }
+    ensures { λ r. ⌜ (Put ((stepNext (now (frame .entry)) at - at) * 239) (now (out .entry)) said (stepText checked number (now (frame .entry)) at) (now (out .exit)) (r .said)) × (r .next ≡ stepNext (now (frame .entry)) at) ⌝ }
 {
-    let stepped = Cursor { at }.step(frame);
+    let stepped = Cursor { at }.step(frame, checked);
     let next = stepped.cursor.at;
     if next == at {
         return Listed {
@@ -56,7 +63,7 @@ fn put_step(out: &mut [u8], said: usize, number: usize, frame: &[u8], at: usize)
         Step::Record(info) => {
             let e = le::part_of(frame, at, le::room(next, at));
             Listed {
-                said: rows::put_entry(out, said, number, at, info, e),
+                said: rows::put_entry(out, said, number, at, info, e, checked),
                 next,
             }
         }
@@ -69,9 +76,9 @@ fn put_step(out: &mut [u8], said: usize, number: usize, frame: &[u8], at: usize)
 
 // The text of a frame, of which no step prints more than 239 bytes for each byte that it moves. Every step moves, so there are no more steps than
 // bytes.
-fn put_frame(out: &mut [u8], start: usize, number: usize, frame: &[u8]) -> usize
+fn put_frame(out: &mut [u8], start: usize, number: usize, frame: &[u8], checked: bool) -> usize
     requires { ⌜ start + length (now frame) * 239 ≤ length (now out) ⌝ }
-    ensures { λ r. ⌜ Put (length (now (frame .entry)) * 239) (now (out .entry)) start (walkText number (now (frame .entry)) 0 (length (now (frame .entry)))) (now (out .exit)) r ⌝ }
+    ensures { λ r. ⌜ Put (length (now (frame .entry)) * 239) (now (out .entry)) start (walkText checked number (now (frame .entry)) 0 (length (now (frame .entry)))) (now (out .exit)) r ⌝ }
 {
     let mut at = 0;
     let mut said = start;
@@ -81,7 +88,7 @@ fn put_frame(out: &mut [u8], start: usize, number: usize, frame: &[u8]) -> usize
         if frame.len() <= at {
             return said;
         }
-        let step = put_step(out, said, number, frame, at);
+        let step = put_step(out, said, number, frame, checked, at);
         said = step.said;
         at = step.next;
     }
@@ -91,16 +98,17 @@ fn put_frame(out: &mut [u8], start: usize, number: usize, frame: &[u8]) -> usize
 // The text of a line of input, at a place: a byte of a frame is two characters, and a line that is refused has at least one.
 pub fn list_line(
     line: &[u8],
+    checked: bool,
     number: usize,
     frame: &mut [u8; FRAME],
     out: &mut [u8],
     said: usize,
 ) -> usize
     requires { ⌜ said + length (now line) * 239 / 2 ≤ length (now out) ⌝ }
-    ensures { λ r. ⌜ ListsLine number (now (line .entry)) (now (frame .entry)) (now (frame .exit)) (now (out .entry)) said (now (out .exit)) r ⌝ }
+    ensures { λ r. ⌜ ListsLine checked number (now (line .entry)) (now (frame .entry)) (now (frame .exit)) (now (out .entry)) said (now (out .exit)) r ⌝ }
 {
     match digits::read_frame(line, frame) {
-        Written::Done(n) => put_frame(out, said, number, le::part_of(frame, 0, n)),
+        Written::Done(n) => put_frame(out, said, number, le::part_of(frame, 0, n), checked),
         Written::Refused(why) => rows::put_refusal(out, said, number, 0, why),
     }
 }

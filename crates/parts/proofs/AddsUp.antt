@@ -30,66 +30,66 @@ ended-fits : (r : Reading) (k : ℕ) → Fits r (suc k) → Fits (ended r) k
 ended-fits r k f = record { long = f .long; some = omega arith; few = omega (arith, next-is (r .number) k (f .few), f .few) }
 
 -- a character that is held, and one that has no room, by whether it has
-held-by : (b : Bool) (r : Reading) (c k : ℕ) (t : List ℕ) → ltb (r .held) (length (r .line)) ≡ b → Fits r (suc k)
+held-by : (mode b : Bool) (r : Reading) (c k : ℕ) (t : List ℕ) → ltb (r .held) (length (r .line)) ≡ b → Fits r (suc k)
     → (let q : Reading = if b then reading (r .number) (r .held + 1) (put (r .line) (r .held) (c ∷ [])) (r .frame) else r in
-    (Fits q k) × (inputText (r .number) (heldOf r ++ (c ∷ [])) t ≡ inputText (q .number) (heldOf q) t))
+    (Fits q k) × (inputText mode (r .number) (heldOf r ++ (c ∷ [])) t ≡ inputText mode (q .number) (heldOf q) t))
 unfolding put
-held-by true r c k t e f =
+held-by mode true r c k t e f =
     let h : length (take (r .held) (r .line)) ≡ r .held = length-take-le (r .held) (r .line) (omega (arith, f .some, f .long)) in
     let p = ltb-true (r .held) (length (r .line)) e in (
       let l = length-put (r .line) (r .held) (c ∷ []) (omega arith) in
           record { long = omega (arith, l, f .long); some = omega (arith, l, f .long); few = omega (arith, f .few) },
-      ap (λ (x : List ℕ). inputText (r .number) x t) (sym (take-at (heldOf r ++ (c ∷ [])) (drop (r .held + 1) (r .line)) (r .held + 1) (length-append (heldOf r) (c ∷ []) ∙ omega arith))),
+      ap (λ (x : List ℕ). inputText mode (r .number) x t) (sym (take-at (heldOf r ++ (c ∷ [])) (drop (r .held + 1) (r .line)) (r .held + 1) (length-append (heldOf r) (c ∷ []) ∙ omega arith))),
     )
-held-by false r c k t e f =
+held-by mode false r c k t e f =
     let h : length (take (r .held) (r .line)) ≡ r .held = length-take-le (r .held) (r .line) (omega (arith, f .some, f .long)) in
     let p = ltb-false (r .held) (length (r .line)) e in (
       record { long = f .long; some = f .some; few = omega (arith, f .few) },
-      input-cut (r .number) (heldOf r ++ (c ∷ [])) (heldOf r) t (simp length-append (omega (arith, f .long))) (omega (arith, f .long)),
+      input-cut mode (r .number) (heldOf r ++ (c ∷ [])) (heldOf r) t (simp length-append (omega (arith, f .long))) (omega (arith, f .long)),
     )
 
-held-on : (r : Reading) (c k : ℕ) (t : List ℕ) → Fits r (suc k)
-    → (Fits (holding r c) k) × (inputText (r .number) (heldOf r ++ (c ∷ [])) t ≡ inputText (holding r c .number) (heldOf (holding r c)) t)
+held-on : (mode : Bool) (r : Reading) (c k : ℕ) (t : List ℕ) → Fits r (suc k)
+    → (Fits (holding r c) k) × (inputText mode (r .number) (heldOf r ++ (c ∷ [])) t ≡ inputText mode (holding r c .number) (heldOf (holding r c)) t)
 unfolding holding
-held-on r c k t f = held-by (ltb (r .held) (length (r .line))) r c k t refl f
+held-on mode r c k t f = held-by mode (ltb (r .held) (length (r .line))) r c k t refl f
 
 -- what is printed of a part, and what is printed of the rest of the input from where the program then stands
-abbrev Adds : Reading → ℕ → List ℕ → List ℕ → List ℕ → Reading → Type 0
-Adds r k s t text q = (Fits q k) × (inputText (r .number) (heldOf r) (s ++ t) ≡ text ++ inputText (q .number) (heldOf q) t)
+abbrev Adds : Bool → Reading → ℕ → List ℕ → List ℕ → List ℕ → Reading → Type 0
+Adds mode r k s t text q = (Fits q k) × (inputText mode (r .number) (heldOf r) (s ++ t) ≡ text ++ inputText mode (q .number) (heldOf q) t)
 
-adds-by : (b : Bool) (r : Reading) (c k : ℕ) (s t : List ℕ) → Fits r (suc (length s + k))
-    → ((q : Reading) → Fits q (length s + k) → Adds q k s t (partText q s) (after q s))
+adds-by : (mode b : Bool) (r : Reading) (c k : ℕ) (s t : List ℕ) → Fits r (suc (length s + k))
+    → ((q : Reading) → Fits q (length s + k) → Adds mode q k s t (partText mode q s) (after q s))
     → (let q : Reading = if b then after (ended r) s else after (holding r c) s in
     (Fits q k)
-    × ((if b then lineText r ++ inputText (r .number + 1) [] (s ++ t) else inputText (r .number) (heldOf r ++ (c ∷ [])) (s ++ t))
-    ≡ (if b then lineText r ++ partText (ended r) s else partText (holding r c) s) ++ inputText (q .number) (heldOf q) t))
-adds-by true r c k s t f below =
+    × ((if b then lineText mode r ++ inputText mode (r .number + 1) [] (s ++ t) else inputText mode (r .number) (heldOf r ++ (c ∷ [])) (s ++ t))
+    ≡ (if b then lineText mode r ++ partText mode (ended r) s else partText mode (holding r c) s) ++ inputText mode (q .number) (heldOf q) t))
+adds-by mode true r c k s t f below =
     let a = below (ended r) (ended-fits r (length s + k) f) in
     let n = next-is (r .number) (length s + k) (f .few) in (
       a .0,
-      ap (λ (x : ℕ). lineText r ++ inputText x [] (s ++ t)) (sym n)
-          ∙ ap (λ (x : List ℕ). lineText r ++ x) (a .1)
-          ∙ sym (append-assoc (lineText r) (partText (ended r) s) _),
+      ap (λ (x : ℕ). lineText mode r ++ inputText mode x [] (s ++ t)) (sym n)
+          ∙ ap (λ (x : List ℕ). lineText mode r ++ x) (a .1)
+          ∙ sym (append-assoc (lineText mode r) (partText mode (ended r) s) _),
     )
-adds-by false r c k s t f below =
-    let h = held-on r c (length s + k) (s ++ t) f in
+adds-by mode false r c k s t f below =
+    let h = held-on mode r c (length s + k) (s ++ t) f in
     let a = below (holding r c) (h .0) in
     (a .0, h .1 ∙ a .1)
 
-part-adds : (s t : List ℕ) (k : ℕ) (r : Reading) → Fits r (length s + k) → Adds r k s t (partText r s) (after r s)
+part-adds : (mode : Bool) (s t : List ℕ) (k : ℕ) (r : Reading) → Fits r (length s + k) → Adds mode r k s t (partText mode r s) (after r s)
 unfolding inputText partText after
-part-adds [] t k r f = (record { long = f .long; some = f .some; few = omega (arith, f .few) }, refl)
-part-adds (c ∷ s) t k r f =
-    adds-by (eqb c lineFeed) r c k s t (record { long = f .long; some = f .some; few = omega (arith, f .few) }) (part-adds s t k)
+part-adds mode [] t k r f = (record { long = f .long; some = f .some; few = omega (arith, f .few) }, refl)
+part-adds mode (c ∷ s) t k r f =
+    adds-by mode (eqb c lineFeed) r c k s t (record { long = f .long; some = f .some; few = omega (arith, f .few) }) (part-adds mode s t k)
 
-parts-add : (parts : List (List ℕ)) (r : Reading) → Fits r (length (joined parts)) → partsText r parts ≡ inputText (r .number) (heldOf r) (joined parts)
+parts-add : (mode : Bool) (parts : List (List ℕ)) (r : Reading) → Fits r (length (joined parts)) → partsText mode r parts ≡ inputText mode (r .number) (heldOf r) (joined parts)
 unfolding partsText inputText
-parts-add [] r f = refl
-parts-add (s ∷ parts) r f =
-    let a = part-adds s (joined parts) (length (joined parts)) r (record { long = f .long; some = f .some; few = omega (arith, f .few, length-append s (joined parts)) }) in
-    ap (λ (x : List ℕ). partText r s ++ x) (parts-add parts (after r s) (a .0)) ∙ sym (a .1)
+parts-add mode [] r f = refl
+parts-add mode (s ∷ parts) r f =
+    let a = part-adds mode s (joined parts) (length (joined parts)) r (record { long = f .long; some = f .some; few = omega (arith, f .few, length-append s (joined parts)) }) in
+    ap (λ (x : List ℕ). partText mode r s ++ x) (parts-add mode parts (after r s) (a .0)) ∙ sym (a .1)
 
 pub adds-up : AddsUp
 unfolding printed listing
-adds-up line frame parts l h =
-    ap (λ (x : List ℕ). header ++ x) (parts-add parts (reading 1 0 line frame) (record { long = l; some = omega arith; few = omega arith }))
+adds-up mode line frame parts l h =
+    ap (λ (x : List ℕ). header ++ x) (parts-add mode parts (reading 1 0 line frame) (record { long = l; some = omega arith; few = omega arith }))

@@ -12,6 +12,7 @@ use borrow.Author.Tests.{ltb-true, ltb-false, eqb-true}
 use Rattle.le.specs.Le.{if_then_else_}
 use Rattle.le.specs.Put.{put, Wrote}
 use Rattle.le.proofs.Laws as le
+use Rattle.refusal.specs.Ends.{presentMode}
 use Rattle.lines.specs.declared.Taken.{Taken}
 use Rattle.lines.specs.Lines.{lineFeed, before, kept, endOf, hold, Takes}
 use Rattle.listing.specs.Listing.{ListsLine}
@@ -47,22 +48,22 @@ unfolding holding
 holds-more r c l = holds-by (ltb (r .held) (length (r .line))) r c l refl
 
 -- what is read up to an LF is held
-abbrev Alike : Reading → List ℕ → Reading → List ℕ → Type 0
-Alike r s q t = (partText r s ≡ partText q t) × (after r s ≡ after q t)
+abbrev Alike : Bool → Reading → List ℕ → Reading → List ℕ → Type 0
+Alike mode r s q t = (partText mode r s ≡ partText mode q t) × (after r s ≡ after q t)
 
-plain-by : (b : Bool) (r : Reading) (c : ℕ) (l t : List ℕ) → eqb c lineFeed ≡ b → ((q : Reading) → Alike q (before l ++ t) (holds q (before l)) t)
-    → Alike r ((if b then [] else c ∷ before l) ++ t) (holds r (if b then [] else c ∷ before l)) t
+plain-by : (mode b : Bool) (r : Reading) (c : ℕ) (l t : List ℕ) → eqb c lineFeed ≡ b → ((q : Reading) → Alike mode q (before l ++ t) (holds q (before l)) t)
+    → Alike mode r ((if b then [] else c ∷ before l) ++ t) (holds r (if b then [] else c ∷ before l)) t
 unfolding partText after
-plain-by true r c l t e below = (ap (λ (x : Reading). partText x t) (sym (holds-none r)), ap (λ (x : Reading). after x t) (sym (holds-none r)))
-plain-by false r c l t e below =
+plain-by mode true r c l t e below = (ap (λ (x : Reading). partText mode x t) (sym (holds-none r)), ap (λ (x : Reading). after x t) (sym (holds-none r)))
+plain-by mode false r c l t e below =
     let a = below (holding r c) in
     let h = holds-more r c (before l) in
-    (simp e (a .0 ∙ ap (λ (x : Reading). partText x t) h), simp e (a .1 ∙ ap (λ (x : Reading). after x t) h))
+    (simp e (a .0 ∙ ap (λ (x : Reading). partText mode x t) h), simp e (a .1 ∙ ap (λ (x : Reading). after x t) h))
 
-plain : (l t : List ℕ) (r : Reading) → Alike r (before l ++ t) (holds r (before l)) t
+plain : (mode : Bool) (l t : List ℕ) (r : Reading) → Alike mode r (before l ++ t) (holds r (before l)) t
 unfolding before
-plain [] t r = (ap (λ (x : Reading). partText x t) (sym (holds-none r)), ap (λ (x : Reading). after x t) (sym (holds-none r)))
-plain (c ∷ l) t r = plain-by (eqb c lineFeed) r c l t refl (plain l t)
+plain mode [] t r = (ap (λ (x : Reading). partText mode x t) (sym (holds-none r)), ap (λ (x : Reading). after x t) (sym (holds-none r)))
+plain mode (c ∷ l) t r = plain-by mode (eqb c lineFeed) r c l t refl (plain mode l t)
 
 -- what stands after the characters before the first LF
 ends-by : (b : Bool) (c : ℕ) (l : List ℕ) → eqb c lineFeed ≡ b → (length (before l) < length l → l ≡ before l ++ (lineFeed ∷ drop (suc (length (before l))) l))
@@ -95,8 +96,8 @@ before-short (c ∷ l) = shorter (eqb c lineFeed) c l (before-short l)
     shorter false c l h = omega arith
 
 -- a turn: what `take_line` took, and what the end of the line makes of it
-pub record Turned (r : Reading) (s : List ℕ) (from : ℕ) (is : Bool) (q : Reading) (next : ℕ) : Type 0 where
-  pub text : partText r (drop from s) ≡ (if is then lineText q else []) ++ partText (if is then ended q else q) (drop next s)
+pub record Turned (mode : Bool) (r : Reading) (s : List ℕ) (from : ℕ) (is : Bool) (q : Reading) (next : ℕ) : Type 0 where
+  pub text : partText mode r (drop from s) ≡ (if is then lineText mode q else []) ++ partText mode (if is then ended q else q) (drop next s)
   pub left : after r (drop from s) ≡ after (if is then ended q else q) (drop next s)
   pub on : from < next
   pub within : next ≤ length s
@@ -112,32 +113,32 @@ module _ (r : Reading) (s : List ℕ) (from : ℕ) (h : from < length s) where
   unfolding put
   long-held = simp (length-take, length-append, length-drop) (omega arith)
 
-  turned-by : (b : Bool) → ltb (endOf s from) (length s) ≡ b → Turned r s from b (holds r (before (drop from s))) (if b then endOf s from + 1 else endOf s from)
+  turned-by : (mode b : Bool) → ltb (endOf s from) (length s) ≡ b → Turned mode r s from b (holds r (before (drop from s))) (if b then endOf s from + 1 else endOf s from)
   unfolding partText after
-  turned-by true e =
+  turned-by mode true e =
       let l : List ℕ = drop from s in
       let p = ltb-true (endOf s from) (length s) e in
       let a : l ≡ before l ++ (lineFeed ∷ drop (suc (length (before l))) l) = ends l (simp length-drop (omega arith)) in
       let n : from + suc (length (before l)) ≡ endOf s from + 1 = omega arith in
       let d : drop (suc (length (before l))) l ≡ drop (endOf s from + 1) s = drop-drop (suc (length (before l))) from s ∙ ap (λ (k : ℕ). drop k s) n in
-      let g = plain l (lineFeed ∷ drop (suc (length (before l))) l) r in
+      let g = plain mode l (lineFeed ∷ drop (suc (length (before l))) l) r in
       record {
-        text = ap (partText r) a ∙ g .0 ∙ ap (λ (x : List ℕ). lineText (holds r (before l)) ++ partText (ended (holds r (before l))) x) d;
+        text = ap (partText mode r) a ∙ g .0 ∙ ap (λ (x : List ℕ). lineText mode (holds r (before l)) ++ partText mode (ended (holds r (before l))) x) d;
         left = ap (after r) a ∙ g .1 ∙ ap (after (ended (holds r (before l)))) d;
         on = omega arith;
         within = omega arith;
         long = long-held;
         few = few-held (endOf s from + 1 - from) (omega arith);
       }
-  turned-by false e =
+  turned-by mode false e =
       let l : List ℕ = drop from s in
       let p = ltb-false (endOf s from) (length s) e in
       let m : length l ≡ length s - from = length-drop from s in
       let a : l ≡ before l ++ [] = goes-on l (omega arith) in
       let d : [] ≡ drop (endOf s from) s = sym (drop-of-length-le s {i = endOf s from} p) in
-      let g = plain l [] r in
+      let g = plain mode l [] r in
       record {
-        text = ap (partText r) a ∙ g .0 ∙ ap (partText (holds r (before l))) d;
+        text = ap (partText mode r) a ∙ g .0 ∙ ap (partText mode (holds r (before l))) d;
         left = ap (after r) a ∙ g .1 ∙ ap (after (holds r (before l))) d;
         on = omega arith;
         within = omega (arith, before-short l);
@@ -150,69 +151,69 @@ hold-by : (b : Bool) (end held : ℕ) (P : Bool → ℕ → ℕ → Type 0) → 
 hold-by true end held P p = p
 hold-by false end held P p = p
 
-module _ {number held from : ℕ} {old new frame s : List ℕ} {t : Taken} (w : Takes s from held old new t) (h : from < length s) where
-  pub turned : Turned (reading number held old frame) s from (t .ended) (reading number (t .held) new frame) (t .next)
+module _ {mode : Bool} {number held from : ℕ} {old new frame s : List ℕ} {t : Taken} (w : Takes s from held old new t) (h : from < length s) where
+  pub turned : Turned mode (reading number held old frame) s from (t .ended) (reading number (t .held) new frame) (t .next)
   unfolding hold
   turned =
       let r : Reading = reading number held old frame in
       let l : List ℕ = before (drop from s) in
       rw (w .left, w .said)
       (hold-by (ltb (endOf s from) (length s)) (endOf s from) (held + length (kept s from (length old) held))
-      (λ is n next. Turned r s from is (reading number n (put old held (kept s from (length old) held)) frame) next)
-      (turned-by r s from h (ltb (endOf s from) (length s)) refl))
+      (λ is n next. Turned mode r s from is (reading number n (put old held (kept s from (length old) held)) frame) next)
+      (turned-by r s from h mode (ltb (endOf s from) (length s)) refl))
 
 pub moves : {from held : ℕ} {old new s : List ℕ} {t : Taken} → Takes s from held old new t → from < length s → from < t .next
-moves w h = turned {number = 0} {frame = []} w h .on
+moves w h = turned {mode = presentMode} {number = 0} {frame = []} w h .on
 
 -- the loop over a part: so much text is written, the rest of the text is left, and there is room for it
-pub record Begun (start : Reading) (s old new : List ℕ) (r : Reading) (from said : ℕ) : Type 0 where
+pub record Begun (mode : Bool) (start : Reading) (s old new : List ℕ) (r : Reading) (from said : ℕ) : Type 0 where
   pub done : List ℕ
   pub wrote : Wrote old 0 done new said
-  pub text : done ++ partText r (drop from s) ≡ partText start s
+  pub text : done ++ partText mode r (drop from s) ≡ partText mode start s
   pub left : after r (drop from s) ≡ after start s
   pub long : length (r .line) ≡ length (start .line)
   pub room : said + (length (heldOf r) + (length s - from)) * 239 / 2 ≤ length old
 
 -- what is held after the end of a line, and what was said
-said-by : (is : Bool) (q p : Reading) (at : ℕ) (old new frame : List ℕ) (x : Listed) → EndsLine is q at old new frame x → p ≡ reading (x .number) (x .held) (q .line) frame
+said-by : (mode is : Bool) (q p : Reading) (at : ℕ) (old new frame : List ℕ) (x : Listed) → EndsLine mode is q at old new frame x → p ≡ reading (x .number) (x .held) (q .line) frame
     → (k : ℕ) → x .said + (length (heldOf p) + k) * 239 / 2 ≤ at + (length (heldOf q) + k) * 239 / 2
-said-by true q p at old new frame x w e k =
+said-by mode true q p at old new frame x w e k =
     let z : length (heldOf p) ≡ 0 = ap (λ (y : Reading). length (heldOf y)) (e ∙ w .left) in
     omega (arith, w .text .low)
-said-by false q p at old new frame x w e k =
+said-by mode false q p at old new frame x w e k =
     let z : length (heldOf p) ≡ length (heldOf q) = ap (λ (y : Reading). length (heldOf y)) (e ∙ w .left) in
     omega (arith, w .text .wrote .end)
 
-module _ {start : Reading} {s old : List ℕ} where
-  pub begin : (length (start .line) + length s) * 239 / 2 ≤ length old → Begun start s old old start 0 0
+module _ {mode : Bool} {start : Reading} {s old : List ℕ} where
+  pub begin : (length (start .line) + length s) * 239 / 2 ≤ length old → Begun mode start s old old start 0 0
   begin h =
       let m : length (heldOf start) ≤ length (start .line) = simp length-take (omega arith) in
       record { done = []; wrote = le.wrote-none (omega arith); text = refl; left = refl; long = refl; room = omega arith }
 
-  module _ {new : List ℕ} {r : Reading} {from said : ℕ} (b : Begun start s old new r from said) where
-    pub room-now : {is : Bool} {q : Reading} {next : ℕ} → Turned r s from is q next → said + length (heldOf q) * 239 / 2 ≤ length new
+  module _ {new : List ℕ} {r : Reading} {from said : ℕ} (b : Begun mode start s old new r from said) where
+    pub room-now : {is : Bool} {q : Reading} {next : ℕ} → Turned mode r s from is q next → said + length (heldOf q) * 239 / 2 ≤ length new
     room-now u = omega (arith, b .room, b .wrote .long, u .few, u .within, u .on)
 
-    pub go-on : {is : Bool} {q : Reading} {next : ℕ} {new' frame' : List ℕ} {x : Listed} → Turned r s from is q next → EndsLine is q said new new' frame' x
-        → Begun start s old new' (reading (x .number) (x .held) (q .line) frame') next (x .said)
+    pub go-on : {is : Bool} {q : Reading} {next : ℕ} {new' frame' : List ℕ} {x : Listed} → Turned mode r s from is q next → EndsLine mode is q said new new' frame' x
+        → Begun mode start s old new' (reading (x .number) (x .held) (q .line) frame') next (x .said)
     go-on {is} {q} {next} {new'} {frame'} {x} u w =
-        let t : List ℕ = if is then lineText q else [] in
+        let t : List ℕ = if is then lineText mode q else [] in
         record {
           done = b .done ++ t;
           wrote = le.after (b .wrote) (w .text .wrote);
-          text = append-assoc (b .done) t (partText (reading (x .number) (x .held) (q .line) frame') (drop next s))
-              ∙ ap (λ (y : List ℕ). b .done ++ y) (ap (λ (y : Reading). t ++ partText y (drop next s)) (w .left) ∙ sym (u .text))
+          text = append-assoc (b .done) t (partText mode (reading (x .number) (x .held) (q .line) frame') (drop next s))
+              ∙ ap (λ (y : List ℕ). b .done ++ y) (ap (λ (y : Reading). t ++ partText mode y (drop next s)) (w .left) ∙ sym (u .text))
               ∙ b .text;
           left = ap (λ (y : Reading). after y (drop next s)) (w .left) ∙ sym (u .left) ∙ b .left;
           long = u .long ∙ b .long;
-          room = omega (arith, said-by is q (reading (x .number) (x .held) (q .line) frame') said new new' frame' x w refl (length s - next), b .room, u .few, u .within, u .on);
+          room = omega (arith, said-by mode is q (reading (x .number) (x .held) (q .line) frame') said new new' frame' x w refl (length s - next), b .room, u .few, u .within, u .on);
         }
 
-    pub stop : {line frame : List ℕ} {x : Listed} → r ≡ reading (x .number) (x .held) line frame → said ≡ x .said → length s ≤ from → ListsPart start s old new line frame x
+    pub stop : {line frame : List ℕ} {x : Listed} → r ≡ reading (x .number) (x .held) line frame → said ≡ x .said → length s ≤ from → ListsPart mode start s old new line frame x
     unfolding partText after
     stop {line} {frame} {x} e k h =
         let d : drop from s ≡ [] = drop-of-length-le s {i = from} h in
-        let n : partText r (drop from s) ≡ [] = ap (partText r) d in
+        let n : partText mode r (drop from s) ≡ [] = ap (partText mode r) d in
         record {
           text = rw (← k) (le.same-bytes (sym (append-nil (b .done)) ∙ ap (λ (y : List ℕ). b .done ++ y) (sym n) ∙ b .text) (b .wrote));
           left = sym e ∙ ap (after r) (sym d) ∙ b .left;
@@ -226,14 +227,14 @@ same-listed a e =
     let h = ap (λ (y : Reading). y .held) e in
     ((λ i. record { said = a i; number = n i; held = h i }), (ap (λ (y : Reading). y .line) e, ap (λ (y : Reading). y .frame) e))
 
-pub one-part : {r : Reading} {s old new new' line line' frame frame' : List ℕ} {x x' : Listed} → ListsPart r s old new line frame x → ListsPart r s old new' line' frame' x'
+pub one-part : {mode : Bool} {r : Reading} {s old new new' line line' frame frame' : List ℕ} {x x' : Listed} → ListsPart mode r s old new line frame x → ListsPart mode r s old new' line' frame' x'
     → (x ≡ x') × ((new ≡ new') × ((line ≡ line') × (frame ≡ frame')))
 one-part p q =
     let w = le.one-write (p .text) (q .text) in
     let k = same-listed (w .0) (p .left ∙ sym (q .left)) in
     (k .0, (w .1, k .1))
 
-pub one-end : {is : Bool} {r : Reading} {at : ℕ} {old new new' frame frame' : List ℕ} {x x' : Listed} → EndsLine is r at old new frame x → EndsLine is r at old new' frame' x'
+pub one-end : {mode is : Bool} {r : Reading} {at : ℕ} {old new new' frame frame' : List ℕ} {x x' : Listed} → EndsLine mode is r at old new frame x → EndsLine mode is r at old new' frame' x'
     → (x ≡ x') × ((new ≡ new') × (frame ≡ frame'))
 one-end p q =
     let w = le.one-write (p .text .wrote) (q .text .wrote) in
@@ -241,17 +242,17 @@ one-end p q =
     (k .0, (w .1, k .1 .1))
 
 -- a line known by other characters that are equal
-pub same-line : {number at said : ℕ} {line line' f f' old new : List ℕ} → line ≡ line' → ListsLine number line f f' old at new said → ListsLine number line' f f' old at new said
-same-line {number} {at} {said} {line} {line'} {f} {f'} {old} {new} e w = subst (λ (y : List ℕ). ListsLine number y f f' old at new said) e w
+pub same-line : {mode : Bool} {number at said : ℕ} {line line' f f' old new : List ℕ} → line ≡ line' → ListsLine mode number line f f' old at new said → ListsLine mode number line' f f' old at new said
+same-line {mode} {number} {at} {said} {line} {line'} {f} {f'} {old} {new} e w = subst (λ (y : List ℕ). ListsLine mode number y f f' old at new said) e w
 
 -- a line that did not end, and one that did, as the code lists it
-pub ends-not : {is : Bool} {q : Reading} {x : Listed} {old : List ℕ} → is ≡ false → x .said ≤ length old → q ≡ reading (x .number) (x .held) (q .line) (q .frame)
-    → EndsLine is q (x .said) old old (q .frame) x
+pub ends-not : {mode is : Bool} {q : Reading} {x : Listed} {old : List ℕ} → is ≡ false → x .said ≤ length old → q ≡ reading (x .number) (x .held) (q .line) (q .frame)
+    → EndsLine mode is q (x .said) old old (q .frame) x
 ends-not i h e = rw i (record { text = record { wrote = le.wrote-none h; low = omega arith }; left = sym e })
 
-pub ends-so : {is : Bool} {q : Reading} {at said number : ℕ} {old new frame line : List ℕ} → is ≡ true → line ≡ heldOf q
-    → ListsLine (q .number) line (q .frame) frame old at new said → number ≡ nextNumber (q .number)
-    → EndsLine is q at old new frame (record { said = said; number = number; held = 0 })
+pub ends-so : {mode is : Bool} {q : Reading} {at said number : ℕ} {old new frame line : List ℕ} → is ≡ true → line ≡ heldOf q
+    → ListsLine mode (q .number) line (q .frame) frame old at new said → number ≡ nextNumber (q .number)
+    → EndsLine mode is q at old new frame (record { said = said; number = number; held = 0 })
 ends-so {q = q} {frame = frame} i e w n =
     let u = same-line e w in
     rw i (record { text = u .text; left = ap (λ (y : ℕ). reading y 0 (q .line) frame) n ∙ ap (reading (nextNumber (q .number)) 0 (q .line)) (u .frame) })

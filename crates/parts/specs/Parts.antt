@@ -37,8 +37,8 @@ abbrev pub heldOf : Reading → List ℕ
 heldOf r = take (r .held) (r .line)
 
 -- what is printed of the line that is held
-abbrev pub lineText : Reading → List ℕ
-lineText r = frameText (r .number) (heldOf r)
+abbrev pub lineText : Bool → Reading → List ℕ
+lineText mode r = frameText mode (r .number) (heldOf r)
 
 -- "A line ends at LF": the next one begins, with nothing held
 abbrev pub ended : Reading → Reading
@@ -51,38 +51,38 @@ holding r c =
     else r
 
 -- what is printed of the lines that end in a part of the input, and where the program then stands
-unfoldable pub partText : Reading → List ℕ → List ℕ
-partText r [] = []
-partText r (c ∷ s) = if eqb c lineFeed then lineText r ++ partText (ended r) s else partText (holding r c) s
+unfoldable pub partText : Bool → Reading → List ℕ → List ℕ
+partText mode r [] = []
+partText mode r (c ∷ s) = if eqb c lineFeed then lineText mode r ++ partText mode (ended r) s else partText mode (holding r c) s
 
 unfoldable pub after : Reading → List ℕ → Reading
 after r [] = r
 after r (c ∷ s) = if eqb c lineFeed then after (ended r) s else after (holding r c) s
 
 -- the promise of the listing of a part: its text from place 0 of the output on, and what is then held
-pub record ListsPart (r : Reading) (s old new line frame : List ℕ) (x : Listed) : Type 0 where
-  pub text : Wrote old 0 (partText r s) new (x .said)
+pub record ListsPart (mode : Bool) (r : Reading) (s old new line frame : List ℕ) (x : Listed) : Type 0 where
+  pub text : Wrote old 0 (partText mode r s) new (x .said)
   pub left : reading (x .number) (x .held) line frame ≡ after r s
 
 -- the promise of the end of a line, if it ended
-pub record EndsLine (is : Bool) (r : Reading) (at : ℕ) (old new frame : List ℕ) (x : Listed) : Type 0 where
-  pub text : Put (length (heldOf r) * 239 / 2) old at (if is then lineText r else []) new (x .said)
+pub record EndsLine (mode is : Bool) (r : Reading) (at : ℕ) (old new frame : List ℕ) (x : Listed) : Type 0 where
+  pub text : Put (length (heldOf r) * 239 / 2) old at (if is then lineText mode r else []) new (x .said)
   pub left : reading (x .number) (x .held) (r .line) frame ≡ (if is then ended r else r)
 
 -- what is printed of parts, one after another, and of the line that is held at the end of the input: "the last may lack" its LF
-unfoldable pub partsText : Reading → List (List ℕ) → List ℕ
-partsText r [] = lineText r
-partsText r (s ∷ parts) = partText r s ++ partsText (after r s) parts
+unfoldable pub partsText : Bool → Reading → List (List ℕ) → List ℕ
+partsText mode r [] = lineText mode r
+partsText mode r (s ∷ parts) = partText mode r s ++ partsText mode (after r s) parts
 
 -- what `list` prints of its input, part by part, whatever its buffers hold at first
-unfoldable pub printed : List ℕ → List ℕ → List (List ℕ) → List ℕ
-printed line frame parts = header ++ partsText (reading 1 0 line frame) parts
+unfoldable pub printed : Bool → List ℕ → List ℕ → List (List ℕ) → List ℕ
+printed mode line frame parts = header ++ partsText mode (reading 1 0 line frame) parts
 
 -- the parts one after another
 abbrev pub joined : List (List ℕ) → List ℕ
 joined [] = []
 joined (s ∷ parts) = s ++ joined parts
 
--- however the input is divided into parts, the whole listing of it is printed, by a buffer for more than the longest good line; line numbers need an input of fewer than 2^64 - 1 characters
+-- however the input is divided into parts, the whole listing of it is printed, in either mode, by a buffer for more than the longest good line; line numbers need an input of fewer than 2^64 - 1 characters
 abbrev pub AddsUp : Type 0
-AddsUp = (line frame : List ℕ) (parts : List (List ℕ)) → 32768 < length line → length (joined parts) < largest → printed line frame parts ≡ listing (joined parts)
+AddsUp = (mode : Bool) (line frame : List ℕ) (parts : List (List ℕ)) → 32768 < length line → length (joined parts) < largest → printed mode line frame parts ≡ listing mode (joined parts)

@@ -24,14 +24,21 @@ fn next_number(number: usize) -> usize
 }
 
 // A line that ended is listed, and the next one begins.
-fn end_line(ended: bool, at: Listed, line: &[u8], frame: &mut [u8; FRAME], out: &mut [u8]) -> Listed
+fn end_line(
+    ended: bool,
+    at: Listed,
+    line: &[u8],
+    checked: bool,
+    frame: &mut [u8; FRAME],
+    out: &mut [u8],
+) -> Listed
     requires { ⌜ at .said + length (take (at .held) (now line)) * 239 / 2 ≤ length (now out) ⌝ }
-    ensures { λ r. ⌜ EndsLine ended (reading (at .number) (at .held) (now (line .entry)) (now (frame .entry))) (at .said) (now (out .entry)) (now (out .exit)) (now (frame .exit)) r ⌝ }
+    ensures { λ r. ⌜ EndsLine checked ended (reading (at .number) (at .held) (now (line .entry)) (now (frame .entry))) (at .said) (now (out .entry)) (now (out .exit)) (now (frame .exit)) r ⌝ }
 {
     if ended {
         let held = le::part_of(line, 0, at.held);
         return Listed {
-            said: listing::list_line(held, at.number, frame, out, at.said),
+            said: listing::list_line(held, checked, at.number, frame, out, at.said),
             number: next_number(at.number),
             held: 0,
         };
@@ -43,6 +50,7 @@ fn end_line(ended: bool, at: Listed, line: &[u8], frame: &mut [u8; FRAME], out: 
 // one by what is held of it.
 pub fn list_part(
     s: &[u8],
+    checked: bool,
     number: usize,
     held: usize,
     line: &mut [u8],
@@ -51,7 +59,7 @@ pub fn list_part(
 ) -> Listed
     requires { ⌜ 32768 < length (now line) ⌝ }
     requires { ⌜ (length (now line) + length (now s)) * 239 / 2 ≤ length (now out) ⌝ }
-    ensures { λ r. ⌜ ListsPart (reading number held (now (line .entry)) (now (frame .entry))) (now (s .entry)) (now (out .entry)) (now (out .exit)) (now (line .exit)) (now (frame .exit)) r ⌝ }
+    ensures { λ r. ⌜ ListsPart checked (reading number held (now (line .entry)) (now (frame .entry))) (now (s .entry)) (now (out .entry)) (now (out .exit)) (now (line .exit)) (now (frame .exit)) r ⌝ }
 {
     let mut at = Listed {
         said: 0,
@@ -67,7 +75,7 @@ pub fn list_part(
             number: at.number,
             held: taken.held,
         };
-        at = end_line(taken.ended, now, line, frame, out);
+        at = end_line(taken.ended, now, line, checked, frame, out);
     }
     at
 }
@@ -77,12 +85,13 @@ pub fn list_rest(
     number: usize,
     held: usize,
     line: &[u8],
+    checked: bool,
     frame: &mut [u8; FRAME],
     out: &mut [u8],
 ) -> usize
     requires { ⌜ 32768 < length (now line) ⌝ }
     requires { ⌜ length (now line) * 239 / 2 ≤ length (now out) ⌝ }
-    ensures { λ r. ⌜ ListsLine number (take held (now (line .entry))) (now (frame .entry)) (now (frame .exit)) (now (out .entry)) 0 (now (out .exit)) r ⌝ }
+    ensures { λ r. ⌜ ListsLine checked number (take held (now (line .entry))) (now (frame .entry)) (now (frame .exit)) (now (out .entry)) 0 (now (out .exit)) r ⌝ }
 {
-    listing::list_line(le::part_of(line, 0, held), number, frame, out, 0)
+    listing::list_line(le::part_of(line, 0, held), checked, number, frame, out, 0)
 }

@@ -3,14 +3,15 @@ use Prim.Native.Nat.{ℕ, zero, suc, _+_, _-_, _≤_}
 use native.Mathlib.Omega.{arith}
 use native.Mathlib.Nat.{add-zero, zero-add}
 use mathlib.Core.Path.{_≡_, refl, sym, ap, ap₂, _∙_}
-use mathlib.Core.Bool.{Bool, true, false}
+use mathlib.Core.Bool.{true}
 use mathlib.Core.List.{List, [], _∷_, _++_, append-assoc}
 use lib.ListN.{length, getD, drop, length-append}
 use lib.Seq.{take-append-seam, getD-at}
 use borrow.Author.Tests.{le-ltb, lt-ltb, ltb-false}
-use Rattle.le.specs.Le.{if_then_else_, part, zeroAt}
+use Rattle.le.specs.Le.{part, zeroAt}
 use Rattle.le.proofs.Inside.{getD-inside, part-whole}
-use Rattle.le.proofs.Laws.{length-part, drop-part}
+use Rattle.le.proofs.Laws.{length-part, drop-part, zero-is}
+use Rattle.le.proofs.Tests.{both}
 use Rattle.refusal.specs.Refusal.{limit}
 use Rattle.refusal.specs.declared.Refusal.the-variants.{TooShort}
 use Rattle.refusal.specs.Asked.{Given}
@@ -18,7 +19,10 @@ use Rattle.refusal.specs.Writing.{Next}
 use Rattle.refusal.proofs.Laws.{good-if, passed}
 use Rattle.attr.specs.declared.AdsAttribute.{AdsAttribute}
 use Rattle.attr.specs.declared.AttributeAnswer.the-variants.{Record, Refused}
-use Rattle.attr.specs.Attribute.{attributeAt, attributeRead}
+use Rattle.refusal.specs.declared.Checked.the-variants.{Passed}
+use Rattle.refusal.specs.Ends.{endsMet}
+use Rattle.refusal.proofs.Ends.{pass-in}
+use Rattle.attr.specs.Attribute.{attributeAt, endsOf, attributeRead}
 use Rattle.attr.specs.Writing.{attributeBytes, attributeWriting, endsZero, goodAttribute, attributesChecked}
 use Rattle.attr.specs.Told.{Attribute, attributeOf, attributesIn, attributesBlock}
 use Rattle.attr.proofs.Laws.{length-attribute, good-by, writes}
@@ -98,6 +102,10 @@ module _ (name value : List ℕ) where
         let j : length p + (length name + 3) + length value ≡ length p + (length name + 3 + length value) = omega arith in
         simp (i, j, n, v)
 
+    met : endsMet big (endsOf info) ≡ Passed
+    unfolding endsMet endsZero
+    met = let z = both _ _ ends in simp (zero-is big (info .name + info .«name_len») (z .0), zero-is big (info .value + info .«value_len») (z .1))
+
 -- an attribute fits wherever it stands: its length fields hold any length of a list
 abbrev Any : ℕ → Attribute → Type 0
 Any left a = Unit {0}
@@ -126,10 +134,6 @@ past : (s : List ℕ) (at left : ℕ) → length s ≤ at → attributesIn s at 
 unfolding attributesIn
 past s at zero h = refl
 past s at (suc left) h = simp (none-left s at h)
-
-both : (a b : Bool) → (if a then b else false) ≡ true → (a ≡ true) × (b ≡ true)
-both true b h = (refl, h)
-both false b h = absurd (let z : _≡_ {A = ℕ} 0 1 = cc in omega arith)
 
 -- the bytes from a place on, where two lengths, a string, an end byte, a string and an end byte stand
 module _ (s : List ℕ) (at : ℕ) (fits : at + (getD s at 0 + getD s (at + 1) 0 + 4) ≤ length s) where
@@ -188,11 +192,11 @@ same-block (a ∷ xs) = ap (λ (l : List ℕ). bytesOf a ++ l) (same-block xs)
 
 pub attributes-read-back : AttributesReadBack
 unfolding attributeRead attributeWriting
-attributes-read-back a = record {
+attributes-read-back mode a = record {
   written = λ f. writes (a .name) (a .value) (f .name) (f .value);
   only = λ bs h. let x = passed _ _ _ bs h in let y = passed _ _ _ bs (x .1) in (record { name = ltb-false _ _ (x .0); value = ltb-false _ _ (y .0) }, cc (y .1));
-  tells = λ f rest h. simp (le-ltb limit (length (bytesOf a ++ rest)) h, reads (a .name) (a .value) [] rest) (ap Given (tells (a .name) (a .value) [] rest));
-  takes = λ f rest h. simp (le-ltb limit (length (bytesOf a ++ rest)) h, reads (a .name) (a .value) [] rest) (moves (a .name) (a .value) [] rest ∙ zero-add (length (bytesOf a)));
+  tells = λ f rest h. simp (le-ltb limit (length (bytesOf a ++ rest)) h, reads (a .name) (a .value) [] rest, pass-in mode (bytesOf a ++ rest) (endsOf (info (a .name) (a .value) [] rest)) (met (a .name) (a .value) [] rest)) (ap Given (tells (a .name) (a .value) [] rest));
+  takes = λ f rest h. simp (le-ltb limit (length (bytesOf a ++ rest)) h, reads (a .name) (a .value) [] rest, pass-in mode (bytesOf a ++ rest) (endsOf (info (a .name) (a .value) [] rest)) (met (a .name) (a .value) [] rest)) (moves (a .name) (a .value) [] rest ∙ zero-add (length (bytesOf a)));
 }
 
 pub attribute-blocks : AttributeBlocks

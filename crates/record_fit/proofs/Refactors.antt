@@ -9,20 +9,22 @@ use lib.Bits.{bitAnd, and-le-r}
 use lib.Dec.{ltb, eqb}
 use lib.ListN.{length, getD, drop, length-append}
 use lib.Seq.{take-append-seam, getD-at}
-use borrow.Author.Tests.{le-ltb, lt-ltb, ltb-false, eq-eqb, eqb-true, ne-eqb}
+use borrow.Author.Tests.{le-ltb, lt-ltb, ltb-false, eq-eqb, ne-eqb}
 use Rattle.le.specs.Le.{if_then_else_, le2, le4, bytes2, bytes4, has, part, zeroAt}
 use Rattle.le.proofs.Inside.{getD-inside, le4-inside}
-use Rattle.le.proofs.Laws.{le4-bytes4, length-part, drop-part}
+use Rattle.le.proofs.Laws.{le4-bytes4, length-part, drop-part, zero-is}
 use Rattle.refusal.specs.Refusal.{limit}
 use Rattle.refusal.specs.Asked.{Given}
 use Rattle.refusal.specs.Writing.{Next, None, goodFrom, exactly}
 use Rattle.refusal.specs.declared.Refusal.the-variants.{BadBlock}
 use Rattle.refusal.specs.declared.Counted.{Counted}
 use Rattle.refusal.specs.declared.Checked.the-variants as checked
-use Rattle.refusal.proofs.Laws.{good-if, passed}
+use Rattle.refusal.proofs.Laws.{passed}
 use Rattle.refactor.specs.declared.AdsRefactorInfo.{AdsRefactorInfo}
 use Rattle.refactor.specs.declared.RefactorAnswer.the-variants.{Record}
-use Rattle.refactor.specs.Refactor.{mask, follower, refactorOf, refactorAt, refactorRead}
+use Rattle.refusal.specs.Ends.{endsMet}
+use Rattle.refusal.proofs.Ends.{pass-in}
+use Rattle.refactor.specs.Refactor.{mask, follower, refactorOf, refactorAt, endOf, refactorRead}
 use Rattle.refactor.specs.Writing.{packedOf, refactorBytes, refactorWriting, goodRecord, goodRefactor, refactorsChecked}
 use Rattle.refactor.specs.Told.{Renaming, renamingOf, renamingsIn, Former, chainBlock}
 use Rattle.refactor.proofs.Laws.{length-refactor, none-left, good-by, writes}
@@ -82,6 +84,14 @@ module _ (packed : ℕ) (name : List ℕ) (within : bitAnd packed mask ≡ packe
 
     moves : info .next ≡ length p + length bytes
     moves = ap (λ (x : ℕ). length p + x) (zero-add (length name + 7) ∙ sym (length-refactor packed name))
+
+    met : endsMet big (endOf info ∷ []) ≡ checked.Passed
+    unfolding endsMet
+    met =
+        let l = length-refactor packed name in
+        let z = getD-inside p bytes q (6 + length name) 0 (omega arith) ∙ zero-is bytes (6 + length name) (ap (λ (x : ℕ). eqb x 0) name-ends) in
+        let i : length p + 6 + length name ≡ length p + (6 + length name) = omega arith in
+        simp (i, z)
 
     -- good exactly where it tells rightly whether another follows
     good-is : (follows : Bool) → goodRecord big (le4 big (length p)) info follows ≡ Bool·beq (has packed follower) follows
@@ -147,14 +157,6 @@ byte [] none k = omega arith
 byte (b ∷ s) (more h hs) zero = h
 byte (b ∷ s) (more h hs) (suc k) = byte s hs k
 
--- what a good record has passed
-module _ (s : List ℕ) (packed : ℕ) (r : AdsRefactorInfo) (follows : Bool) where
-  three : (a b : Bool) → eqb packed (r .«refactor_count») ≡ a → Bool·beq (r .«next_refactor_info») follows ≡ b → goodRecord s packed r follows ≡ true → (packed ≡ r .«refactor_count») × (zeroAt s (r .name + r .«name_len») ≡ true)
-  unfolding goodRecord
-  three true true p q h = (eqb-true _ _ p, simp (p, q) at h)
-  three true false p q h = absurd (let z : false ≡ true = simp (p, q) at h in let y : _≡_ {A = ℕ} 0 1 = cc in omega arith)
-  three false b p q h = absurd (let z : false ≡ true = simp p at h in let y : _≡_ {A = ℕ} 0 1 = cc in omega arith)
-
 -- the bytes from a place on, where a packed count, a length, a string and an end byte stand
 module _ (s : List ℕ) (at : ℕ) (bs : Each Byte s) (fits : at + (le2 s (at + 4) + 7) ≤ length s) where
   abbrev nl : ℕ
@@ -209,8 +211,7 @@ unfolding renamingsIn
 found s bs at left n h =
     let r = good-record s at left n h in
     let i = inside s at (r .info) (r .reads) in
-    let e = good-if (goodRecord s (le4 s at) (r .info) (ltb 0 left)) (sym (good-by s at left (r .reads)) ∙ h) .0 in
-    let t = three s (le4 s at) (r .info) (ltb 0 left) (eqb (le4 s at) (r .info .«refactor_count»)) (Bool·beq (r .info .«next_refactor_info») (ltb 0 left)) refl refl e in
+    let t = r .good .packed-is in
     let c : r .info .«refactor_count» ≡ bitAnd (le4 s at) mask = ap (λ x. x .«refactor_count») (i .is) in
     let f : r .info .«next_refactor_info» ≡ has (le4 s at) follower = ap (λ x. x .«next_refactor_info») (i .is) in
     let l : r .info .«name_len» ≡ le2 s (at + 4) = ap (λ x. x .«name_len») (i .is) in
@@ -220,14 +221,14 @@ found s bs at left n h =
       record-is = renamingOf s (r .info);
       fits = record {
         sound = record {
-          within = rw (← t .0) (sym (t .0 ∙ c));
+          within = rw (← t) (sym (t ∙ c));
           short = rw (p, l) (short-name s at bs (i .fits));
-          bit = rw (← t .0) (sym f);
+          bit = rw (← t) (sym f);
         };
-        rightly = r .follows;
+        rightly = r .good .rightly;
       };
       tells = simp (r .reads, r .moves);
-      is = rw (← t .0, p, l, ← m) (laid s at bs (i .fits) (rw (p, l) at (t .1)));
+      is = rw (← t, p, l, ← m) (laid s at bs (i .fits) (rw (p, l) at (r .good .zero-end)));
     }
 
 -- the records of a chain, as they are written, are such records, and their bytes are the chain's
@@ -287,15 +288,15 @@ not-empty (f ∷ rest) e = omega arith
 
 pub refactors-read-back : RefactorsReadBack
 unfolding refactorRead refactorWriting
-refactors-read-back f hasNext =
+refactors-read-back mode f hasNext =
     let k = packedOf (f .count) hasNext in
     let w = within-mask (f .count) hasNext in
     record {
       written = λ h. writes (f .count) hasNext (f .name) (h .name);
       only = λ bs h. let x = passed _ _ _ bs h in (record { name = ltb-false _ _ (x .0) }, cc (x .1));
-      tells = λ h rest l. simp (le-ltb limit (length (refactorBytes k (f .name) ++ rest)) l, reads k (f .name) w (h .name) [] rest)
+      tells = λ h rest l. simp (le-ltb limit (length (refactorBytes k (f .name) ++ rest)) l, reads k (f .name) w (h .name) [] rest, pass-in mode (refactorBytes k (f .name) ++ rest) (endOf (info k (f .name) w (h .name) [] rest) ∷ []) (met k (f .name) w (h .name) [] rest))
           (ap Given (tells k (f .name) w (h .name) [] rest ∙ ap (λ (b : Bool). record { count = k; follows = b; name = f .name }) (told-follower (f .count) hasNext)));
-      takes = λ h rest l. simp (le-ltb limit (length (refactorBytes k (f .name) ++ rest)) l, reads k (f .name) w (h .name) [] rest)
+      takes = λ h rest l. simp (le-ltb limit (length (refactorBytes k (f .name) ++ rest)) l, reads k (f .name) w (h .name) [] rest, pass-in mode (refactorBytes k (f .name) ++ rest) (endOf (info k (f .name) w (h .name) [] rest) ∷ []) (met k (f .name) w (h .name) [] rest))
           (moves k (f .name) w (h .name) [] rest ∙ zero-add (length (refactorBytes k (f .name))));
     }
 

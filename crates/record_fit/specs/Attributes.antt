@@ -1,6 +1,7 @@
--- Attributes: what their writer writes is read back, makes good blocks, and nothing else does.
+-- Attributes: what their writer writes is read back in whatever mode, makes good blocks, and nothing else does.
 use Prim.Native.Nat.{ℕ, _≤_}
 use mathlib.Core.Path.{_≡_}
+use mathlib.Core.Bool.{Bool}
 use mathlib.Core.List.{List}
 use lib.ListN.{length}
 use Rattle.refusal.specs.declared.Checked.the-variants.{Passed}
@@ -20,8 +21,8 @@ abbrev pub nextOf : AttributeAnswer → ℕ
 nextOf t = byAttribute t (λ a. a .next) (λ why. 0)
 
 abbrev pub AttributesReadBack : Type 0
-AttributesReadBack = (a : Attribute)
-    → ReadBack attributeRead attributeTold nextOf (Fits a) (attributeWriting (a .name) (a .value)) (attributeBytes (a .name) (a .value)) a
+AttributesReadBack = (mode : Bool) (a : Attribute)
+    → ReadBack (attributeRead mode) attributeTold nextOf (Fits a) (attributeWriting (a .name) (a .value)) (attributeBytes (a .name) (a .value)) a
 
 -- attributes one after another are a good block of their count, and the block tells them
 pub record Block (xs : List Attribute) : Type 0 where

@@ -1,4 +1,4 @@
--- Refactor records: what their writer writes is read back, makes good blocks, and nothing else does; and the chain behind a count is read back.
+-- Refactor records: what their writer writes is read back in whatever mode, makes good blocks, and nothing else does; and the chain behind a count is read back.
 use Prim.Native.Nat.{ℕ, _-_, _<_, _≤_}
 use mathlib.Core.Path.{_≡_}
 use mathlib.Core.Bool.{Bool, true, false}
@@ -30,8 +30,8 @@ abbrev pub written : Former → Bool → Renaming
 written f hasNext = record { count = packedOf (f .count) hasNext; follows = if hasNext then true else has (f .count) follower; name = f .name }
 
 abbrev pub RefactorsReadBack : Type 0
-RefactorsReadBack = (f : Former) (hasNext : Bool)
-    → ReadBack refactorRead renamingTold nextOf (Fits f) (refactorWriting (f .count) hasNext (f .name)) (refactorBytes (packedOf (f .count) hasNext) (f .name)) (written f hasNext)
+RefactorsReadBack = (mode : Bool) (f : Former) (hasNext : Bool)
+    → ReadBack (refactorRead mode) renamingTold nextOf (Fits f) (refactorWriting (f .count) hasNext (f .name)) (refactorBytes (packedOf (f .count) hasNext) (f .name)) (written f hasNext)
 
 -- the records of a chain as they are written: each but the last with a follower
 unfoldable pub chainWritten : List Former → List Renaming
@@ -68,11 +68,11 @@ abbrev pub RefactorBlocksMade : Type 0
 RefactorBlocksMade = (count : ℕ) (block : List ℕ) → Each Byte block → refactorsChecked count block ≡ checked.Passed → Made renamingsIn chainBlock formers count block
 
 -- what is written behind a count is a chain of that count to its end; asked for by number its records are those of the block, and past the count it is 14
-pub record Back (count : ℕ) (block bs : List ℕ) : Type 0 where
+pub record Back (mode : Bool) (count : ℕ) (block bs : List ℕ) : Type 0 where
   pub front : le2 bs 0 ≡ count
-  pub chain : chainRead (drop 2 bs) ≡ Whole (record { count = count; next = length block })
-  pub records : asks (λ k. renamingTold (drop 2 bs) (chainNth (drop 2 bs) k)) count ≡ map Given (renamingsIn block 0 count)
-  pub past : (k : ℕ) → count ≤ k → chainNth (drop 2 bs) k ≡ Refused (NoSuchNumber count k)
+  pub chain : chainRead mode (drop 2 bs) ≡ Whole (record { count = count; next = length block })
+  pub records : asks (λ k. renamingTold (drop 2 bs) (chainNth mode (drop 2 bs) k)) count ≡ map Given (renamingsIn block 0 count)
+  pub past : (k : ℕ) → count ≤ k → chainNth mode (drop 2 bs) k ≡ Refused (NoSuchNumber count k)
 
 abbrev pub EntriesReadBack : Type 0
-EntriesReadBack = (count : ℕ) (block bs : List ℕ) → 0 < count → blockWriting count block ≡ Bytes bs → Back count block bs
+EntriesReadBack = (mode : Bool) (count : ℕ) (block bs : List ℕ) → 0 < count → blockWriting count block ≡ Bytes bs → Back mode count block bs

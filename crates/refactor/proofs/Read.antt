@@ -7,8 +7,9 @@ use mathlib.Core.Bool.{Bool, true, false, Bool·beq}
 use mathlib.Core.List.{List, _++_}
 use lib.Dec.{ltb, eqb}
 use lib.ListN.{length, length-append}
-use borrow.Author.Tests.{le-ltb, lt-ltb, ltb-false}
-use Rattle.le.specs.Le.{if_then_else_, le2, le4, part}
+use borrow.Author.Tests.{le-ltb, lt-ltb, ltb-false, eqb-true}
+use Rattle.le.specs.Le.{if_then_else_, le2, le4, part, zeroAt}
+use Rattle.le.proofs.Tests.{both}
 use Rattle.le.proofs.Inside.{le2-inside, le4-inside, part-inside}
 use Rattle.refusal.specs.Writing.{Good, Next, None, counted, goodFrom}
 use Rattle.refusal.proofs.Laws.{good-first, good-if}
@@ -18,7 +19,7 @@ use Rattle.refactor.specs.declared.RefactorAnswer.the-variants.{Record, 
 use Rattle.refactor.specs.declared.Chain.{Chain}
 use Rattle.refactor.specs.declared.ChainAnswer.{ChainAnswer}
 use Rattle.refactor.specs.declared.ChainAnswer.the-variants as chain
-use Rattle.refactor.specs.Refactor.{refactorAt, byRefactor, chainFrom, chainAt, chainSection}
+use Rattle.refactor.specs.Refactor.{refactorAt, byRefactor, endOf, chainFrom, chainAt, chainSection}
 use Rattle.refactor.specs.Writing.{goodRecord, goodRefactor}
 use Rattle.refactor.proofs.Laws.{chain-step}
 pub use Rattle.refactor.proofs.Laws.{Inside, inside}
@@ -59,23 +60,29 @@ beq true false h = sym h
 beq false true h = h
 beq false false h = refl
 
--- a good record is one that is read, and tells rightly whether another follows
-good-is : (s : List ℕ) (packed : ℕ) (r : AdsRefactorInfo) (follows a b : Bool) → eqb packed (r .«refactor_count») ≡ a → Bool·beq (r .«next_refactor_info») follows ≡ b → goodRecord s packed r follows ≡ true → r .«next_refactor_info» ≡ follows
+-- a good record is one that is read, whose count has no bit outside the mask, which tells rightly whether another follows and has end byte 0
+pub record Passes (s : List ℕ) (packed : ℕ) (r : AdsRefactorInfo) (follows : Bool) : Type 0 where
+  pub packed-is : packed ≡ r .«refactor_count»
+  pub rightly : r .«next_refactor_info» ≡ follows
+  pub zero-end : zeroAt s (endOf r) ≡ true
+
+good-is : (s : List ℕ) (packed : ℕ) (r : AdsRefactorInfo) (follows : Bool) → goodRecord s packed r follows ≡ true → Passes s packed r follows
 unfolding goodRecord
-good-is s packed r follows true true p q h = beq _ _ q
-good-is s packed r follows true false p q h = absurd (let z : false ≡ true = simp (p, q) at h in let y : _≡_ {A = ℕ} 0 1 = cc in omega arith)
-good-is s packed r follows false b p q h = absurd (let z : false ≡ true = simp p at h in let y : _≡_ {A = ℕ} 0 1 = cc in omega arith)
+good-is s packed r follows h =
+    let x = both (eqb packed (r .«refactor_count»)) _ h in
+    let y = both (Bool·beq (r .«next_refactor_info») follows) _ (x .1) in
+    record { packed-is = eqb-true _ _ (x .0); rightly = beq _ _ (y .0); zero-end = y .1 }
 
 pub record Read (s : List ℕ) (k left n : ℕ) : Type 0 where
   pub info : AdsRefactorInfo
   pub reads : refactorAt s k ≡ Record info
   pub moves : info .next ≡ n
-  pub follows : info .«next_refactor_info» ≡ ltb 0 left
+  pub good : Passes s (le4 s k) info (ltb 0 left)
 
 by-record : (s : List ℕ) (k left n : ℕ) (t : RefactorAnswer) → refactorAt s k ≡ t → byRefactor t (λ r. if goodRecord s (le4 s k) r (ltb 0 left) then Next (r .next) else None) (λ why. None) ≡ Next n → Read s k left n
 by-record s k left n (Record r) e h =
     let g = good-if (goodRecord s (le4 s k) r (ltb 0 left)) h in
-    record { info = r; reads = e; moves = g .1; follows = good-is s (le4 s k) r (ltb 0 left) (eqb (le4 s k) (r .«refactor_count»)) (Bool·beq (r .«next_refactor_info») (ltb 0 left)) refl refl (g .0) }
+    record { info = r; reads = e; moves = g .1; good = good-is s (le4 s k) r (ltb 0 left) (g .0) }
 by-record s k left n (Refused why) e h = absurd (let z : _≡_ {A = ℕ} 0 1 = cc in omega arith)
 
 pub good-record : (s : List ℕ) (k left n : ℕ) → goodRefactor s k left ≡ Next n → Read s k left n
@@ -98,14 +105,14 @@ module _ (p b q : List ℕ) where
       let i = refactor-inside p b q k (r .info) (r .reads) in
       let n : r .info .next ≡ m = r .moves ∙ ended (goodRefactor b) (f .0) (g + 1) m (f .1 .1) in
       let s : g + 1 ≡ g + suc zero = omega arith in
-      chain-step (big p b q) (length p + k) g i ∙ simp (r .follows) (ap₂ whole s (ap (λ (x : ℕ). length p + x) n))
+      chain-step (big p b q) (length p + k) g i ∙ simp (r .good .rightly) (ap₂ whole s (ap (λ (x : ℕ). length p + x) n))
   chain-read k g (suc left) m e =
       let f = good-first (goodRefactor b) k g (suc left) m e in
       let r = good-record b k (suc left) (f .0) (f .1 .0) in
       let i = refactor-inside p b q k (r .info) (r .reads) in
       let ih = chain-read (r .info .next) (g + 1) left m (rw (r .moves) (f .1 .1)) in
       let s : g + 1 + suc left ≡ g + suc (suc left) = omega arith in
-      chain-step (big p b q) (length p + k) g i ∙ simp (r .follows, lt-ltb 0 (suc left) (omega arith)) (ih ∙ ap (λ (c : ℕ). whole c (length p + m)) s)
+      chain-step (big p b q) (length p + k) g i ∙ simp (r .good .rightly, lt-ltb 0 (suc left) (omega arith)) (ih ∙ ap (λ (c : ℕ). whole c (length p + m)) s)
 
 abbrev chainTo : ℕ → ℕ → Chain
 chainTo count next = record { count = count; next = next }

@@ -4,7 +4,7 @@ use native.Mathlib.Omega.{arith}
 use native.Mathlib.Nat.{zero-add}
 use mathlib.Core.Path.{_≡_, refl, sym, ap, subst, _∙_}
 use mathlib.Core.Bool.{Bool, true, false}
-use mathlib.Core.List.{List}
+use mathlib.Core.List.{List, [], _∷_}
 use lib.Dec.{ltb}
 use lib.ListN.{length}
 use Rattle.le.specs.Le.{if_then_else_, le2}
@@ -12,13 +12,15 @@ use Rattle.le.proofs.Tests.{by-test, each-below}
 use Rattle.refusal.specs.Refusal.{limit}
 use Rattle.refusal.specs.declared.Refusal.{Refusal}
 use Rattle.refusal.specs.declared.Refusal.the-variants.{NoSuchNumber}
+use Rattle.refusal.specs.Ends.{endsIn}
+use Rattle.refusal.proofs.Ends.{by-checked}
 use Rattle.refactor.specs.declared.AdsRefactorInfo.{AdsRefactorInfo}
 use Rattle.refactor.specs.declared.RefactorAnswer.{RefactorAnswer}
 use Rattle.refactor.specs.declared.RefactorAnswer.the-variants.{Record, Refused}
 use Rattle.refactor.specs.declared.Chain.{Chain}
 use Rattle.refactor.specs.declared.ChainAnswer.{ChainAnswer}
 use Rattle.refactor.specs.declared.ChainAnswer.the-variants as chain
-use Rattle.refactor.specs.Refactor.{refactorAt, refactorRead, nameAt, byRefactor, chainFrom, chainAt, chainRead, byChain, keptChain, chainSection, refactorNth, chainNth}
+use Rattle.refactor.specs.Refactor.{refactorAt, endOf, refactorRead, nameAt, byRefactor, chainFrom, chainAt, chainRead, byChain, keptChain, chainSection, refactorNth, chainNth}
 use Rattle.refactor.specs.Inside.{Inside}
 use Rattle.refactor.proofs.Laws.{chainBy, record-inside}
 use Rattle.refactor.proofs.Read as read
@@ -84,18 +86,22 @@ begun : (s : List ℕ) (at : ℕ) (t : RefactorAnswer) → refactorAt s at ≡ t
 begun s at (Record r) e = let i = lies s at r e in subst (Begun s) (sym (i .is) ∙ e) (omega (arith, i .name, i .whole))
 begun s at (Refused why) e = omega arith
 
-pub read-begun : (s : List ℕ) → Begun s (refactorRead s)
-unfolding refactorRead
-read-begun s = by-test (Begun s) (ltb limit (length s)) (omega arith) (begun s 0 (refactorAt s 0) refl)
+-- of an answer that goes on from the record at a place
+goes-on : (s : List ℕ) (t : RefactorAnswer) (on : AdsRefactorInfo → RefactorAnswer) → ((r : AdsRefactorInfo) → t ≡ Record r → Begun s (on r)) → Begun s (byRefactor t on Refused)
+goes-on s (Record r) on h = h r refl
+goes-on s (Refused why) on h = omega arith
 
-next-begun : (s : List ℕ) (k : ℕ) → ((n : ℕ) → Begun s (refactorNth s n k)) → (t : RefactorAnswer) → Begun s (byRefactor t (λ r. refactorNth s (r .next) k) Refused)
-next-begun s k rest (Record r) = rest (r .next)
-next-begun s k rest (Refused why) = omega arith
+-- of one that is read alone, in whatever mode
+pub read-begun : (mode : Bool) (s : List ℕ) → Begun s (refactorRead mode s)
+unfolding refactorRead
+read-begun mode s =
+    by-test (Begun s) (ltb limit (length s)) (omega arith)
+    (goes-on s (refactorAt s 0) _ (λ r e. by-checked (Begun s) (endsIn mode s (endOf r ∷ [])) (begun s 0 (Record r) e) (λ why. omega arith)))
 
 nth-begun : (s : List ℕ) (k at : ℕ) → Begun s (refactorNth s at k)
 unfolding refactorNth
 nth-begun s zero at = begun s at (refactorAt s at) refl
-nth-begun s (suc k) at = next-begun s k (nth-begun s k) (refactorAt s at)
+nth-begun s (suc k) at = goes-on s (refactorAt s at) (λ r. refactorNth s (r .next) k) (λ r e. nth-begun s k (r .next))
 
 -- of a record that is asked for by its number
 pub asked-begun : (s : List ℕ) (at k : ℕ) (why : Refusal) (shown : Bool) → Begun s (if shown then refactorNth s at k else Refused why)
@@ -106,6 +112,6 @@ chained s k (chain.Whole c) = asked-begun s 0 k (NoSuchNumber (c .count) k) (ltb
 chained s k (chain.Refused why) = omega arith
 
 -- of a record of a chain that stands alone
-pub chain-begun : (s : List ℕ) (k : ℕ) → nameAt (chainNth s k) ≤ length s
+pub chain-begun : (mode : Bool) (s : List ℕ) (k : ℕ) → nameAt (chainNth mode s k) ≤ length s
 unfolding chainNth
-chain-begun s k = chained s k (chainRead s)
+chain-begun mode s k = chained s k (chainRead mode s)

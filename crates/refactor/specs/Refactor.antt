@@ -1,12 +1,13 @@
 -- 01, "Refactor record": packed 4, name length 2, name, end byte. A chain is records up to the first without a follower.
 use Prim.Native.Nat.{ℕ, zero, suc, _+_, _-_}
 use mathlib.Core.Bool.{Bool}
-use mathlib.Core.List.{List, []}
+use mathlib.Core.List.{List, [], _∷_}
 use lib.Bits.{bitAnd}
 use lib.Dec.{ltb}
 use lib.ListN.{length}
 use Rattle.le.specs.Le.{if_then_else_, le2, le4, has, part}
 use Rattle.refusal.specs.Refusal.{limit}
+use Rattle.refusal.specs.Ends.{endsIn, byChecked}
 use Rattle.refusal.specs.declared.Refusal.{Refusal}
 use Rattle.refusal.specs.declared.Refusal.the-variants.{TooShort, TooLarge, NoSuchNumber}
 use Rattle.refactor.specs.declared.AdsRefactorInfo.{AdsRefactorInfo}
@@ -34,10 +35,6 @@ refactorAt s at =
     else if ltb (length s - at) (le2 s (at + 4) + 7) then Refused (TooShort (le2 s (at + 4) + 7) (length s - at))
     else Record (refactorOf at (le4 s at) (le2 s (at + 4)))
 
--- a record read alone, which may be followed by other bytes
-unfoldable pub refactorRead : List ℕ → RefactorAnswer
-refactorRead s = if ltb limit (length s) then Refused (TooLarge (length s)) else refactorAt s 0
-
 -- the bytes that the length places, none where it was refused or has no name
 abbrev pub nameIn : List ℕ → RefactorAnswer → List ℕ
 nameIn s (Record r) = part s (r .name) (r .«name_len»)
@@ -52,6 +49,16 @@ abbrev pub byRefactor : {A : Type 0} → RefactorAnswer → (AdsRefactorInfo →
 byRefactor (Record r) on stop = on r
 byRefactor (Refused why) on stop = stop why
 
+-- W-212: the place of a record's end byte
+abbrev pub endOf : AdsRefactorInfo → ℕ
+endOf r = r .name + r .«name_len»
+
+-- a record read alone in a mode, which may be followed by other bytes: its end byte after its lengths
+unfoldable pub refactorRead : Bool → List ℕ → RefactorAnswer
+refactorRead mode s =
+    if ltb limit (length s) then Refused (TooLarge (length s))
+    else byRefactor (refactorAt s 0) (λ r. byChecked (endsIn mode s (endOf r ∷ [])) (Record r) Refused) Refused
+
 -- the chain from a place on, after so many records; each takes at least a byte of those that are left
 unfoldable pub chainFrom : List ℕ → ℕ → ℕ → ℕ → ChainAnswer
 chainFrom s at count zero = chain.Refused (TooShort 7 0)
@@ -63,9 +70,22 @@ chainFrom s at count (suc left) =
 unfoldable pub chainAt : List ℕ → ℕ → ChainAnswer
 chainAt s at = chainFrom s at 0 (length s - at)
 
--- a chain read alone, which may be followed by other bytes
-unfoldable pub chainRead : List ℕ → ChainAnswer
-chainRead s = if ltb limit (length s) then chain.Refused (TooLarge (length s)) else chainAt s 0
+-- the places of the end bytes of its records, up to one that is refused, in the order in which they are met; each takes at least a byte of those that are left
+unfoldable pub chainEndsFrom : List ℕ → ℕ → ℕ → List ℕ
+chainEndsFrom s at zero = []
+chainEndsFrom s at (suc left) =
+    byRefactor (refactorAt s at)
+    (λ r. endOf r ∷ (if r .«next_refactor_info» then chainEndsFrom s (r .next) left else []))
+    (λ why. [])
+
+unfoldable pub chainEnds : List ℕ → ℕ → List ℕ
+chainEnds s at = chainEndsFrom s at (length s - at)
+
+-- a chain read alone in a mode, which may be followed by other bytes: an end byte is met before a later record that is refused
+unfoldable pub chainRead : Bool → List ℕ → ChainAnswer
+chainRead mode s =
+    if ltb limit (length s) then chain.Refused (TooLarge (length s))
+    else byChecked (endsIn mode s (chainEnds s 0)) (chainAt s 0) chain.Refused
 
 -- a refused chain is dropped whole and moves nothing
 abbrev pub keptChain : ChainAnswer → ℕ → Chain
@@ -90,8 +110,8 @@ byChain (chain.Whole c) on stop = on c
 byChain (chain.Refused why) on stop = stop why
 
 -- the record of a chain with a number: the reading refusals, then 14
-unfoldable pub chainNth : List ℕ → ℕ → RefactorAnswer
-chainNth s number =
-    byChain (chainRead s)
+unfoldable pub chainNth : Bool → List ℕ → ℕ → RefactorAnswer
+chainNth mode s number =
+    byChain (chainRead mode s)
     (λ c. if ltb number (c .count) then refactorNth s 0 number else Refused (NoSuchNumber (c .count) number))
     Refused

@@ -3,11 +3,13 @@ use refusal::Checked;
 use refusal::Counted;
 use refusal::Refusal;
 ghost use mathlib.Core.Path.{_≡_};
+ghost use mathlib.Core.List.{_∷_, []};
 ghost use Prim.Native.Nat.{_+_};
 ghost use Rattle.le.specs.Place.{Behind, begins};
-ghost use Rattle.refactor.specs.Refactor.{refactorAt, nameIn, nameAt, chainAt, chainSection, keptChain, refactorNth};
+ghost use Rattle.refactor.specs.Refactor.{refactorAt, nameIn, nameAt, chainAt, chainSection, keptChain, refactorNth, endOf, chainEnds};
 ghost use Rattle.refactor.specs.Writing.{goodRecord, goodRefactor, refactorsChecked};
 ghost use Rattle.refusal.specs.Writing.{goodFrom};
+ghost use Rattle.refusal.specs.Ends.{endsMet};
 
 // A record of a slice: its name by place and length, and the place after it.
 pub struct AdsRefactorInfo {
@@ -79,6 +81,40 @@ pub fn name_in(s: &[u8], answer: RefactorAnswer) -> &[u8]
         RefactorAnswer::Record(r) => le::part_of(s, r.name, le::wide(r.name_len)),
         RefactorAnswer::Refused(_) => &s[..0],
     }
+}
+
+// The end byte of a record of these bytes.
+pub fn check_record_end(s: &[u8], r: AdsRefactorInfo) -> Checked
+    ensures { λ b. ⌜ b ≡ endsMet (now (s .entry)) (endOf r ∷ []) ⌝ }
+{
+    refusal::check_end(s, r.name, le::wide(r.name_len))
+}
+
+// The end bytes of the chain from a place on, also of one that is refused at a later record.
+pub fn check_chain_ends(s: &[u8], from: usize) -> Checked
+    ensures { λ r. ⌜ r ≡ endsMet (now (s .entry)) (chainEnds (now (s .entry)) from) ⌝ }
+{
+    let mut at = from;
+    let mut left = le::room(s.len(), from);
+    while 0 < left {
+        left = left - 1;
+        match refactor_at(s, at) {
+            RefactorAnswer::Record(r) => {
+                if let Checked::Refused(why) = check_record_end(s, r) {
+                    return Checked::Refused(why);
+                }
+                at = r.next;
+                if r.next_refactor_info {
+                    continue;
+                }
+                return Checked::Passed;
+            }
+            RefactorAnswer::Refused(_) => {
+                return Checked::Passed;
+            }
+        }
+    }
+    Checked::Passed
 }
 
 // The chain from a place on. Each record takes bytes, so those that are left fall.

@@ -8,25 +8,36 @@ use refusal::Written;
 ghost use mathlib.Core.Path.{_≡_};
 ghost use Prim.Native.Nat.{_+_};
 ghost use Rattle.le.specs.Place.{Behind};
-ghost use Rattle.refactor.specs.Refactor.{refactorRead, nameIn, nameAt, chainRead, chainNth};
+ghost use Rattle.refactor.specs.Refactor.{refactorRead, nameIn, nameAt, chainEnds, chainRead, chainNth};
 ghost use Rattle.refactor.specs.Writing.{packedOf, refactorWriting, blockWriting};
 ghost use Rattle.refusal.specs.Writing.{Writes};
+ghost use Rattle.refusal.specs.Ends.{endsIn};
 
-pub fn try_from_slice(bytes: &[u8]) -> RefactorAnswer
-    ensures { λ r. ⌜ r ≡ refactorRead (now (bytes .entry)) ⌝ }
+pub fn try_from_slice(bytes: &[u8], checked: bool) -> RefactorAnswer
+    ensures { λ r. ⌜ r ≡ refactorRead checked (now (bytes .entry)) ⌝ }
 {
     let length = bytes.len();
     if refusal::LIMIT < length {
         return RefactorAnswer::Refused(Refusal::TooLarge { length });
     }
-    refactor::refactor_at(bytes, 0)
+    match refactor::refactor_at(bytes, 0) {
+        RefactorAnswer::Record(r) => {
+            if checked {
+                if let Checked::Refused(why) = refactor::check_record_end(bytes, r) {
+                    return RefactorAnswer::Refused(why);
+                }
+            }
+            RefactorAnswer::Record(r)
+        }
+        RefactorAnswer::Refused(why) => RefactorAnswer::Refused(why),
+    }
 }
 
-pub fn name(bytes: &[u8]) -> &[u8]
-    ensures { λ r. ⌜ now r ≡ nameIn (now (bytes .entry)) (refactorRead (now (bytes .entry))) ⌝ }
-    ensures { λ r. ⌜ Behind (bytes .entry) r (nameAt (refactorRead (now (bytes .entry)))) ⌝ }
+pub fn name(bytes: &[u8], checked: bool) -> &[u8]
+    ensures { λ r. ⌜ now r ≡ nameIn (now (bytes .entry)) (refactorRead checked (now (bytes .entry))) ⌝ }
+    ensures { λ r. ⌜ Behind (bytes .entry) r (nameAt (refactorRead checked (now (bytes .entry)))) ⌝ }
 {
-    refactor::name_in(bytes, try_from_slice(bytes))
+    refactor::name_in(bytes, try_from_slice(bytes, checked))
 }
 
 pub fn wire_size(r: AdsRefactorInfo) -> usize
@@ -86,21 +97,33 @@ pub fn entries_to_vec(count: usize, block: &[u8], out: &mut [u8]) -> Written
     Written::Done(b)
 }
 
-pub fn parse_chain(bytes: &[u8]) -> ChainAnswer
-    ensures { λ r. ⌜ r ≡ chainRead (now (bytes .entry)) ⌝ }
+pub fn parse_chain(bytes: &[u8], checked: bool) -> ChainAnswer
+    ensures { λ r. ⌜ r ≡ chainRead checked (now (bytes .entry)) ⌝ }
 {
     let length = bytes.len();
     if refusal::LIMIT < length {
         return ChainAnswer::Refused(Refusal::TooLarge { length });
     }
+    if let Checked::Refused(why) = check_chain(bytes, checked) {
+        return ChainAnswer::Refused(why);
+    }
     refactor::chain_from(bytes, 0)
 }
 
-// The record of a chain with a number, counted from 0.
-pub fn chain_record(bytes: &[u8], number: usize) -> RefactorAnswer
-    ensures { λ r. ⌜ r ≡ chainNth (now (bytes .entry)) number ⌝ }
+fn check_chain(bytes: &[u8], checked: bool) -> Checked
+    ensures { λ r. ⌜ r ≡ endsIn checked (now (bytes .entry)) (chainEnds (now (bytes .entry)) 0) ⌝ }
 {
-    match parse_chain(bytes) {
+    if checked {
+        return refactor::check_chain_ends(bytes, 0);
+    }
+    Checked::Passed
+}
+
+// The record of a chain with a number, counted from 0.
+pub fn chain_record(bytes: &[u8], checked: bool, number: usize) -> RefactorAnswer
+    ensures { λ r. ⌜ r ≡ chainNth checked (now (bytes .entry)) number ⌝ }
+{
+    match parse_chain(bytes, checked) {
         ChainAnswer::Whole(chain) => {
             let count = chain.count;
             if number < count {
@@ -115,11 +138,11 @@ pub fn chain_record(bytes: &[u8], number: usize) -> RefactorAnswer
     }
 }
 
-pub fn chain_name(bytes: &[u8], number: usize) -> &[u8]
-    ensures { λ r. ⌜ now r ≡ nameIn (now (bytes .entry)) (chainNth (now (bytes .entry)) number) ⌝ }
-    ensures { λ r. ⌜ Behind (bytes .entry) r (nameAt (chainNth (now (bytes .entry)) number)) ⌝ }
+pub fn chain_name(bytes: &[u8], checked: bool, number: usize) -> &[u8]
+    ensures { λ r. ⌜ now r ≡ nameIn (now (bytes .entry)) (chainNth checked (now (bytes .entry)) number) ⌝ }
+    ensures { λ r. ⌜ Behind (bytes .entry) r (nameAt (chainNth checked (now (bytes .entry)) number)) ⌝ }
 {
-    refactor::name_in(bytes, chain_record(bytes, number))
+    refactor::name_in(bytes, chain_record(bytes, checked, number))
 }
 
 fn packed(count: u32, has_next: bool) -> u32

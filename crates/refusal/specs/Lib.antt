@@ -1,3 +1,5 @@
 pub mod Refusal
 pub mod Writing
 pub mod Asked
+pub mod Ends
+pub mod EndsMeant

@@ -1,4 +1,4 @@
--- 01, "Refusal numbers": the number and the two figures of every refusal.
+-- 01, "Refusal numbers", and 02: the number and the two figures of every refusal.
 use Prim.Native.Nat.{ℕ}
 use Rattle.refusal.specs.declared.Figures.{Figures}
 use Rattle.refusal.specs.declared.Refusal.{Refusal}
@@ -17,6 +17,7 @@ use Rattle.refusal.specs.declared.Refusal.the-variants.{
   BadHexadecimal,
   NameNotFound,
   NoSuchNumber,
+  EndByte,
 }
 
 -- the largest input, and the largest entry that is written, in bytes
@@ -41,3 +42,4 @@ figuresOf (BadText place kind) = numbered 11 place kind
 figuresOf BadHexadecimal = numbered 12 0 0
 figuresOf NameNotFound = numbered 13 0 0
 figuresOf (NoSuchNumber count asked) = numbered 14 count asked
+figuresOf (EndByte place byte) = numbered 16 place byte

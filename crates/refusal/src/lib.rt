@@ -1,10 +1,18 @@
 // The numbered refusals of 01, and what a writer answers. The Rust's error.rs.
 ghost use mathlib.Core.Path.{_≡_};
+ghost use mathlib.Core.List.{_∷_, []};
+ghost use Prim.Native.Nat.{_+_};
 ghost use Rattle.refusal.specs.Refusal.{figuresOf, numbered};
 ghost use Rattle.refusal.specs.Writing.{exactly};
+ghost use Rattle.refusal.specs.Ends.{endsMet};
 
 // The largest input, and the largest entry that is written.
 pub const LIMIT: usize = 16777216;
+
+// The modes of a reader (W-212): whether an end byte that is not 0 refuses. In the present mode none is looked at.
+pub const PRESENT: bool = false;
+
+pub const CHECKED: bool = true;
 
 pub enum Refusal {
     UnexpectedLength { needed: usize, present: usize },
@@ -21,6 +29,7 @@ pub enum Refusal {
     BadHexadecimal,
     NameNotFound,
     NoSuchNumber { count: usize, asked: usize },
+    EndByte { place: usize, byte: u8 },
 }
 
 // A refusal as 01 writes it: its number and its two figures.
@@ -30,7 +39,7 @@ pub struct Figures {
     pub got: usize,
 }
 
-// Whether something is as a writer wants it.
+// Whether something is as it is wanted.
 pub enum Checked {
     Passed,
     Refused(Refusal),
@@ -67,6 +76,7 @@ impl Refusal {
             Refusal::BadHexadecimal => numbered(12, 0, 0),
             Refusal::NameNotFound => numbered(13, 0, 0),
             Refusal::NoSuchNumber { count, asked } => numbered(14, count, asked),
+            Refusal::EndByte { place, byte } => numbered(16, place, byte as usize),
         }
     }
 }
@@ -93,4 +103,34 @@ pub fn check_exact(count: usize, found: Counted, length: usize) -> Checked
         }
     }
     Checked::Refused(Refusal::BadBlock { count, good })
+}
+
+// The end byte so far behind a place, which refuses unless it is 0.
+pub fn check_end(s: &[u8], at: usize, n: usize) -> Checked
+    ensures { λ r. ⌜ r ≡ endsMet (now (s .entry)) ((at + n) ∷ []) ⌝ }
+{
+    if s.len() <= at {
+        return Checked::Passed;
+    }
+    if s.len() - at <= n {
+        return Checked::Passed;
+    }
+    let byte = s[at + n];
+    if byte == 0 {
+        return Checked::Passed;
+    }
+    Checked::Refused(Refusal::EndByte {
+        place: at + n,
+        byte,
+    })
+}
+
+// The same of two strings, by their places and lengths, in this order.
+pub fn check_two_ends(s: &[u8], first: usize, n: usize, second: usize, v: usize) -> Checked
+    ensures { λ r. ⌜ r ≡ endsMet (now (s .entry)) ((first + n) ∷ (second + v) ∷ []) ⌝ }
+{
+    match check_end(s, first, n) {
+        Checked::Passed => check_end(s, second, v),
+        Checked::Refused(why) => Checked::Refused(why),
+    }
 }

@@ -1,6 +1,7 @@
 -- Names are no longer than their entry.
 use Prim.Native.Nat.{ℕ, _+_, _≤_}
 use native.Mathlib.Omega.{arith}
+use mathlib.Core.Bool.{Bool}
 use mathlib.Core.List.{List, []}
 use lib.ListN.{length}
 use Rattle.le.specs.Le.{part}
@@ -16,10 +17,10 @@ by-short : (a : SymbolAnswer) (s : List ℕ) (at n : AdsSymbolInfo → ℕ) → 
 by-short (answer.Record r) s at n = part-short s (at r) (n r)
 by-short (answer.Refused why) s at n = omega arith
 
-pub name-short : (e : List ℕ) → length (symbolName e) ≤ length e
+pub name-short : (mode : Bool) (e : List ℕ) → length (symbolName mode e) ≤ length e
 unfolding symbolName
-name-short e = by-short (symbolRead e .answer) e (λ r. 30) (λ r. r .«name_len»)
+name-short mode e = by-short (symbolRead mode e .answer) e (λ r. 30) (λ r. r .«name_len»)
 
-pub type-short : (e : List ℕ) → length (symbolTypeName e) ≤ length e
+pub type-short : (mode : Bool) (e : List ℕ) → length (symbolTypeName mode e) ≤ length e
 unfolding symbolTypeName
-type-short e = by-short (symbolRead e .answer) e (λ r. 31 + r .«name_len») (λ r. r .«type_name_len»)
+type-short mode e = by-short (symbolRead mode e .answer) e (λ r. 31 + r .«name_len») (λ r. r .«type_name_len»)

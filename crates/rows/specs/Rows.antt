@@ -1,5 +1,6 @@
 -- 01, "Listing": what is printed of an entry and of a refusal, one space between.
 use Prim.Native.Nat.{ℕ}
+use mathlib.Core.Bool.{Bool}
 use mathlib.Core.List.{List, [], _∷_, _++_}
 use Rattle.refusal.specs.Refusal.{figuresOf}
 use Rattle.refusal.specs.declared.Refusal.{Refusal}
@@ -45,10 +46,10 @@ counts r =
     ++ (field (r .attributes .count) space
     ++ field (r .«refactor_infos» .count) space))
 
--- name and type of the entry with these bytes
-unfoldable pub names : List ℕ → List ℕ
-names e = hex (symbolName e) ++ ((space ∷ []) ++ (hex (symbolTypeName e) ++ (space ∷ [])))
+-- name and type of the entry with these bytes, as a reader of the mode shows them
+unfoldable pub names : Bool → List ℕ → List ℕ
+names mode e = hex (symbolName mode e) ++ ((space ∷ []) ++ (hex (symbolTypeName mode e) ++ (space ∷ [])))
 
 -- high stands last (W-205)
-unfoldable pub entryLine : ℕ → ℕ → AdsSymbolInfo → List ℕ → List ℕ
-entryLine number at r e = placed number at ++ (addressed r ++ (counts r ++ (names e ++ field (r .high) lineFeed)))
+unfoldable pub entryLine : Bool → ℕ → ℕ → AdsSymbolInfo → List ℕ → List ℕ
+entryLine mode number at r e = placed number at ++ (addressed r ++ (counts r ++ (names mode e ++ field (r .high) lineFeed)))

@@ -53,13 +53,13 @@ fn put_counts(out: &mut [u8], at: usize, info: AdsSymbolInfo) -> usize
     digits::put_field(out, t, refactor_infos.count, b' ')
 }
 
-fn put_names(out: &mut [u8], at: usize, e: &[u8]) -> usize
+fn put_names(out: &mut [u8], at: usize, e: &[u8], checked: bool) -> usize
     requires { ⌜ at + (length (now e) * 4 + 4) ≤ length (now out) ⌝ }
-    ensures { λ r. ⌜ Put (length (now (e .entry)) * 4 + 4) (now (out .entry)) at (names (now (e .entry))) (now (out .exit)) r ⌝ }
+    ensures { λ r. ⌜ Put (length (now (e .entry)) * 4 + 4) (now (out .entry)) at (names checked (now (e .entry))) (now (out .exit)) r ⌝ }
 {
-    let p = digits::put_hex(out, at, symbol_info::name(e));
+    let p = digits::put_hex(out, at, symbol_info::name(e, checked));
     let q = le::put_u8(out, p, b' ');
-    let t = digits::put_hex(out, q, symbol_info::type_name(e));
+    let t = digits::put_hex(out, q, symbol_info::type_name(e, checked));
     le::put_u8(out, t, b' ')
 }
 
@@ -70,13 +70,14 @@ pub fn put_entry(
     start: usize,
     info: AdsSymbolInfo,
     e: &[u8],
+    checked: bool,
 ) -> usize
     requires { ⌜ at + (length (now e) * 4 + 256) ≤ length (now out) ⌝ }
-    ensures { λ r. ⌜ Put (length (now (e .entry)) * 4 + 256) (now (out .entry)) at (entryLine number start info (now (e .entry))) (now (out .exit)) r ⌝ }
+    ensures { λ r. ⌜ Put (length (now (e .entry)) * 4 + 256) (now (out .entry)) at (entryLine checked number start info (now (e .entry))) (now (out .exit)) r ⌝ }
 {
     let p = put_place(out, at, number, start);
     let q = put_address(out, p, info);
     let t = put_counts(out, q, info);
-    let u = put_names(out, t, e);
+    let u = put_names(out, t, e, checked);
     digits::put_field(out, u, info.high as usize, b'\n')
 }

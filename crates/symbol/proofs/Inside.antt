@@ -1,7 +1,7 @@
 -- Every place that an accepted symbol tells lies inside its entry, and what it shows comes back by number: proved.
 use Prim.Native.Nat.{ℕ, _+_, _-_, _≤_}
 use native.Mathlib.Omega.{arith}
-use mathlib.Core.Path.{_≡_, refl, subst}
+use mathlib.Core.Path.{_≡_, refl, sym, subst}
 use mathlib.Core.Bool.{Bool, true, false}
 use mathlib.Core.List.{List}
 use lib.Dec.{leb, ltb}
@@ -10,6 +10,9 @@ use borrow.Author.Tests.{leb-true, ltb-false, lt-ltb, le-ltb}
 use Rattle.le.specs.Le.{if_then_else_, le2, le4, has, part}
 use Rattle.refusal.specs.declared.Refusal.{Refusal}
 use Rattle.refusal.specs.declared.Refusal.the-variants.{NoSuchNumber}
+use Rattle.refusal.specs.declared.Checked.{Checked}
+use Rattle.refusal.specs.declared.Checked.the-variants as checked
+use Rattle.refusal.specs.Ends.{presentMode, endsIn, byChecked}
 use Rattle.entry.specs.Entry.{ownBytes}
 use Rattle.entry.proofs.Direct.{own-accepted, own-short}
 use Rattle.guid.specs.Guid.{guidAt, absent}
@@ -24,8 +27,9 @@ use Rattle.symbol.specs.declared.AdsSymbolInfo.{AdsSymbolInfo}
 use Rattle.symbol.specs.declared.ExtendedFlags.{ExtendedFlags}
 use Rattle.symbol.specs.declared.SymbolAnswer.{SymbolAnswer}
 use Rattle.symbol.specs.declared.SymbolAnswer.the-variants.{Record, Refused}
-use Rattle.symbol.specs.Symbol.{typeGuid, attributes, extendedFlags, refactorInfo, extendedAt, sectionsOf, stringsEnd, infoRecord, infoOf, refused, symbolEntry, symbolRead}
-use Rattle.symbol.specs.Questions.{bySymbol, symbolAttribute, symbolRefactor}
+use Rattle.symbol.specs.declared.SymbolRead.{SymbolRead}
+use Rattle.symbol.specs.Symbol.{typeGuid, attributes, extendedFlags, refactorInfo, extendedAt, sectionsOf, stringsEnd, infoRecord, infoOf, refused, symbolPresent, bySymbol, symbolEnds, symbolEntry, symbolRead}
+use Rattle.symbol.specs.Questions.{symbolAttribute, symbolRefactor}
 use Rattle.symbol.specs.Inside.{Inside, SymbolsInside, SymbolsShown}
 
 -- a section that begins inside ends inside
@@ -83,28 +87,58 @@ module _ (e : List ℕ) (room : stringsEnd e ≤ length e) where
 never : (info : AdsSymbolInfo) (why : Refusal) → refused why .answer ≡ Record info → ⊥
 never info why h = let z : _≡_ {A = ℕ} 0 1 = cc in omega arith
 
--- what is accepted passed each test
-accepted : (e : List ℕ) (info : AdsSymbolInfo) (a b : Bool) → ltb (length e) 30 ≡ a → ltb (length e) (stringsEnd e) ≡ b
-    → symbolEntry e .answer ≡ Record info → (stringsEnd e ≤ length e) × (infoRecord e (sectionsOf e (stringsEnd e) (le2 e 20)) ≡ info)
-unfolding symbolEntry infoOf
-accepted e info true b p q h = absurd (never info _ (simp p at h))
-accepted e info false true p q h = absurd (never info _ (simp (p, q) at h))
-accepted e info false false p q h = (ltb-false _ _ q, cc (simp (p, q) at h))
+-- what the present mode accepts passed each test
+pub passed : (e : List ℕ) (info : AdsSymbolInfo) (a b : Bool) → ltb (length e) 30 ≡ a → ltb (length e) (stringsEnd e) ≡ b
+    → symbolPresent e .answer ≡ Record info → (stringsEnd e ≤ length e) × (infoRecord e (sectionsOf e (stringsEnd e) (le2 e 20)) ≡ info)
+unfolding symbolPresent infoOf
+passed e info true b p q h = absurd (never info _ (simp p at h))
+passed e info false true p q h = absurd (never info _ (simp (p, q) at h))
+passed e info false false p q h = (ltb-false _ _ q, cc (simp (p, q) at h))
+
+-- what is accepted in a mode is what the present mode gives, and has the end bytes that the mode asks for
+pub record Accepted (mode : Bool) (e : List ℕ) (info : AdsSymbolInfo) : Type 0 where
+  pub present : symbolPresent e .answer ≡ Record info
+  pub same : symbolEntry mode e ≡ symbolPresent e
+  pub ends : endsIn mode e (symbolEnds e info) ≡ checked.Passed
+
+ended : (info : AdsSymbolInfo) (c : Checked) (r : SymbolRead) → byChecked c r refused .answer ≡ Record info → c ≡ checked.Passed
+ended info checked.Passed r h = refl
+ended info (checked.Refused why) r h = absurd (never info why h)
+
+by-answer : (mode : Bool) (e : List ℕ) (info : AdsSymbolInfo) (t : SymbolAnswer) → symbolPresent e .answer ≡ t → symbolEntry mode e .answer ≡ Record info → Accepted mode e info
+unfolding symbolEntry
+by-answer mode e info (Record r) p h =
+    let c = ended info (endsIn mode e (symbolEnds e r)) (symbolPresent e) (simp p at h) in
+    let is : r ≡ info = cc (simp (p, c) at h) in
+    rw (sym is) (record { present = p; same = simp (p, c); ends = c })
+by-answer mode e info (Refused why) p h = absurd (never info why (simp p at h))
+
+pub accepted : (mode : Bool) (e : List ℕ) (info : AdsSymbolInfo) → symbolEntry mode e .answer ≡ Record info → Accepted mode e info
+accepted mode e info h = by-answer mode e info (symbolPresent e .answer) refl h
+
+-- the present mode is the definition's value at it
+either-way : (t : SymbolAnswer) (r : SymbolRead) → bySymbol t (λ info. r) (λ why. r) ≡ r
+either-way (Record info) r = refl
+either-way (Refused why) r = refl
+
+pub present-is : (e : List ℕ) → symbolEntry presentMode e ≡ symbolPresent e
+unfolding symbolEntry endsIn
+present-is e = either-way (symbolPresent e .answer) (symbolPresent e)
 
 pub symbols-inside : SymbolsInside
-symbols-inside e info h =
-    let a = accepted e info (ltb (length e) 30) (ltb (length e) (stringsEnd e)) refl refl h in
+symbols-inside mode e info h =
+    let a = passed e info (ltb (length e) 30) (ltb (length e) (stringsEnd e)) refl refl (accepted mode e info h .present) in
     subst (Inside e) (a .1) (inside e (a .0))
 
 -- a direct parse reads the entry's own bytes
-own-entry : (s : List ℕ) (info : AdsSymbolInfo) → symbolRead s .answer ≡ Record info → symbolEntry (ownBytes 30 s) .answer ≡ Record info
+own-entry : (mode : Bool) (s : List ℕ) (info : AdsSymbolInfo) → symbolRead mode s .answer ≡ Record info → symbolEntry mode (ownBytes 30 s) .answer ≡ Record info
 unfolding symbolRead
-own-entry s info h = own-accepted symbolEntry refused (λ r. r .answer ≡ Record info) (never info) 30 s h
+own-entry mode s info h = own-accepted (symbolEntry mode) refused (λ r. r .answer ≡ Record info) (never info) 30 s h
 
 pub symbols-shown : SymbolsShown
 unfolding symbolAttribute symbolRefactor
-symbols-shown s info h =
-    let i = symbols-inside (ownBytes 30 s) info (own-entry s info h) in
+symbols-shown mode s info h =
+    let i = symbols-inside mode (ownBytes 30 s) info (own-entry mode s info h) in
     record {
       inside = i;
       attributes = λ k j. simp (h, lt-ltb k (info .attributes .count) j) (i .attributes k j);
@@ -114,8 +148,8 @@ symbols-shown s info h =
     }
 
 -- the three strings stand in the bytes given
-pub strings-there : (s : List ℕ) (info : AdsSymbolInfo) → symbolRead s .answer ≡ Record info → 33 + info .«name_len» + info .«type_name_len» + info .«comment_len» ≤ length s
-strings-there s info h = omega (arith, symbols-shown s info h .inside .strings, own-short 30 s)
+pub strings-there : (mode : Bool) (s : List ℕ) (info : AdsSymbolInfo) → symbolRead mode s .answer ≡ Record info → 33 + info .«name_len» + info .«type_name_len» + info .«comment_len» ≤ length s
+strings-there mode s info h = omega (arith, symbols-shown mode s info h .inside .strings, own-short 30 s)
 
 -- what is asked for by number begins inside the entry
 attribute-of : (s : List ℕ) (k : ℕ) (t : SymbolAnswer)
@@ -126,9 +160,9 @@ attribute-of : (s : List ℕ) (k : ℕ) (t : SymbolAnswer)
 attribute-of s k (Record r) = asked-begun (ownBytes 30 s) (r .attributes .first) k (NoSuchNumber (r .attributes .count) k) (ltb k (r .attributes .count))
 attribute-of s k (Refused why) = (omega arith, omega arith)
 
-pub attribute-begun : (s : List ℕ) (k : ℕ) → Begun (ownBytes 30 s) (symbolAttribute s k)
+pub attribute-begun : (mode : Bool) (s : List ℕ) (k : ℕ) → Begun (ownBytes 30 s) (symbolAttribute mode s k)
 unfolding symbolAttribute
-attribute-begun s k = attribute-of s k (symbolRead s .answer)
+attribute-begun mode s k = attribute-of s k (symbolRead mode s .answer)
 
 refactor-of : (s : List ℕ) (k : ℕ) (t : SymbolAnswer)
     → refactors.nameAt (bySymbol t
@@ -138,6 +172,6 @@ refactor-of : (s : List ℕ) (k : ℕ) (t : SymbolAnswer)
 refactor-of s k (Record r) = refactors-shown.asked-begun (ownBytes 30 s) (r .«refactor_infos» .first) k (NoSuchNumber (r .«refactor_infos» .count) k) (ltb k (r .«refactor_infos» .count))
 refactor-of s k (Refused why) = omega arith
 
-pub refactor-begun : (s : List ℕ) (k : ℕ) → refactors.nameAt (symbolRefactor s k) ≤ length (ownBytes 30 s)
+pub refactor-begun : (mode : Bool) (s : List ℕ) (k : ℕ) → refactors.nameAt (symbolRefactor mode s k) ≤ length (ownBytes 30 s)
 unfolding symbolRefactor
-refactor-begun s k = refactor-of s k (symbolRead s .answer)
+refactor-begun mode s k = refactor-of s k (symbolRead mode s .answer)

@@ -1,6 +1,7 @@
--- Every place that an accepted symbol tells lies inside its entry, and what it shows comes back when it is asked for by number.
+-- Every place that a symbol accepted in whatever mode tells lies inside its entry, and what it shows comes back when it is asked for by number.
 use Prim.Native.Nat.{ℕ, _+_, _<_, _≤_}
 use mathlib.Core.Path.{_≡_}
+use mathlib.Core.Bool.{Bool}
 use mathlib.Core.List.{List}
 use lib.ListN.{length}
 use Rattle.refusal.specs.declared.Refusal.the-variants.{NoSuchNumber}
@@ -28,15 +29,15 @@ pub record Inside (e : List ℕ) (info : AdsSymbolInfo) : Type 0 where
   pub unread : info .extended .next + info .unread ≤ length e
 
 abbrev pub SymbolsInside : Type 0
-SymbolsInside = (e : List ℕ) (info : AdsSymbolInfo) → symbolEntry e .answer ≡ Record info → Inside e info
+SymbolsInside = (mode : Bool) (e : List ℕ) (info : AdsSymbolInfo) → symbolEntry mode e .answer ≡ Record info → Inside e info
 
 -- a number below the count is never refused, and one past it is 14
-pub record Shown (s : List ℕ) (info : AdsSymbolInfo) : Type 0 where
+pub record Shown (mode : Bool) (s : List ℕ) (info : AdsSymbolInfo) : Type 0 where
   pub inside : Inside (ownBytes 30 s) info
-  pub attributes : (k : ℕ) → k < info .attributes .count → attribute.Inside (ownBytes 30 s) (symbolAttribute s k)
-  pub no-attribute : (k : ℕ) → info .attributes .count ≤ k → symbolAttribute s k ≡ attribute-answer.Refused (NoSuchNumber (info .attributes .count) k)
-  pub refactors : (k : ℕ) → k < info .«refactor_infos» .count → refactor.Inside (ownBytes 30 s) (symbolRefactor s k)
-  pub no-refactor : (k : ℕ) → info .«refactor_infos» .count ≤ k → symbolRefactor s k ≡ refactor-answer.Refused (NoSuchNumber (info .«refactor_infos» .count) k)
+  pub attributes : (k : ℕ) → k < info .attributes .count → attribute.Inside (ownBytes 30 s) (symbolAttribute mode s k)
+  pub no-attribute : (k : ℕ) → info .attributes .count ≤ k → symbolAttribute mode s k ≡ attribute-answer.Refused (NoSuchNumber (info .attributes .count) k)
+  pub refactors : (k : ℕ) → k < info .«refactor_infos» .count → refactor.Inside (ownBytes 30 s) (symbolRefactor mode s k)
+  pub no-refactor : (k : ℕ) → info .«refactor_infos» .count ≤ k → symbolRefactor mode s k ≡ refactor-answer.Refused (NoSuchNumber (info .«refactor_infos» .count) k)
 
 abbrev pub SymbolsShown : Type 0
-SymbolsShown = (s : List ℕ) (info : AdsSymbolInfo) → symbolRead s .answer ≡ Record info → Shown s info
+SymbolsShown = (mode : Bool) (s : List ℕ) (info : AdsSymbolInfo) → symbolRead mode s .answer ≡ Record info → Shown mode s info

@@ -1,6 +1,7 @@
 -- What an answer to an attribute's name means: the answer to its number.
 use Prim.Native.Nat.{ℕ}
 use mathlib.Core.Path.{_≡_}
+use mathlib.Core.Bool.{Bool}
 use mathlib.Core.List.{List}
 use Rattle.refusal.specs.declared.Refusal.{Refusal}
 use Rattle.entry.specs.Entry.{ownBytes}
@@ -19,4 +20,4 @@ pub record AnswersName (t : SymbolAnswer) (e name : List ℕ) (ask : ℕ → Att
   pub refused : (why : Refusal) → t ≡ Refused why → answer ≡ attribute.Refused why
 
 abbrev pub SymbolsNamed : Type 0
-SymbolsNamed = (s name : List ℕ) → AnswersName (symbolRead s .answer) (ownBytes 30 s) name (symbolAttribute s) (symbolAttributeNamed s name)
+SymbolsNamed = (mode : Bool) (s name : List ℕ) → AnswersName (symbolRead mode s .answer) (ownBytes 30 s) name (symbolAttribute mode s) (symbolAttributeNamed mode s name)

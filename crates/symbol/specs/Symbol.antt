@@ -1,22 +1,24 @@
--- 01, "Symbol": a header of 30 bytes, three strings, each with one end byte that is not looked at, then the sections.
+-- 01, "Symbol": a header of 30 bytes, three strings, each with one end byte, then the sections. W-212: the end bytes, which only the checked mode looks at.
 use Prim.Native.Nat.{ℕ, _+_, _-_}
 use mathlib.Core.Bool.{Bool, true, false}
-use mathlib.Core.List.{List}
+use mathlib.Core.List.{List, [], _++_}
 use lib.Dec.{ltb, leb}
 use lib.ListN.{length}
 use Rattle.le.specs.Le.{if_then_else_, le2, le4, has, part}
 use Rattle.refusal.specs.declared.Refusal.{Refusal}
 use Rattle.refusal.specs.declared.Refusal.the-variants.{TooShort, EntryLengthMismatch}
-use Rattle.entry.specs.Entry.{directClaim, byClaim}
+use Rattle.refusal.specs.Ends.{endsIn, byChecked}
+use Rattle.entry.specs.Entry.{directClaim, byClaim, stringEnds}
 use Rattle.guid.specs.Guid.{guidAt, zeros16}
 use Rattle.guid.specs.declared.Guid.{Guid}
-use Rattle.attr.specs.Attribute.{attributesAt}
+use Rattle.attr.specs.Attribute.{attributesAt, attributeEnds}
 use Rattle.attr.specs.declared.Attributes.{Attributes}
-use Rattle.refactor.specs.Refactor.{chainSection}
+use Rattle.refactor.specs.Refactor.{chainSection, chainEnds}
 use Rattle.refactor.specs.declared.Chain.{Chain}
 use Rattle.symbol.specs.declared.ExtendedFlags.{ExtendedFlags}
 use Rattle.symbol.specs.declared.Sections.{Sections}
 use Rattle.symbol.specs.declared.AdsSymbolInfo.{AdsSymbolInfo}
+use Rattle.symbol.specs.declared.SymbolAnswer.{SymbolAnswer}
 use Rattle.symbol.specs.declared.SymbolAnswer.the-variants.{Record, Refused}
 use Rattle.symbol.specs.declared.SymbolRead.{SymbolRead}
 
@@ -88,13 +90,32 @@ infoOf e s = record { answer = Record (infoRecord e s); guid = s .guid }
 abbrev pub refused : Refusal → SymbolRead
 refused why = record { answer = Refused why; guid = zeros16 }
 
--- an entry's own bytes, and nothing else of the upload: 2 for a header that is not there, 3 for strings that are not
-unfoldable pub symbolEntry : List ℕ → SymbolRead
-symbolEntry e =
+-- an entry's own bytes in the present mode, and nothing else of the upload: 2 for a header that is not there, 3 for strings that are not
+unfoldable pub symbolPresent : List ℕ → SymbolRead
+symbolPresent e =
     if ltb (length e) 30 then refused (TooShort 30 (length e))
     else if ltb (length e) (stringsEnd e) then refused (EntryLengthMismatch (stringsEnd e) (length e))
     else infoOf e (sectionsOf e (stringsEnd e) (le2 e 20))
 
+abbrev pub bySymbol : {A : Type 0} → SymbolAnswer → (AdsSymbolInfo → A) → (Refusal → A) → A
+bySymbol (Record r) on stop = on r
+bySymbol (Refused why) on stop = stop why
+
+-- the places of the end bytes of an entry with this record, in the order in which they are met: its strings', those of the attributes shown, those of the
+-- chain's records up to one that is refused. What ends the list of attributes, or drops the chain, has none of its own
+unfoldable pub symbolEnds : List ℕ → AdsSymbolInfo → List ℕ
+symbolEnds e r =
+    stringEnds 30 (r .«name_len») (r .«type_name_len») (r .«comment_len»)
+    ++ (attributeEnds e (r .attributes .first) (r .attributes .count)
+    ++ (if has (r .extended .flags .0) refactorInfo then chainEnds e (r .«refactor_infos» .first) else []))
+
+-- in a mode: 16 for an end byte of what the present mode accepts
+unfoldable pub symbolEntry : Bool → List ℕ → SymbolRead
+symbolEntry mode e =
+    bySymbol (symbolPresent e .answer)
+    (λ r. byChecked (endsIn mode e (symbolEnds e r)) (symbolPresent e) refused)
+    (λ why. symbolPresent e)
+
 -- a direct parse
-unfoldable pub symbolRead : List ℕ → SymbolRead
-symbolRead s = byClaim (directClaim 30 s) (λ size. symbolEntry (part s 0 size)) refused
+unfoldable pub symbolRead : Bool → List ℕ → SymbolRead
+symbolRead mode s = byClaim (directClaim 30 s) (λ size. symbolEntry mode (part s 0 size)) refused

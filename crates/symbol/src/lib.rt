@@ -3,12 +3,17 @@ use flags::index_group::IndexGroup;
 use flags::index_offset::IndexOffset;
 use flags::symbol_flags::AdsSymbol2Flags;
 use flags::symbol_flags::AdsSymbolFlags;
+use refusal::Checked;
 use refusal::Refusal;
 ghost use mathlib.Core.Path.{_≡_};
 ghost use Prim.Native.Nat.{_≤_};
+ghost use mathlib.Core.List.{[], _++_};
 ghost use lib.ListN.{length};
-ghost use Rattle.le.specs.Le.{le2};
-ghost use Rattle.symbol.specs.Symbol.{extendedAt, sectionsOf, infoOf, symbolEntry};
+ghost use Rattle.le.specs.Le.{if_then_else_, le2, has};
+ghost use Rattle.refusal.specs.Ends.{checkedMode, endsMet, byChecked};
+ghost use Rattle.attr.specs.Attribute.{attributeEnds};
+ghost use Rattle.refactor.specs.Refactor.{chainEnds};
+ghost use Rattle.symbol.specs.Symbol.{refactorInfo, extendedAt, sectionsOf, infoOf, refused, symbolPresent, bySymbol, symbolEnds, symbolEntry};
 
 // Records of an entry that are asked for by number: the place of the first, and how many are shown.
 pub struct Shown {
@@ -143,33 +148,102 @@ fn info_of(e: &[u8], n: u16, t: u16, k: u16, flags: AdsSymbolFlags, s: Sections)
     SymbolRead { answer, guid }
 }
 
-// An entry's own bytes, read.
-pub fn read_entry(e: &[u8]) -> SymbolRead
-    ensures { λ r. ⌜ r ≡ symbolEntry (now (e .entry)) ⌝ }
+// The end bytes of the chain, if it is flagged, from a place on.
+fn check_chain_ends(e: &[u8], word: AdsSymbol2Flags, first: usize) -> Checked
+    ensures { λ r. ⌜ r ≡ endsMet (now (e .entry)) (if has (word .0) refactorInfo then chainEnds (now (e .entry)) first else []) ⌝ }
+{
+    if word.has_refactor_info() {
+        return refactor::check_chain_ends(e, first);
+    }
+    Checked::Passed
+}
+
+// The end bytes of the attributes that are shown, then those of the chain.
+fn check_section_ends(e: &[u8], r: AdsSymbolInfo) -> Checked
+    ensures { λ c. ⌜ c ≡ endsMet (now (e .entry)) (attributeEnds (now (e .entry)) (r .attributes .first) (r .attributes .count) ++ (if has (r .extended .flags .0) refactorInfo then chainEnds (now (e .entry)) (r .«refactor_infos» .first) else [])) ⌝ }
+{
+    let attributes = r.attributes;
+    let extended = r.extended;
+    let word = extended.flags;
+    let refactor_infos = r.refactor_infos;
+    match attr::check_ends_from(e, attributes.first, attributes.count) {
+        Checked::Passed => check_chain_ends(e, word, refactor_infos.first),
+        Checked::Refused(why) => Checked::Refused(why),
+    }
+}
+
+// All end bytes of an entry with this record.
+fn check_ends(e: &[u8], r: AdsSymbolInfo) -> Checked
+    ensures { λ c. ⌜ c ≡ endsMet (now (e .entry)) (symbolEnds (now (e .entry)) r) ⌝ }
+{
+    match entry::check_strings(e, 30, r.name_len, r.type_name_len, r.comment_len) {
+        Checked::Passed => check_section_ends(e, r),
+        Checked::Refused(why) => Checked::Refused(why),
+    }
+}
+
+pub fn refused(why: Refusal) -> SymbolRead
+    ensures { λ r. ⌜ r ≡ refused why ⌝ }
+{
+    SymbolRead {
+        answer: SymbolAnswer::Refused(why),
+        guid: [0u8; 16],
+    }
+}
+
+// An entry's own bytes, read in the present mode.
+fn read_present(e: &[u8]) -> SymbolRead
+    ensures { λ r. ⌜ r ≡ symbolPresent (now (e .entry)) ⌝ }
 {
     let length = e.len();
     if length < 30 {
-        return SymbolRead {
-            answer: SymbolAnswer::Refused(Refusal::TooShort {
-                needed: 30,
-                present: length,
-            }),
-            guid: [0u8; 16],
-        };
+        return refused(Refusal::TooShort {
+            needed: 30,
+            present: length,
+        });
     }
     let n = le::u16_at(e, 24);
     let t = le::u16_at(e, 26);
     let k = le::u16_at(e, 28);
     let needed = 33 + le::wide(n) + le::wide(t) + le::wide(k);
     if length < needed {
-        return SymbolRead {
-            answer: SymbolAnswer::Refused(Refusal::EntryLengthMismatch {
-                needed,
-                available: length,
-            }),
-            guid: [0u8; 16],
-        };
+        return refused(Refusal::EntryLengthMismatch {
+            needed,
+            available: length,
+        });
     }
     let flags = AdsSymbolFlags(le::u16_at(e, 20));
     info_of(e, n, t, k, flags, sections_of(e, needed, flags))
+}
+
+// What the present mode read, if its end bytes are 0. They are looked at when the record is known and not while it is read: so the present mode does not
+// pay for a test that it has no use for.
+fn ended(e: &[u8], read: SymbolRead) -> SymbolRead
+    ensures { λ r. ⌜ r ≡ bySymbol (read .answer) (λ info. byChecked (endsMet (now (e .entry)) (symbolEnds (now (e .entry)) info)) read refused) (λ why. read) ⌝ }
+{
+    let answer = read.answer;
+    match answer {
+        SymbolAnswer::Record(info) => match check_ends(e, info) {
+            Checked::Passed => read,
+            Checked::Refused(why) => refused(why),
+        },
+        SymbolAnswer::Refused(_) => read,
+    }
+}
+
+// An entry's own bytes, read in the checked mode.
+pub fn read_checked(e: &[u8]) -> SymbolRead
+    ensures { λ r. ⌜ r ≡ symbolEntry checkedMode (now (e .entry)) ⌝ }
+{
+    ended(e, read_present(e))
+}
+
+// An entry's own bytes, read in a mode.
+pub fn read_entry(e: &[u8], checked: bool) -> SymbolRead
+    ensures { λ r. ⌜ r ≡ symbolEntry checked (now (e .entry)) ⌝ }
+{
+    if checked {
+        return read_checked(e);
+    }
+    read_present(e)
 }

@@ -11,9 +11,16 @@ use Rattle.refusal.specs.Writing.{counted, goodFrom}
 use Rattle.guid.specs.Guid.{zeros16}
 use Rattle.guid.proofs.Read.{guid-read}
 use Rattle.attr.specs.Writing.{goodAttribute}
+use Rattle.refusal.specs.declared.Checked.the-variants.{Passed}
+use Rattle.refusal.specs.Ends.{endsMet}
+use Rattle.refusal.proofs.Ends.{both-pass}
+use Rattle.attr.specs.Attribute.{attributeEnds}
 use Rattle.attr.proofs.Read.{attributes-read}
+use Rattle.attr.proofs.Ends as attribute-ends
 use Rattle.refactor.specs.Writing.{goodRefactor}
+use Rattle.refactor.specs.Refactor.{chainEnds}
 use Rattle.refactor.proofs.Read.{chain-section-read}
+use Rattle.refactor.proofs.Ends as chain-ends
 use Rattle.symbol.specs.Symbol.{typeGuid, attributes, extendedFlags, refactorInfo, sectionsOf}
 use Rattle.symbol.specs.declared.Sections.{Sections}
 use Rattle.symbol.proofs.Read.{extended-read}
@@ -77,3 +84,12 @@ module _ (fg fa fx fc : Bool) (guid block chain front extra : List ℕ) (count v
         g .flag-chain,
         c,
       )
+
+  -- and their end bytes are 0
+  pub sections-end : Given
+      → endsMet bytesOf (attributeEnds bytesOf (told .attributes .first) (told .attributes .count) ++ (if has (told .extended .flags .0) refactorInfo then chainEnds bytesOf (told .«refactor_infos» .first) else []))
+      ≡ Passed
+  sections-end g =
+      let a = simp (append-assoc, length-append) at (attribute-ends.section-ends (front ++ G) count block (X ++ (chain ++ extra)) fa (λ _. g .attributes-good)) in
+      let c = simp (append-assoc, length-append) at (chain-ends.section-ends (front ++ (G ++ (A ++ X))) links chain extra fc (g .chained) (g .chain-good)) in
+      both-pass bytesOf (attributeEnds bytesOf (told .attributes .first) (told .attributes .count)) _ a (simp (g .flag-chain) c)

@@ -54,4 +54,4 @@ fit = record { parts = smallest; extra = []; fit = record { typed = typed; accep
 
 pub symbols-shut-out : SymbolsShutOut
 unfolding fit grown symbolBytes entryOf headerOf numbersOf lengthsOf stringsOf sectionsOf guidOf attributesOf extendedOf
-symbols-shut-out = shuts-out Fit symbolBytes symbolMeant cursorOf stepTold fit (omega arith)
+symbols-shut-out mode = shuts-out Fit symbolBytes symbolMeant cursorOf (stepTold mode) fit (omega arith)

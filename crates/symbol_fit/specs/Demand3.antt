@@ -1,4 +1,4 @@
--- Demand 3 for symbols, stated: fit symbols, written one after another, each entry grown by any bytes at its end, come back from the walk.
+-- Demand 3 for symbols, stated: fit symbols, written one after another, each entry grown by any bytes at its end, come back from the walk, in whatever mode.
 use Prim.Native.Nat.{ℕ, _<_}
 use mathlib.Core.Path.{_≡_}
 use mathlib.Core.Bool.{Bool}
@@ -73,11 +73,11 @@ symbolMeant p extra =
     }
 
 abbrev pub Demand3Symbols : Type 0
-Demand3Symbols = Demand3 Fit symbolBytes symbolMeant symbolStep cursorOf stepTold
+Demand3Symbols = (mode : Bool) → Demand3 Fit symbolBytes symbolMeant (symbolStep mode) cursorOf (stepTold mode)
 
 -- it shuts out a step that never gives a record, and one that gives its first answer again
 abbrev pub SymbolsShutOut : Type 0
-SymbolsShutOut = ShutsOut Fit symbolBytes symbolMeant cursorOf stepTold
+SymbolsShutOut = (mode : Bool) → ShutsOut Fit symbolBytes symbolMeant cursorOf (stepTold mode)
 
 -- from the code's answer to demand 3: where `to_vec` answers that it wrote n bytes, the symbol is fit, and these bytes are those that demand 3 speaks of
 pub record Reached (p : Parts) (n : ℕ) (new : List ℕ) : Type 0 where

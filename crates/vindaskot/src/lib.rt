@@ -1,4 +1,6 @@
 // The interface for the studio's own software, which is not Rattle: numbers and byte slices, and a status.
+mod modes;
+
 use field_writer::FieldNumbers;
 use flags::index_group::IndexGroup;
 use flags::index_offset::IndexOffset;
@@ -10,6 +12,7 @@ use refusal::Refusal;
 use symbol_writer::SymbolNumbers;
 ghost use mathlib.Core.Path.{_≡_};
 ghost use lib.ListN.{length};
+ghost use Rattle.refusal.specs.Ends.{presentMode};
 ghost use Rattle.refusal.specs.Writing.{afterCheck};
 ghost use Rattle.attr.specs.Attribute.{attributeRead};
 ghost use Rattle.attr.specs.Writing.{attributeWriting};
@@ -47,11 +50,16 @@ pub extern "C" fn vindaskot_symbol_read_2(
     guid: &mut [u8; 16],
     answer: &mut [u64; 2],
 ) -> u32
-    ensures { λ r. ⌜ Tells (symbolTold (symbols.stepIs (symbolRead (now (bytes .entry)) .answer))) r (now (answer .exit)) ⌝ }
-    ensures { λ _. ⌜ now (slots .exit) ≡ symbolSlotsAfter (symbols.stepIs (symbolRead (now (bytes .entry)) .answer)) (now (slots .entry)) ⌝ }
-    ensures { λ _. ⌜ now (guid .exit) ≡ symbolGuidAfter (symbols.stepIs (symbolRead (now (bytes .entry)) .answer)) (symbolRead (now (bytes .entry)) .guid) (now (guid .entry)) ⌝ }
+    ensures { λ r. ⌜ Tells (symbolTold (symbols.stepIs (symbolRead presentMode (now (bytes .entry)) .answer))) r (now (answer .exit)) ⌝ }
+    ensures { λ _. ⌜ now (slots .exit) ≡ symbolSlotsAfter (symbols.stepIs (symbolRead presentMode (now (bytes .entry)) .answer)) (now (slots .entry)) ⌝ }
+    ensures { λ _. ⌜ now (guid .exit) ≡ symbolGuidAfter (symbols.stepIs (symbolRead presentMode (now (bytes .entry)) .answer)) (symbolRead presentMode (now (bytes .entry)) .guid) (now (guid .entry)) ⌝ }
 {
-    told::symbol_read(symbol_info::try_from_slice(bytes), slots, guid, answer)
+    told::symbol_read(
+        symbol_info::try_from_slice(bytes, refusal::PRESENT),
+        slots,
+        guid,
+        answer,
+    )
 }
 
 #[no_mangle]
@@ -62,13 +70,12 @@ pub extern "C" fn vindaskot_symbol_step_2(
     guid: &mut [u8; 16],
     answer: &mut [u64; 2],
 ) -> u32
-    ensures { λ r. ⌜ Tells (symbolTold (symbols.symbolStep (now (bytes .entry)) (now (cursor .entry)) .step)) r (now (answer .exit)) ⌝ }
-    ensures { λ _. ⌜ now (cursor .exit) ≡ symbols.symbolStep (now (bytes .entry)) (now (cursor .entry)) .cursor .at ⌝ }
-    ensures { λ _. ⌜ now (slots .exit) ≡ symbolSlotsAfter (symbols.symbolStep (now (bytes .entry)) (now (cursor .entry)) .step) (now (slots .entry)) ⌝ }
-    ensures { λ _. ⌜ now (guid .exit) ≡ symbolGuidAfter (symbols.symbolStep (now (bytes .entry)) (now (cursor .entry)) .step) (symbols.symbolStep (now (bytes .entry)) (now (cursor .entry)) .guid) (now (guid .entry)) ⌝ }
+    ensures { λ r. ⌜ Tells (symbolTold (symbols.symbolStep presentMode (now (bytes .entry)) (now (cursor .entry)) .step)) r (now (answer .exit)) ⌝ }
+    ensures { λ _. ⌜ now (cursor .exit) ≡ symbols.symbolStep presentMode (now (bytes .entry)) (now (cursor .entry)) .cursor .at ⌝ }
+    ensures { λ _. ⌜ now (slots .exit) ≡ symbolSlotsAfter (symbols.symbolStep presentMode (now (bytes .entry)) (now (cursor .entry)) .step) (now (slots .entry)) ⌝ }
+    ensures { λ _. ⌜ now (guid .exit) ≡ symbolGuidAfter (symbols.symbolStep presentMode (now (bytes .entry)) (now (cursor .entry)) .step) (symbols.symbolStep presentMode (now (bytes .entry)) (now (cursor .entry)) .guid) (now (guid .entry)) ⌝ }
 {
-    let from = walk::Cursor { at: *cursor };
-    told::symbol_step(from.step(bytes), cursor, slots, guid, answer)
+    modes::vindaskot_symbol_step_in(bytes, refusal::PRESENT, cursor, slots, guid, answer)
 }
 
 #[no_mangle]
@@ -78,10 +85,14 @@ pub extern "C" fn vindaskot_symbol_attribute(
     slots: &mut [u64; 5],
     answer: &mut [u64; 2],
 ) -> u32
-    ensures { λ r. ⌜ Tells (attributeTold (symbolAttribute (now (bytes .entry)) number)) r (now (answer .exit)) ⌝ }
-    ensures { λ _. ⌜ now (slots .exit) ≡ attributeSlotsAfter (symbolAttribute (now (bytes .entry)) number) (now (slots .entry)) ⌝ }
+    ensures { λ r. ⌜ Tells (attributeTold (symbolAttribute presentMode (now (bytes .entry)) number)) r (now (answer .exit)) ⌝ }
+    ensures { λ _. ⌜ now (slots .exit) ≡ attributeSlotsAfter (symbolAttribute presentMode (now (bytes .entry)) number) (now (slots .entry)) ⌝ }
 {
-    told::attribute(symbol_info::attribute(bytes, number), slots, answer)
+    told::attribute(
+        symbol_info::attribute(bytes, refusal::PRESENT, number),
+        slots,
+        answer,
+    )
 }
 
 #[no_mangle]
@@ -91,10 +102,14 @@ pub extern "C" fn vindaskot_symbol_attribute_named(
     slots: &mut [u64; 5],
     answer: &mut [u64; 2],
 ) -> u32
-    ensures { λ r. ⌜ Tells (attributeTold (symbolAttributeNamed (now (bytes .entry)) (now (name .entry)))) r (now (answer .exit)) ⌝ }
-    ensures { λ _. ⌜ now (slots .exit) ≡ attributeSlotsAfter (symbolAttributeNamed (now (bytes .entry)) (now (name .entry))) (now (slots .entry)) ⌝ }
+    ensures { λ r. ⌜ Tells (attributeTold (symbolAttributeNamed presentMode (now (bytes .entry)) (now (name .entry)))) r (now (answer .exit)) ⌝ }
+    ensures { λ _. ⌜ now (slots .exit) ≡ attributeSlotsAfter (symbolAttributeNamed presentMode (now (bytes .entry)) (now (name .entry))) (now (slots .entry)) ⌝ }
 {
-    told::attribute(symbol_info::attribute_named(bytes, name), slots, answer)
+    told::attribute(
+        symbol_info::attribute_named(bytes, refusal::PRESENT, name),
+        slots,
+        answer,
+    )
 }
 
 #[no_mangle]
@@ -104,10 +119,14 @@ pub extern "C" fn vindaskot_symbol_refactor_info(
     slots: &mut [u64; 5],
     answer: &mut [u64; 2],
 ) -> u32
-    ensures { λ r. ⌜ Tells (refactorTold (symbolRefactor (now (bytes .entry)) number)) r (now (answer .exit)) ⌝ }
-    ensures { λ _. ⌜ now (slots .exit) ≡ refactorSlotsAfter (symbolRefactor (now (bytes .entry)) number) (now (slots .entry)) ⌝ }
+    ensures { λ r. ⌜ Tells (refactorTold (symbolRefactor presentMode (now (bytes .entry)) number)) r (now (answer .exit)) ⌝ }
+    ensures { λ _. ⌜ now (slots .exit) ≡ refactorSlotsAfter (symbolRefactor presentMode (now (bytes .entry)) number) (now (slots .entry)) ⌝ }
 {
-    told::refactor(symbol_info::refactor_info(bytes, number), slots, answer)
+    told::refactor(
+        symbol_info::refactor_info(bytes, refusal::PRESENT, number),
+        slots,
+        answer,
+    )
 }
 
 #[no_mangle]
@@ -117,11 +136,16 @@ pub extern "C" fn vindaskot_field_read(
     guid: &mut [u8; 16],
     answer: &mut [u64; 2],
 ) -> u32
-    ensures { λ r. ⌜ Tells (fieldTold (fields.stepIs (fieldRead (now (bytes .entry)) .answer))) r (now (answer .exit)) ⌝ }
-    ensures { λ _. ⌜ now (slots .exit) ≡ fieldSlotsAfter (fields.stepIs (fieldRead (now (bytes .entry)) .answer)) (now (slots .entry)) ⌝ }
-    ensures { λ _. ⌜ now (guid .exit) ≡ fieldGuidAfter (fields.stepIs (fieldRead (now (bytes .entry)) .answer)) (fieldRead (now (bytes .entry)) .guid) (now (guid .entry)) ⌝ }
+    ensures { λ r. ⌜ Tells (fieldTold (fields.stepIs (fieldRead presentMode (now (bytes .entry)) .answer))) r (now (answer .exit)) ⌝ }
+    ensures { λ _. ⌜ now (slots .exit) ≡ fieldSlotsAfter (fields.stepIs (fieldRead presentMode (now (bytes .entry)) .answer)) (now (slots .entry)) ⌝ }
+    ensures { λ _. ⌜ now (guid .exit) ≡ fieldGuidAfter (fields.stepIs (fieldRead presentMode (now (bytes .entry)) .answer)) (fieldRead presentMode (now (bytes .entry)) .guid) (now (guid .entry)) ⌝ }
 {
-    told::field_read(field_info::try_from_slice(bytes), slots, guid, answer)
+    told::field_read(
+        field_info::try_from_slice(bytes, refusal::PRESENT),
+        slots,
+        guid,
+        answer,
+    )
 }
 
 #[no_mangle]
@@ -132,13 +156,19 @@ pub extern "C" fn vindaskot_field_step(
     guid: &mut [u8; 16],
     answer: &mut [u64; 2],
 ) -> u32
-    ensures { λ r. ⌜ Tells (fieldTold (fields.fieldStep (now (bytes .entry)) (now (cursor .entry)) .step)) r (now (answer .exit)) ⌝ }
-    ensures { λ _. ⌜ now (cursor .exit) ≡ fields.fieldStep (now (bytes .entry)) (now (cursor .entry)) .cursor .at ⌝ }
-    ensures { λ _. ⌜ now (slots .exit) ≡ fieldSlotsAfter (fields.fieldStep (now (bytes .entry)) (now (cursor .entry)) .step) (now (slots .entry)) ⌝ }
-    ensures { λ _. ⌜ now (guid .exit) ≡ fieldGuidAfter (fields.fieldStep (now (bytes .entry)) (now (cursor .entry)) .step) (fields.fieldStep (now (bytes .entry)) (now (cursor .entry)) .guid) (now (guid .entry)) ⌝ }
+    ensures { λ r. ⌜ Tells (fieldTold (fields.fieldStep presentMode (now (bytes .entry)) (now (cursor .entry)) .step)) r (now (answer .exit)) ⌝ }
+    ensures { λ _. ⌜ now (cursor .exit) ≡ fields.fieldStep presentMode (now (bytes .entry)) (now (cursor .entry)) .cursor .at ⌝ }
+    ensures { λ _. ⌜ now (slots .exit) ≡ fieldSlotsAfter (fields.fieldStep presentMode (now (bytes .entry)) (now (cursor .entry)) .step) (now (slots .entry)) ⌝ }
+    ensures { λ _. ⌜ now (guid .exit) ≡ fieldGuidAfter (fields.fieldStep presentMode (now (bytes .entry)) (now (cursor .entry)) .step) (fields.fieldStep presentMode (now (bytes .entry)) (now (cursor .entry)) .guid) (now (guid .entry)) ⌝ }
 {
     let from = field_walk::Cursor { at: *cursor };
-    told::field_step(from.step(bytes), cursor, slots, guid, answer)
+    told::field_step(
+        from.step(bytes, refusal::PRESENT),
+        cursor,
+        slots,
+        guid,
+        answer,
+    )
 }
 
 #[no_mangle]
@@ -148,10 +178,14 @@ pub extern "C" fn vindaskot_field_attribute(
     slots: &mut [u64; 5],
     answer: &mut [u64; 2],
 ) -> u32
-    ensures { λ r. ⌜ Tells (attributeTold (fieldAttribute (now (bytes .entry)) number)) r (now (answer .exit)) ⌝ }
-    ensures { λ _. ⌜ now (slots .exit) ≡ attributeSlotsAfter (fieldAttribute (now (bytes .entry)) number) (now (slots .entry)) ⌝ }
+    ensures { λ r. ⌜ Tells (attributeTold (fieldAttribute presentMode (now (bytes .entry)) number)) r (now (answer .exit)) ⌝ }
+    ensures { λ _. ⌜ now (slots .exit) ≡ attributeSlotsAfter (fieldAttribute presentMode (now (bytes .entry)) number) (now (slots .entry)) ⌝ }
 {
-    told::attribute(field_info::attribute(bytes, number), slots, answer)
+    told::attribute(
+        field_info::attribute(bytes, refusal::PRESENT, number),
+        slots,
+        answer,
+    )
 }
 
 #[no_mangle]
@@ -161,10 +195,14 @@ pub extern "C" fn vindaskot_field_attribute_named(
     slots: &mut [u64; 5],
     answer: &mut [u64; 2],
 ) -> u32
-    ensures { λ r. ⌜ Tells (attributeTold (fieldAttributeNamed (now (bytes .entry)) (now (name .entry)))) r (now (answer .exit)) ⌝ }
-    ensures { λ _. ⌜ now (slots .exit) ≡ attributeSlotsAfter (fieldAttributeNamed (now (bytes .entry)) (now (name .entry))) (now (slots .entry)) ⌝ }
+    ensures { λ r. ⌜ Tells (attributeTold (fieldAttributeNamed presentMode (now (bytes .entry)) (now (name .entry)))) r (now (answer .exit)) ⌝ }
+    ensures { λ _. ⌜ now (slots .exit) ≡ attributeSlotsAfter (fieldAttributeNamed presentMode (now (bytes .entry)) (now (name .entry))) (now (slots .entry)) ⌝ }
 {
-    told::attribute(field_info::attribute_named(bytes, name), slots, answer)
+    told::attribute(
+        field_info::attribute_named(bytes, refusal::PRESENT, name),
+        slots,
+        answer,
+    )
 }
 
 #[no_mangle]
@@ -194,10 +232,14 @@ pub extern "C" fn vindaskot_attribute_read(
     slots: &mut [u64; 5],
     answer: &mut [u64; 2],
 ) -> u32
-    ensures { λ r. ⌜ Tells (attributeTold (attributeRead (now (bytes .entry)))) r (now (answer .exit)) ⌝ }
-    ensures { λ _. ⌜ now (slots .exit) ≡ attributeSlotsAfter (attributeRead (now (bytes .entry))) (now (slots .entry)) ⌝ }
+    ensures { λ r. ⌜ Tells (attributeTold (attributeRead presentMode (now (bytes .entry)))) r (now (answer .exit)) ⌝ }
+    ensures { λ _. ⌜ now (slots .exit) ≡ attributeSlotsAfter (attributeRead presentMode (now (bytes .entry))) (now (slots .entry)) ⌝ }
 {
-    told::attribute(attributes::try_from_slice(bytes), slots, answer)
+    told::attribute(
+        attributes::try_from_slice(bytes, refusal::PRESENT),
+        slots,
+        answer,
+    )
 }
 
 #[no_mangle]
@@ -206,17 +248,21 @@ pub extern "C" fn vindaskot_refactor_read(
     slots: &mut [u64; 5],
     answer: &mut [u64; 2],
 ) -> u32
-    ensures { λ r. ⌜ Tells (refactorTold (refactorRead (now (bytes .entry)))) r (now (answer .exit)) ⌝ }
-    ensures { λ _. ⌜ now (slots .exit) ≡ refactorSlotsAfter (refactorRead (now (bytes .entry))) (now (slots .entry)) ⌝ }
+    ensures { λ r. ⌜ Tells (refactorTold (refactorRead presentMode (now (bytes .entry)))) r (now (answer .exit)) ⌝ }
+    ensures { λ _. ⌜ now (slots .exit) ≡ refactorSlotsAfter (refactorRead presentMode (now (bytes .entry))) (now (slots .entry)) ⌝ }
 {
-    told::refactor(refactor_info::try_from_slice(bytes), slots, answer)
+    told::refactor(
+        refactor_info::try_from_slice(bytes, refusal::PRESENT),
+        slots,
+        answer,
+    )
 }
 
 #[no_mangle]
 pub extern "C" fn vindaskot_chain_read(bytes: &[u8], answer: &mut [u64; 2]) -> u32
-    ensures { λ r. ⌜ Tells (chainTold (chainRead (now (bytes .entry)))) r (now (answer .exit)) ⌝ }
+    ensures { λ r. ⌜ Tells (chainTold (chainRead presentMode (now (bytes .entry)))) r (now (answer .exit)) ⌝ }
 {
-    told::chain(refactor_info::parse_chain(bytes), answer)
+    told::chain(refactor_info::parse_chain(bytes, refusal::PRESENT), answer)
 }
 
 #[no_mangle]
@@ -226,10 +272,14 @@ pub extern "C" fn vindaskot_chain_record(
     slots: &mut [u64; 5],
     answer: &mut [u64; 2],
 ) -> u32
-    ensures { λ r. ⌜ Tells (refactorTold (chainNth (now (bytes .entry)) number)) r (now (answer .exit)) ⌝ }
-    ensures { λ _. ⌜ now (slots .exit) ≡ refactorSlotsAfter (chainNth (now (bytes .entry)) number) (now (slots .entry)) ⌝ }
+    ensures { λ r. ⌜ Tells (refactorTold (chainNth presentMode (now (bytes .entry)) number)) r (now (answer .exit)) ⌝ }
+    ensures { λ _. ⌜ now (slots .exit) ≡ refactorSlotsAfter (chainNth presentMode (now (bytes .entry)) number) (now (slots .entry)) ⌝ }
 {
-    told::refactor(refactor_info::chain_record(bytes, number), slots, answer)
+    told::refactor(
+        refactor_info::chain_record(bytes, refusal::PRESENT, number),
+        slots,
+        answer,
+    )
 }
 
 #[no_mangle]
@@ -408,16 +458,16 @@ pub extern "C" fn vindaskot_index_build(
     slots: &mut [u32],
     answer: &mut [u64; 2],
 ) -> u32
-    ensures { λ r. ⌜ WritesTold (indexing (now (bytes .entry))) (now (slots .entry)) (now (slots .exit)) r (now (answer .exit)) ⌝ }
+    ensures { λ r. ⌜ WritesTold (indexing presentMode (now (bytes .entry))) (now (slots .entry)) (now (slots .exit)) r (now (answer .exit)) ⌝ }
 {
-    told::written(index::build(bytes, slots), answer)
+    told::written(index::build(bytes, refusal::PRESENT, slots), answer)
 }
 
 #[no_mangle]
 pub extern "C" fn vindaskot_find(bytes: &[u8], name: &[u8], answer: &mut [u64; 2]) -> u32
-    ensures { λ r. ⌜ Tells (foundTold (find (now (bytes .entry)) (now (name .entry)))) r (now (answer .exit)) ⌝ }
+    ensures { λ r. ⌜ Tells (foundTold (find presentMode (now (bytes .entry)) (now (name .entry)))) r (now (answer .exit)) ⌝ }
 {
-    told::found(index::find(bytes, name), answer)
+    told::found(index::find(bytes, refusal::PRESENT, name), answer)
 }
 
 #[no_mangle]
@@ -427,9 +477,12 @@ pub extern "C" fn vindaskot_find_indexed(
     name: &[u8],
     answer: &mut [u64; 2],
 ) -> u32
-    ensures { λ r. ⌜ Tells (foundTold (findIndexed (now (bytes .entry)) (now (slots .entry)) (now (name .entry)))) r (now (answer .exit)) ⌝ }
+    ensures { λ r. ⌜ Tells (foundTold (findIndexed presentMode (now (bytes .entry)) (now (slots .entry)) (now (name .entry)))) r (now (answer .exit)) ⌝ }
 {
-    told::found(index::find_indexed(bytes, slots, name), answer)
+    told::found(
+        index::find_indexed(bytes, refusal::PRESENT, slots, name),
+        answer,
+    )
 }
 
 #[no_mangle]

@@ -1,13 +1,14 @@
 -- A step over an upload of symbols, by what it makes of an end, of an entry and of a refusal; so its walk is the one walk.
 use mathlib.Core.Path.{refl}
+use mathlib.Core.Bool.{Bool}
 use Rattle.entry.proofs.Demand3.{Kind, moves}
 use Rattle.entry.proofs.Laws.{one-walk}
 use Rattle.walk.specs.Walk.{finished, entry, refused, symbolStep}
 use Rattle.walk.specs.Told.{stepTold, cursorOf, OneSymbolWalk}
 
-pub kind : Kind symbolStep cursorOf stepTold finished entry refused
+pub kind : (mode : Bool) → Kind (symbolStep mode) cursorOf (stepTold mode) finished (entry mode) refused
 unfolding symbolStep
-kind =
+kind mode =
     record {
       is = λ s at. refl;
       end-cursor = λ n. refl;
@@ -18,4 +19,4 @@ kind =
     }
 
 pub one-symbol-walk : OneSymbolWalk
-one-symbol-walk = one-walk symbolStep cursorOf (moves kind)
+one-symbol-walk mode = one-walk (symbolStep mode) cursorOf (moves (kind mode))

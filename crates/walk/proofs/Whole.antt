@@ -2,6 +2,7 @@
 use Prim.Native.Nat.{ℕ, _+_, _≤_}
 use native.Mathlib.Omega.{arith}
 use mathlib.Core.Path.{_≡_, refl, sym, ap, _∙_}
+use mathlib.Core.Bool.{Bool}
 use mathlib.Core.List.{List}
 use lib.ListN.{length}
 use Rattle.le.specs.Le.{part}
@@ -24,9 +25,9 @@ recorded : (t : SymbolAnswer) (info : AdsSymbolInfo) → stepIs t ≡ step.Recor
 recorded (answer.Record r) info h = cc
 recorded (answer.Refused why) info h = absurd (let u : _≡_ {A = ℕ} 0 1 = cc in omega arith)
 
-module _ (s : List ℕ) (at : ℕ) (info : AdsSymbolInfo) where
+module _ (mode : Bool) (s : List ℕ) (at : ℕ) (info : AdsSymbolInfo) where
   -- what the step met, and then what it gives
-  by-met : (m : Met) → claimAt s at .met ≡ m → byMet m (finished (claimAt s at .next)) (λ size. entry (part s at size) (claimAt s at .next)) (λ why. refused why (claimAt s at .next)) .step ≡ step.Record info → Reads s at info
+  by-met : (m : Met) → claimAt s at .met ≡ m → byMet m (finished (claimAt s at .next)) (λ size. entry mode (part s at size) (claimAt s at .next)) (λ why. refused why (claimAt s at .next)) .step ≡ step.Record info → Reads mode s at info
   unfolding symbolStep symbolRead
   by-met met.Finished e h = absurd (let u : _≡_ {A = ℕ} 0 1 = cc in omega arith)
   by-met (met.Refused why) e h = absurd (let u : _≡_ {A = ℕ} 0 1 = cc in omega arith)
@@ -34,8 +35,8 @@ module _ (s : List ℕ) (at : ℕ) (info : AdsSymbolInfo) where
       let own : List ℕ = part s at size in
       let m = meets s at size e in
       let l : length own ≡ size = length-part s at size (m .room) in
-      let r : symbolEntry own .answer ≡ answer.Record info = recorded (symbolEntry own .answer) info h in
-      let i = symbols-inside own info r in
+      let r : symbolEntry mode own .answer ≡ answer.Record info = recorded (symbolEntry mode own .answer) info h in
+      let i = symbols-inside mode own info r in
       let n : info .length ≡ size = i .long ∙ l in
       let long : 30 ≤ length own = omega (arith, i .strings) in
       let w = own-whole s at size m (omega arith) in
@@ -49,11 +50,11 @@ module _ (s : List ℕ) (at : ℕ) (info : AdsSymbolInfo) where
 
 pub steps-read : StepsRead
 unfolding symbolStep
-steps-read s at info h = by-met s at info (claimAt s at .met) refl h
+steps-read mode s at info h = by-met mode s at info (claimAt s at .met) refl h
 
 -- and moves over a header and three end bytes at least
-pub steps-long : (s : List ℕ) (at : ℕ) (info : AdsSymbolInfo) → symbolStep s at .step ≡ step.Record info → at + 33 ≤ symbolStep s at .cursor .at
-steps-long s at info h =
-    let r = steps-read s at info h in
-    let i = symbols-shown (part s at (info .length)) info (r .answers) .inside in
+pub steps-long : (mode : Bool) (s : List ℕ) (at : ℕ) (info : AdsSymbolInfo) → symbolStep mode s at .step ≡ step.Record info → at + 33 ≤ symbolStep mode s at .cursor .at
+steps-long mode s at info h =
+    let r = steps-read mode s at info h in
+    let i = symbols-shown mode (part s at (info .length)) info (r .answers) .inside in
     omega (arith, r .moves, i .long, i .strings)

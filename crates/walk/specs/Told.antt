@@ -1,5 +1,6 @@
--- What a step over an upload of symbols tells: its record, and everything that can be asked of the bytes of its entry.
+-- What a step over an upload of symbols tells, in a mode: its record, and everything that can be asked of the bytes of its entry.
 use Prim.Native.Nat.{ℕ, _-_}
+use mathlib.Core.Bool.{Bool}
 use mathlib.Core.List.{List}
 use mathlib.Core.Option.{Option, none, some}
 use Rattle.le.specs.Le.{if_then_else_, part}
@@ -37,8 +38,8 @@ pub record Symbol : Type 0 where
   pub unread : ℕ
 
 -- the record of a step with its GUID, and what is asked of the entry's bytes e: its strings, and each attribute and refactor record by its number
-abbrev pub symbolTold : AdsSymbolInfo → List ℕ → List ℕ → Symbol
-symbolTold info guid e =
+abbrev pub symbolTold : Bool → AdsSymbolInfo → List ℕ → List ℕ → Symbol
+symbolTold mode info guid e =
     record {
       group = info .«index_group»;
       offset = info .«index_offset»;
@@ -46,22 +47,22 @@ symbolTold info guid e =
       type-id = info .«data_type_id»;
       flags = info .flags;
       high = info .high;
-      name = symbolName e;
-      type-name = symbolTypeName e;
-      comment = symbolComment e;
+      name = symbolName mode e;
+      type-name = symbolTypeName mode e;
+      comment = symbolComment mode e;
       guid = if info .«has_guid» then some guid else none;
-      attributes = asks (λ k. attributeTold (ownBytes 30 e) (symbolAttribute e k)) (info .attributes .count);
+      attributes = asks (λ k. attributeTold (ownBytes 30 e) (symbolAttribute mode e k)) (info .attributes .count);
       extended = if info .extended .here then some (info .extended .flags) else none;
-      refactors = asks (λ k. renamingTold (ownBytes 30 e) (symbolRefactor e k)) (info .«refactor_infos» .count);
+      refactors = asks (λ k. renamingTold (ownBytes 30 e) (symbolRefactor mode e k)) (info .«refactor_infos» .count);
       unread = info .unread;
     }
 
 -- what an answer tells of the upload s: the entry is the bytes before the cursor, as many as its record says
-abbrev pub stepTold : List ℕ → Stepped → Tells Symbol
-stepTold s t =
+abbrev pub stepTold : Bool → List ℕ → Stepped → Tells Symbol
+stepTold mode s t =
     byStep (t .step)
     (End (t .cursor .at))
-    (λ info. Entry (symbolTold info (t .guid) (part s (t .cursor .at - info .length) (info .length))) (info .length) (t .cursor .at))
+    (λ info. Entry (symbolTold mode info (t .guid) (part s (t .cursor .at - info .length) (info .length))) (info .length) (t .cursor .at))
     (λ why. Refused (figuresOf why) (t .cursor .at))
 
 -- the cursor beside an answer
@@ -70,4 +71,4 @@ cursorOf t = t .cursor .at
 
 -- the step that the code promises, iterated by that cursor, is the one walk
 abbrev pub OneSymbolWalk : Type 0
-OneSymbolWalk = OneWalk symbolStep cursorOf
+OneSymbolWalk = (mode : Bool) → OneWalk (symbolStep mode) cursorOf

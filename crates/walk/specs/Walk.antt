@@ -1,5 +1,6 @@
 -- 01, "Walking": a step over an upload of symbols.
 use Prim.Native.Nat.{ℕ}
+use mathlib.Core.Bool.{Bool}
 use mathlib.Core.List.{List}
 use Rattle.refusal.specs.declared.Refusal.{Refusal}
 use Rattle.guid.specs.Guid.{zeros16}
@@ -33,11 +34,12 @@ finished next = stepped Finished zeros16 next
 abbrev pub stepOf : SymbolRead → ℕ → Stepped
 stepOf read next = stepped (stepIs (read .answer)) (read .guid) next
 
-abbrev pub entry : List ℕ → ℕ → Stepped
-entry e next = stepOf (symbolEntry e) next
+abbrev pub entry : Bool → List ℕ → ℕ → Stepped
+entry mode e next = stepOf (symbolEntry mode e) next
 
 abbrev pub refused : Refusal → ℕ → Stepped
 refused why next = stepped (Refused why) zeros16 next
 
-unfoldable pub symbolStep : List ℕ → ℕ → Stepped
-symbolStep s at = stepBy finished entry refused s at
+-- in a mode, which decides only what an entry's own bytes give
+unfoldable pub symbolStep : Bool → List ℕ → ℕ → Stepped
+symbolStep mode s at = stepBy finished (entry mode) refused s at

@@ -27,20 +27,20 @@ impl<'a> AdsSymbolInfoIterator<'a> {
         self.cursor.at
     }
 
-    // The walker is lent: the answer is the step at its cursor, and the cursor moves on.
-    pub fn next(&mut self) -> Stepped
-        ensures { λ r. ⌜ (r ≡ symbolStep (now (now (self .entry) .«data»)) (now (self .entry) .cursor .at)) × (now (self .exit) ≡ moved (now (self .entry)) (r .cursor)) ⌝ }
+    // The walker is lent: the answer is the step at its cursor, in the mode that is asked, and the cursor moves on.
+    pub fn next(&mut self, checked: bool) -> Stepped
+        ensures { λ r. ⌜ (r ≡ symbolStep checked (now (now (self .entry) .«data»)) (now (self .entry) .cursor .at)) × (now (self .exit) ≡ moved (now (self .entry)) (r .cursor)) ⌝ }
     {
-        let done = self.cursor.step(self.data);
+        let done = self.cursor.step(self.data, checked);
         self.cursor = done.cursor;
         done
     }
 }
 
-// From an upload: a walker is made, and lent to `next`. Whoever calls this needs no proof by hand.
-pub fn first(bytes: &[u8]) -> Stepped
-    ensures { λ r. ⌜ r ≡ symbolStep (now (bytes .entry)) 0 ⌝ }
+// From an upload: a walker is made, and lent to `next` with the mode. Whoever calls this needs no proof by hand.
+pub fn first(bytes: &[u8], checked: bool) -> Stepped
+    ensures { λ r. ⌜ r ≡ symbolStep checked (now (bytes .entry)) 0 ⌝ }
 {
     let mut walker = AdsSymbolInfoIterator::new(bytes);
-    walker.next()
+    walker.next(checked)
 }

@@ -8,6 +8,9 @@ use lib.ListN.{length, getD, length-append}
 use lib.Seq.{getD-append-add}
 use Rattle.le.specs.Le.{part}
 use Rattle.le.proofs.Inside.{part-whole}
+use Rattle.refusal.specs.declared.Checked.the-variants.{Passed}
+use Rattle.refusal.specs.Ends.{endsMet}
+use Rattle.entry.specs.Entry.{stringEnds}
 use Rattle.wire.specs.Wire.{stringsOf}
 use Rattle.wire.proofs.Laws.{length-strings}
 
@@ -43,13 +46,11 @@ module _ {e header name type comment tail : List ℕ} {h : ℕ} (l : Laid e head
   unfolding stringsOf
   comment-is = simp (l .is, append-assoc) (simp append-assoc at (string-at (header ++ (name ++ (0 ∷ (type ++ (0 ∷ []))))) comment (0 ∷ tail) (h + 2 + length name + length type) (simp length-append (omega (arith, l .long)))))
 
-  -- the end bytes of the three, in order
-  pub ends-are-zero : (getD e (h + length name) 0 ≡ 0) × ((getD e (h + length name + 1 + length type) 0 ≡ 0) × (getD e (h + length name + length type + length comment + 2) 0 ≡ 0))
-  unfolding stringsOf
-  ends-are-zero = (
-    simp (l .is, append-assoc) (simp append-assoc at (zero-at (header ++ name) (type ++ (0 ∷ (comment ++ (0 ∷ tail)))) (h + length name) (simp length-append (omega (arith, l .long))))),
-    (
-      simp (l .is, append-assoc) (simp append-assoc at (zero-at (header ++ (name ++ (0 ∷ type))) (comment ++ (0 ∷ tail)) (h + length name + 1 + length type) (simp length-append (omega (arith, l .long))))),
-      simp (l .is, append-assoc) (simp append-assoc at (zero-at (header ++ (name ++ (0 ∷ (type ++ (0 ∷ comment))))) tail (h + length name + length type + length comment + 2) (simp length-append (omega (arith, l .long))))),
-    ),
-  )
+  -- the end bytes of the three are 0
+  pub ends-pass : endsMet e (stringEnds h (length name) (length type) (length comment)) ≡ Passed
+  unfolding stringsOf endsMet
+  ends-pass =
+      let n : getD e (h + length name) 0 ≡ 0 = simp (l .is, append-assoc) (simp append-assoc at (zero-at (header ++ name) (type ++ (0 ∷ (comment ++ (0 ∷ tail)))) (h + length name) (simp length-append (omega (arith, l .long))))) in
+      let t : getD e (h + length name + 1 + length type) 0 ≡ 0 = simp (l .is, append-assoc) (simp append-assoc at (zero-at (header ++ (name ++ (0 ∷ type))) (comment ++ (0 ∷ tail)) (h + length name + 1 + length type) (simp length-append (omega (arith, l .long))))) in
+      let k : getD e (h + length name + 1 + length type + 1 + length comment) 0 ≡ 0 = simp (l .is, append-assoc) (simp append-assoc at (zero-at (header ++ (name ++ (0 ∷ (type ++ (0 ∷ comment))))) tail (h + length name + 1 + length type + 1 + length comment) (simp length-append (omega (arith, l .long))))) in
+      simp (n, t, k)

@@ -13,7 +13,7 @@ name-in-requires : tie.Need-name-in-requires
 name-in-requires c κs = search needs
 
 returns : tie.Need-returns
-returns c = (simp (← c .name-in .ensures .0, ← c .before .try-from-slice .ensures), at-place (c .name-in .ensures .1) (ap nameAt (c .before .try-from-slice .ensures)) (read-begun (c .before .before .before .args .bytes .now) .0))
+returns c = (simp (← c .name-in .ensures .0, ← c .before .try-from-slice .ensures), at-place (c .name-in .ensures .1) (ap nameAt (c .before .try-from-slice .ensures)) (read-begun (c .before .before .before .args .checked) (c .before .before .before .args .bytes .now) .0))
 
 pub name-spec : {M : Type 1} → statement M
 name-spec = tie.close (tie.spec try-from-slice-requires name-in-requires returns)

@@ -16,7 +16,7 @@ name-in-requires : tie.Need-name-in-requires
 name-in-requires c κs = search needs
 
 returns : tie.Need-returns
-returns c = let a = c .before .before .before .before .args in let o = c .before .before .own-bytes .ensures in (simp (← c .name-in .ensures .0, ← c .before .attribute .ensures, ← o .0), at-start (o .1) (at-place (c .name-in .ensures .1) (ap nameAt (c .before .attribute .ensures)) (simp (o .0) (attribute-begun (a .bytes .now) (a .number) .0))))
+returns c = let a = c .before .before .before .before .args in let o = c .before .before .own-bytes .ensures in (simp (← c .name-in .ensures .0, ← c .before .attribute .ensures, ← o .0), at-start (o .1) (at-place (c .name-in .ensures .1) (ap nameAt (c .before .attribute .ensures)) (simp (o .0) (attribute-begun (a .checked) (a .bytes .now) (a .number) .0))))
 
 pub attribute-name-spec : {M : Type 1} → statement M
 attribute-name-spec =

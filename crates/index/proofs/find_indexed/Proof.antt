@@ -13,10 +13,10 @@ use Rattle.index.proofs.find_indexed.Statement.{statement}
 use Rattle.index.proofs.find_indexed.Tie as tie
 
 abbrev Inv-loop : tie.InvT-loop
-Inv-loop bytes slots name length₀ i₀ i = firstOf (names bytes name) (drop i slots) (Refused NameNotFound) ≡ findIndexed bytes slots name
+Inv-loop bytes checked slots name length₀ i₀ i = firstOf (names checked bytes name) (drop i slots) (Refused NameNotFound) ≡ findIndexed checked bytes slots name
 
 abbrev μ-loop : tie.MeasureT-loop
-μ-loop bytes slots name length₀ i₀ i = length slots - i
+μ-loop bytes checked slots name length₀ i₀ i = length slots - i
 
 returns : tie.Need-returns Inv-loop μ-loop
 unfolding findIndexed
@@ -57,7 +57,7 @@ loop-less-2 : tie.Need-loop-less-2 Inv-loop μ-loop
 loop-less-2 c = search needs
 
 loop-again-2 : tie.Need-loop-again-2 Inv-loop μ-loop
-loop-again-2 c = sym (first-turn _ _ _ _ (c .before .before .before .loop-test .taken) ∙ simp (not-likely _ _ _ (sym (c .before .likely .ensures) ∙ c .if2 .left))) ∙ c .before .before .before .before .loop .inv
+loop-again-2 c = sym (first-turn _ _ _ _ (c .before .before .before .loop-test .taken) ∙ simp (not-likely (c .before .before .before .before .before .before .before .before .before .args .checked) _ _ _ (sym (c .before .likely .ensures) ∙ c .if2 .left))) ∙ c .before .before .before .before .loop .inv
 
 returns-3 : tie.Need-returns-3 Inv-loop μ-loop
 returns-3 c = sym (first-end _ _ _ _ (c .loop-test .left)) ∙ c .before .loop .inv

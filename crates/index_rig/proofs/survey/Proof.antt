@@ -32,7 +32,7 @@ part-find-all-start : tie.Need-part-find-all-start
 part-find-all-start c = search needs
 
 part-find-all-end : tie.Need-part-find-all-end
-part-find-all-end c = omega (arith, index-fits _ _ _ _ (rw (c .before .before .before .before .before .before .before .before .n .given .1) at (c .before .before .before .before .before .before .before .before .before .before .before .before .build .ensures)))
+part-find-all-end c = omega (arith, index-fits _ _ _ _ _ (rw (c .before .before .before .before .before .before .before .before .n .given .1) at (c .before .before .before .before .before .before .before .before .before .before .before .before .build .ensures)))
 
 find-all-requires : tie.Need-find-all-requires
 find-all-requires c κs = search needs

@@ -5,10 +5,10 @@ use Rattle.lister.proofs.run_in.Statement.{statement}
 use Rattle.lister.proofs.run_in.Tie as tie
 
 abbrev Inv-loop : tie.InvT-loop
-Inv-loop buf₀ line₀ frame₀ out₀ at₀ turns₀ buf line frame out at turns = Unit {0}
+Inv-loop checked buf₀ line₀ frame₀ out₀ at₀ turns₀ buf line frame out at turns = Unit {0}
 
 abbrev μ-loop : tie.MeasureT-loop
-μ-loop buf₀ line₀ frame₀ out₀ at₀ turns₀ buf line frame out at turns = turns
+μ-loop checked buf₀ line₀ frame₀ out₀ at₀ turns₀ buf line frame out at turns = turns
 
 write-header-requires : tie.Need-write-header-requires Inv-loop μ-loop
 write-header-requires c κs = search needs

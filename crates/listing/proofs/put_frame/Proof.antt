@@ -5,10 +5,10 @@ use Rattle.listing.proofs.put_frame.Statement.{statement}
 use Rattle.listing.proofs.put_frame.Tie as tie
 
 abbrev Inv-loop : tie.InvT-loop
-Inv-loop out₀ start number frame at₀ said₀ left₀ out at said left = Begun number frame out₀ start out at said left
+Inv-loop out₀ start number frame checked at₀ said₀ left₀ out at said left = Begun checked number frame out₀ start out at said left
 
 abbrev μ-loop : tie.MeasureT-loop
-μ-loop out₀ start number frame at₀ said₀ left₀ out at said left = left
+μ-loop out₀ start number frame checked at₀ said₀ left₀ out at said left = left
 
 loop-holds : tie.Need-loop-holds Inv-loop μ-loop
 loop-holds c = begin (omega arith)

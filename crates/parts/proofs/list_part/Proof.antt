@@ -9,10 +9,10 @@ use Rattle.parts.proofs.list_part.Statement.{statement}
 use Rattle.parts.proofs.list_part.Tie as tie
 
 abbrev Inv-loop : tie.InvT-loop
-Inv-loop s number held line₀ frame₀ out₀ at₀ from₀ line frame out at from = Begun (reading number held line₀ frame₀) s out₀ out (reading (at .number) (at .held) line frame) from (at .said)
+Inv-loop s checked number held line₀ frame₀ out₀ at₀ from₀ line frame out at from = Begun checked (reading number held line₀ frame₀) s out₀ out (reading (at .number) (at .held) line frame) from (at .said)
 
 abbrev μ-loop : tie.MeasureT-loop
-μ-loop s number held line₀ frame₀ out₀ at₀ from₀ line frame out at from = length s - from
+μ-loop s checked number held line₀ frame₀ out₀ at₀ from₀ line frame out at from = length s - from
 
 loop-holds : tie.Need-loop-holds Inv-loop μ-loop
 loop-holds c = begin (c .before .before .before .pre .1)

@@ -13,7 +13,7 @@ name-in-requires : tie.Need-name-in-requires
 name-in-requires c κs = search needs
 
 returns : tie.Need-returns
-returns c = (simp (← c .name-in .ensures .0, ← c .before .chain-record .ensures), at-place (c .name-in .ensures .1) (ap nameAt (c .before .chain-record .ensures)) (chain-begun (c .before .before .before .args .bytes .now) (c .before .before .before .args .number)))
+returns c = (simp (← c .name-in .ensures .0, ← c .before .chain-record .ensures), at-place (c .name-in .ensures .1) (ap nameAt (c .before .chain-record .ensures)) (chain-begun (c .before .before .before .args .checked) (c .before .before .before .args .bytes .now) (c .before .before .before .args .number)))
 
 pub chain-name-spec : {M : Type 1} → statement M
 chain-name-spec = tie.close (tie.spec chain-record-requires name-in-requires returns)

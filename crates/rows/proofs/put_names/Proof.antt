@@ -12,26 +12,26 @@ name-requires : tie.Need-name-requires
 name-requires c κs = search needs
 
 put-hex-requires : tie.Need-put-hex-requires
-put-hex-requires c κs = omega (arith, ap length (c .name .ensures .0), name-short (c .before .before .before .before .args .e .now))
+put-hex-requires c κs = let a = c .before .before .before .before .args in omega (arith, ap length (c .name .ensures .0), name-short (a .checked) (a .e .now))
 
 put-u8-requires : tie.Need-put-u8-requires
-put-u8-requires c κs = omega (arith, ap length (c .before .before .before .before .name .ensures .0), name-short (c .before .before .before .before .before .before .before .before .args .e .now))
+put-u8-requires c κs = let a = c .before .before .before .before .before .before .before .before .args in omega (arith, ap length (c .before .before .before .before .name .ensures .0), name-short (a .checked) (a .e .now))
 
 type-name-requires : tie.Need-type-name-requires
 type-name-requires c κs = search needs
 
 put-hex-requires-2 : tie.Need-put-hex-requires-2
-put-hex-requires-2 c κs = omega (arith, ap length (c .before .before .before .before .before .before .before .before .before .name .ensures .0), name-short (c .before .before .before .before .before .before .before .before .before .before .before .before .before .args .e .now), ap length (c .type-name .ensures .0), type-short (c .before .before .before .before .before .before .before .before .before .before .before .before .before .args .e .now))
+put-hex-requires-2 c κs = let a = c .before .before .before .before .before .before .before .before .before .before .before .before .before .args in omega (arith, ap length (c .before .before .before .before .before .before .before .before .before .name .ensures .0), name-short (a .checked) (a .e .now), ap length (c .type-name .ensures .0), type-short (a .checked) (a .e .now))
 
 put-u8-requires-2 : tie.Need-put-u8-requires-2
-put-u8-requires-2 c κs = omega (arith, ap length (c .before .before .before .before .before .before .before .before .before .before .before .before .before .name .ensures .0), name-short (c .before .before .before .before .before .before .before .before .before .before .before .before .before .before .before .before .before .args .e .now), ap length (c .before .before .before .before .type-name .ensures .0), type-short (c .before .before .before .before .before .before .before .before .before .before .before .before .before .before .before .before .before .args .e .now))
+put-u8-requires-2 c κs = let a = c .before .before .before .before .before .before .before .before .before .before .before .before .before .before .before .before .before .args in omega (arith, ap length (c .before .before .before .before .before .before .before .before .before .before .before .before .before .name .ensures .0), name-short (a .checked) (a .e .now), ap length (c .before .before .before .before .type-name .ensures .0), type-short (a .checked) (a .e .now))
 
 same-length : tie.Need-same-length
 same-length c = search needs
 
 returns : tie.Need-returns
 unfolding names
-returns c = record { wrote = simp (← c .before .before .before .before .before .before .before .before .before .before .before .before .before .before .before .before .name .ensures .0, ← c .before .before .before .before .before .before .before .type-name .ensures .0) (after (c .before .before .before .before .before .before .before .before .before .before .before .before .before .before .before .put-hex .ensures .wrote) (after (c .before .before .before .before .before .before .before .before .before .before .before .put-u8 .ensures) (after (c .before .before .before .before .before .before .put-hex2 .ensures .wrote) (c .before .before .put-u82 .ensures)))); low = omega (arith, ap length (c .before .before .before .before .before .before .before .before .before .before .before .before .before .before .before .before .name .ensures .0), name-short (c .before .before .before .before .before .before .before .before .before .before .before .before .before .before .before .before .before .before .before .before .args .e .now), ap length (c .before .before .before .before .before .before .before .type-name .ensures .0), type-short (c .before .before .before .before .before .before .before .before .before .before .before .before .before .before .before .before .before .before .before .before .args .e .now)) }
+returns c = let a = c .before .before .before .before .before .before .before .before .before .before .before .before .before .before .before .before .before .before .before .before .args in record { wrote = simp (← c .before .before .before .before .before .before .before .before .before .before .before .before .before .before .before .before .name .ensures .0, ← c .before .before .before .before .before .before .before .type-name .ensures .0) (after (c .before .before .before .before .before .before .before .before .before .before .before .before .before .before .before .put-hex .ensures .wrote) (after (c .before .before .before .before .before .before .before .before .before .before .before .put-u8 .ensures) (after (c .before .before .before .before .before .before .put-hex2 .ensures .wrote) (c .before .before .put-u82 .ensures)))); low = omega (arith, ap length (c .before .before .before .before .before .before .before .before .before .before .before .before .before .before .before .before .name .ensures .0), name-short (a .checked) (a .e .now), ap length (c .before .before .before .before .before .before .before .type-name .ensures .0), type-short (a .checked) (a .e .now)) }
 
 pub put-names-spec : {M : Type 1} → statement M
 put-names-spec =

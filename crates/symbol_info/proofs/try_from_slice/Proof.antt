@@ -18,13 +18,16 @@ read-entry-requires c κs = search needs
 enum-known-why : tie.Need-enum-known-why
 enum-known-why c = search needs
 
+refused-requires : tie.Need-refused-requires
+refused-requires c κs = search needs
+
 returns : tie.Need-returns
 unfolding symbolRead
 returns c = simp (← c .read-entry .ensures, ← c .before .part-of .ensures .0, c .before .before .before .size .given .1, ← c .before .before .before .before .before .direct-claim .ensures)
 
 returns-2 : tie.Need-returns-2
 unfolding symbolRead
-returns-2 c = simp (c .before .why .given .1, ← c .before .before .before .direct-claim .ensures)
+returns-2 c = simp (← c .refused .ensures, c .before .before .why .given .1, ← c .before .before .before .before .direct-claim .ensures)
 
 pub try-from-slice-spec : {M : Type 1} → statement M
 try-from-slice-spec =
@@ -35,5 +38,6 @@ try-from-slice-spec =
     part-of-requires
     read-entry-requires
     enum-known-why
+    refused-requires
     returns
     returns-2)
