@@ -18,7 +18,7 @@ use Rattle.names.specs.Near.{low, endsNear}
 use Rattle.names.proofs.Laws.{low-small, other-length, ends-differ, ends-none, ends-last}
 use Rattle.refusal.specs.Refusal.{limit}
 use Rattle.refusal.specs.Writing.{Bytes, Refuse}
-use Rattle.refusal.specs.Ends.{endsIn, byChecked}
+use Rattle.refusal.specs.Ends.{presentMode, checkedMode, endsIn, byChecked}
 use Rattle.refusal.specs.declared.Checked.{Checked}
 use Rattle.refusal.specs.declared.Checked.the-variants as checks
 use Rattle.entry.specs.Entry.{claimAt}
@@ -199,6 +199,38 @@ module _ (s name : List ℕ) (at : ℕ) where
   pub likely-room : likely s name at ≡ true → 30 + length name ≤ length s - at
   unfolding likely
   likely-room h = ltb-false (length s - at) (30 + length name) (likely-by (ltb (length s - at) (30 + length name)) _ h)
+
+-- what the checked mode accepts the present mode accepts, so a name is found in a mode where the present mode finds it and the mode accepts its entry
+weaker : (p q : Bool) (c : Checked) → (if p then false else if q then false else byChecked c true (λ why. false)) ≡ true → (if p then false else if q then false else true) ≡ true
+weaker true q c h = h
+weaker false true c h = h
+weaker false false c h = refl
+
+accepted-present : (s : List ℕ) (at : ℕ) → accepted checkedMode s at ≡ true → accepted presentMode s at ≡ true
+unfolding accepted symbolStep endsIn
+accepted-present s at h = by (claimAt s at .met) refl
+  where
+    by : (m : Met) → claimAt s at .met ≡ m → accepted presentMode s at ≡ true
+    by met.Finished e = absurd (not-both h (simp e))
+    by (met.Refused why) e = absurd (not-both h (simp e))
+    by (met.Entry size) e =
+        let own : List ℕ = part s at size in
+        simp e (light presentMode (λ l n. true) false own ∙ weaker (ltb (length own) 30) (ltb (length own) (stringsEnd own)) (endsOf checkedMode own) (sym (light checkedMode (λ l n. true) false own) ∙ simp e at h))
+
+sides : (c p t : Bool) → (t ≡ true → p ≡ true) → (if c then t else false) ≡ (if (if c then p else false) then t else false)
+sides false p t h = refl
+sides true true t h = refl
+sides true false false h = refl
+sides true false true h = absurd (not-both (h refl) refl)
+
+name-held : (mode : Bool) (s name : List ℕ) (at : ℕ) → names mode s name at ≡ (if names presentMode s name at then (if mode then accepted checkedMode s at else true) else false)
+name-held false s name at = sym (same-so-far (names presentMode s name at))
+name-held true s name at =
+    name-first checkedMode s name at ∙ sides (carries s name at) (accepted presentMode s at) (accepted checkedMode s at) (accepted-present s at)
+    ∙ ap (λ (t : Bool). if t then accepted checkedMode s at else false) (sym (name-first presentMode s name at))
+
+pub name-by : (mode : Bool) (s name : List ℕ) (at : ℕ) {p h : Bool} → names presentMode s name at ≡ p → (if mode then accepted checkedMode s at else true) ≡ h → names mode s name at ≡ (if p then h else false)
+name-by mode s name at e f = name-held mode s name at ∙ simp (e, f)
 
 -- two numbers in one
 both-by : (x n a b : ℕ) → a < 32 → b < 32 → (p q : Bool) → eqb x n ≡ p → eqb a b ≡ q → eqb (x * 32 + a) (n * 32 + b) ≡ (if p then q else false)

@@ -10,9 +10,11 @@ ghost use mathlib.Core.Bool.{true, false};
 ghost use lib.ListN.{length};
 ghost use Rattle.refusal.specs.Refusal.{limit};
 ghost use Rattle.refusal.specs.Writing.{Writes};
+ghost use Rattle.refusal.specs.Ends.{presentMode, checkedMode};
+ghost use Rattle.le.specs.Le.{if_then_else_};
 ghost use Rattle.entry.specs.Walk.{stands, steps, any};
 ghost use Rattle.walk.specs.Walk.{stepIs};
-ghost use Rattle.index.specs.Steps.{byRecord, names};
+ghost use Rattle.index.specs.Steps.{byRecord, accepted, names};
 ghost use Rattle.index.specs.Index.{starts, indexing, find, findIndexed};
 ghost use Rattle.index.specs.Inside.{accepts, lookAt, likely, tallyOf};
 ghost use Rattle.le.specs.Put.{put};
@@ -117,16 +119,27 @@ fn likely_at_once(bytes: &[u8], at: usize, name: &[u8]) -> bool
     own == n * 32 + names::low(name[last]) as usize
 }
 
-// Whether the entry at a place has the name asked for, where that is likely. The rest of it is looked at only where it has.
-fn named(bytes: &[u8], at: usize, name: &[u8], checked: bool) -> bool
+// Whether the entry at a place has the name asked for, where that is likely, by what the present mode accepts. The rest of it is looked at only where it has.
+fn named(bytes: &[u8], at: usize, name: &[u8]) -> bool
     requires { ⌜ likely (now bytes) (now name) at ≡ true ⌝ }
-    ensures { λ r. ⌜ r ≡ names checked (now (bytes .entry)) (now (name .entry)) at ⌝ }
+    ensures { λ r. ⌜ r ≡ names presentMode (now (bytes .entry)) (now (name .entry)) at ⌝ }
 {
     if names::same_name(bytes, at + 30, name) {
-        let looked = look_at(bytes, at, checked);
+        let looked = look_at(bytes, at, refusal::PRESENT);
         return looked.accepted;
     }
     false
+}
+
+// Whether an entry that has the name is accepted in the mode too. Asked only of such entries, so that a name that differs costs the same in both modes.
+fn holds(bytes: &[u8], at: usize, checked: bool) -> bool
+    ensures { λ r. ⌜ r ≡ (if checked then accepted checkedMode (now (bytes .entry)) at else true) ⌝ }
+{
+    if checked {
+        let seen = look_at(bytes, at, refusal::CHECKED);
+        return seen.accepted;
+    }
+    true
 }
 
 fn count_accepted(bytes: &[u8], checked: bool) -> Tally
@@ -212,8 +225,10 @@ pub fn find(bytes: &[u8], checked: bool, name: &[u8]) -> FindAnswer
         match met {
             Met::Entry(_) => {
                 if likely_at_once(bytes, here, name) {
-                    if named(bytes, here, name, checked) {
-                        return FindAnswer::Found(here);
+                    if named(bytes, here, name) {
+                        if holds(bytes, here, checked) {
+                            return FindAnswer::Found(here);
+                        }
                     }
                 }
             }
@@ -236,8 +251,10 @@ pub fn find_indexed(bytes: &[u8], checked: bool, slots: &[u32], name: &[u8]) -> 
         let at = slots[i] as usize;
         i += 1;
         if likely(bytes, at, name) {
-            if named(bytes, at, name, checked) {
-                return FindAnswer::Found(at);
+            if named(bytes, at, name) {
+                if holds(bytes, at, checked) {
+                    return FindAnswer::Found(at);
+                }
             }
         }
     }

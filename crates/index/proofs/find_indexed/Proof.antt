@@ -1,3 +1,4 @@
+use mathlib.Core.Path.{refl}
 use native.Mathlib.Omega.{arith}
 use borrow.Author.Needs.{needs}
 use borrow.Author.Tests.{lt-ltb, le-ltb}
@@ -8,7 +9,7 @@ use Rattle.index.specs.Steps.{names}
 use Rattle.index.specs.Index.{firstOf, findIndexed}
 use Prim.Native.Nat.{_-_}
 use mathlib.Core.Path.{_≡_, _∙_, sym}
-use Rattle.index.proofs.Laws.{first-turn, first-end, not-likely}
+use Rattle.index.proofs.Laws.{name-by, first-turn, first-end, not-likely}
 use Rattle.index.proofs.find_indexed.Statement.{statement}
 use Rattle.index.proofs.find_indexed.Tie as tie
 
@@ -44,20 +45,29 @@ likely-requires c κs = search needs
 named-requires : tie.Need-named-requires Inv-loop μ-loop
 named-requires c κs = sym (c .before .likely .ensures) ∙ c .if2 .taken
 
+holds-requires : tie.Need-holds-requires Inv-loop μ-loop
+holds-requires c κs = search needs
+
 returns-2 : tie.Need-returns-2 Inv-loop μ-loop
-returns-2 c = sym (first-turn _ _ _ _ (c .before .before .before .before .before .loop-test .taken) ∙ simp (← c .before .named .ensures, c .if3 .taken)) ∙ c .before .before .before .before .before .before .loop .inv
+returns-2 c = sym (first-turn _ _ _ _ (c .before .before .before .before .before .before .before .loop-test .taken) ∙ simp (name-by (c .before .before .before .before .before .before .before .before .before .before .before .before .before .args .checked) _ _ _ (sym (c .before .before .before .named .ensures) ∙ c .before .before .if3 .taken) (sym (c .before .holds .ensures) ∙ c .if4 .taken))) ∙ c .before .before .before .before .before .before .before .before .loop .inv
 
 loop-less : tie.Need-loop-less Inv-loop μ-loop
 loop-less c = search needs
 
 loop-again : tie.Need-loop-again Inv-loop μ-loop
-loop-again c = sym (first-turn _ _ _ _ (c .before .before .before .before .before .loop-test .taken) ∙ simp (← c .before .named .ensures, c .if3 .left)) ∙ c .before .before .before .before .before .before .loop .inv
+loop-again c = sym (first-turn _ _ _ _ (c .before .before .before .before .before .before .before .loop-test .taken) ∙ simp (name-by (c .before .before .before .before .before .before .before .before .before .before .before .before .before .args .checked) _ _ _ (sym (c .before .before .before .named .ensures) ∙ c .before .before .if3 .taken) (sym (c .before .holds .ensures) ∙ c .if4 .left))) ∙ c .before .before .before .before .before .before .before .before .loop .inv
 
 loop-less-2 : tie.Need-loop-less-2 Inv-loop μ-loop
 loop-less-2 c = search needs
 
 loop-again-2 : tie.Need-loop-again-2 Inv-loop μ-loop
-loop-again-2 c = sym (first-turn _ _ _ _ (c .before .before .before .loop-test .taken) ∙ simp (not-likely (c .before .before .before .before .before .before .before .before .before .args .checked) _ _ _ (sym (c .before .likely .ensures) ∙ c .if2 .left))) ∙ c .before .before .before .before .loop .inv
+loop-again-2 c = sym (first-turn _ _ _ _ (c .before .before .before .before .before .loop-test .taken) ∙ simp (name-by (c .before .before .before .before .before .before .before .before .before .before .before .args .checked) _ _ _ (sym (c .before .named .ensures) ∙ c .if3 .left) refl)) ∙ c .before .before .before .before .before .before .loop .inv
+
+loop-less-3 : tie.Need-loop-less-3 Inv-loop μ-loop
+loop-less-3 c = search needs
+
+loop-again-3 : tie.Need-loop-again-3 Inv-loop μ-loop
+loop-again-3 c = sym (first-turn _ _ _ _ (c .before .before .before .loop-test .taken) ∙ simp (not-likely (c .before .before .before .before .before .before .before .before .before .args .checked) _ _ _ (sym (c .before .likely .ensures) ∙ c .if2 .left))) ∙ c .before .before .before .before .loop .inv
 
 returns-3 : tie.Need-returns-3 Inv-loop μ-loop
 returns-3 c = sym (first-end _ _ _ _ (c .loop-test .left)) ∙ c .before .loop .inv
@@ -76,9 +86,12 @@ find-indexed-spec =
     add-i
     likely-requires
     named-requires
+    holds-requires
     returns-2
     loop-less
     loop-again
     loop-less-2
     loop-again-2
+    loop-less-3
+    loop-again-3
     returns-3)

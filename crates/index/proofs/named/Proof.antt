@@ -1,7 +1,7 @@
 use native.Mathlib.Omega.{arith}
-use borrow.Author.Needs.{needs}
 use mathlib.Core.Path.{_∙_, sym}
 use Rattle.index.proofs.Laws.{name-decides, likely-room, looked-accepted}
+use borrow.Author.Needs.{needs}
 use Rattle.index.proofs.named.Statement.{statement}
 use Rattle.index.proofs.named.Tie as tie
 
@@ -21,4 +21,5 @@ returns-2 : tie.Need-returns-2
 returns-2 c = sym (name-decides _ _ _ _ (c .before .before .before .before .pre) ∙ simp (← c .before .same-name .ensures, c .if1 .left))
 
 pub named-spec : {M : Type 1} → statement M
-named-spec = tie.close (tie.spec add-same-name same-name-requires look-at-requires returns returns-2)
+named-spec =
+    tie.close (tie.spec add-same-name same-name-requires look-at-requires returns returns-2)
