@@ -69,3 +69,16 @@ module _ (x y z u w : Met) (at n c : ℕ) (h : at < n) where
 pub moves-on : (s : List ℕ) (at : ℕ) → at < length s → at ≤ claimAt s at .next
 unfolding claimAt
 moves-on s at h = moves-by _ _ _ _ _ at (length s) (le4 s at) h (leb (length s) at) (ltb limit (length s)) (ltb (length s - at) 4) (ltb (length s - at) (le4 s at))
+
+module _ (x y z u w : Met) (at n c : ℕ) (h : at < n) where
+  within-by : (p q r t : Bool) → ltb (n - at) c ≡ t → (if p then claimed x at else if q then claimed y n else if r then claimed z n else if t then claimed u n else claimed w (at + c)) .next ≤ n
+  within-by true q r t e = omega arith
+  within-by false true r t e = omega arith
+  within-by false false true t e = omega arith
+  within-by false false false true e = omega arith
+  within-by false false false false e = omega (arith, ltb-false (n - at) c e)
+
+-- nor beyond the end
+pub moves-within : (s : List ℕ) (at : ℕ) → at < length s → claimAt s at .next ≤ length s
+unfolding claimAt
+moves-within s at h = within-by _ _ _ _ _ at (length s) (le4 s at) h (leb (length s) at) (ltb limit (length s)) (ltb (length s - at) 4) (ltb (length s - at) (le4 s at)) refl

@@ -67,7 +67,7 @@ pub whole : (s : List ℕ) → steps s ≡ rest s 0
 unfolding steps
 whole s = rw sub-zero
 
-rest-end : (s : List ℕ) (at : ℕ) → length s ≤ at → rest s at ≡ []
+pub rest-end : (s : List ℕ) (at : ℕ) → length s ≤ at → rest s at ≡ []
 unfolding stepsFrom
 rest-end s at h = let e : length s - at ≡ 0 = omega arith in rw e
 
@@ -79,7 +79,7 @@ rest-from s at (suc n) h k =
     let b : at < claimAt s at .next = omega (arith, moves-on s at h, eqb-false (claimAt s at .next) at q) in
     same-steps s n (length s - claimAt s at .next) (claimAt s at .next) (omega arith) (omega arith)))
 
-rest-step : (s : List ℕ) (at : ℕ) → at < length s → rest s at ≡ at ∷ (if stands s at then [] else rest s (claimAt s at .next))
+pub rest-step : (s : List ℕ) (at : ℕ) → at < length s → rest s at ≡ at ∷ (if stands s at then [] else rest s (claimAt s at .next))
 rest-step s at h = rest-from s at (length s - at) h (omega arith)
 
 -- the end bytes that a mode asks of an entry

@@ -26,9 +26,9 @@ pub enum FindAnswer {
 }
 
 // Whether a step gives a record, and where the next one begins.
-struct Looked {
-    accepted: bool,
-    next: usize,
+pub struct Looked {
+    pub accepted: bool,
+    pub next: usize,
 }
 
 enum Tally {
@@ -65,7 +65,7 @@ fn accepts(e: &[u8], checked: bool) -> bool
     true
 }
 
-fn look_at(bytes: &[u8], at: usize, checked: bool) -> Looked
+pub fn look_at(bytes: &[u8], at: usize, checked: bool) -> Looked
     ensures { λ r. ⌜ r ≡ lookAt checked (now (bytes .entry)) at ⌝ }
 {
     let claimed = entry::claim_at(bytes, at);

@@ -9,6 +9,10 @@ use Rattle.refusal.specs.declared.Written.{Written}
 use Rattle.refusal.specs.declared.Written.the-variants as written
 use Rattle.refusal.specs.Writing.{Writing, leaves}
 use Rattle.refusal.specs.Writing as writing
+use Rattle.salvage.specs.declared.Salvaged.{Salvaged}
+use Rattle.salvage.specs.declared.Salvaged.the-variants as salvaged
+use Rattle.salvage.specs.Both.{Writings}
+use Rattle.salvage.specs.Both as both
 use Rattle.attr.specs.declared.AttributeAnswer.{AttributeAnswer}
 use Rattle.attr.specs.declared.AttributeAnswer.the-variants as attribute
 use Rattle.refactor.specs.declared.RefactorAnswer.{RefactorAnswer}
@@ -54,6 +58,17 @@ writtenTold (written.Refused why) = figuresOf why
 pub record WritesTold (w : Writing) (old new : List ℕ) (status : ℕ) (answer : List ℕ) : Type 0 where
   pub tells : Tells (writtenTold (writing.answer w (length old))) status answer
   pub left : new ≡ leaves w old
+
+-- how many bytes and how many slots were written
+abbrev pub salvagedTold : Salvaged → Figures
+salvagedTold (salvaged.Done bytes slots) = done bytes slots
+salvagedTold (salvaged.Refused why) = figuresOf why
+
+-- the promise of a call that writes into two lent buffers: each before and after
+pub record WritesBothTold (w : Writings) (out runs out' runs' : List ℕ) (status : ℕ) (answer : List ℕ) : Type 0 where
+  pub tells : Tells (salvagedTold (both.answer w (length out) (length runs))) status answer
+  pub left-bytes : out' ≡ both.leaves w out runs .0
+  pub left-slots : runs' ≡ both.leaves w out runs .1
 
 -- where it starts
 abbrev pub foundTold : FindAnswer → Figures

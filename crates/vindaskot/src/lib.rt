@@ -29,8 +29,9 @@ ghost use Rattle.field_walk.specs.Walk as fields;
 ghost use Rattle.symbol_writer.specs.Writing.{symbolWriting, partsOf};
 ghost use Rattle.field_writer.specs.Writing.{fieldWriting};
 ghost use Rattle.index.specs.Index.{indexing, find, findIndexed};
+ghost use Rattle.salvage.specs.Salvage.{salvaging};
 ghost use Rattle.text.specs.Text.{decodeWriting, encodeWriting};
-ghost use Rattle.told.specs.Told.{Tells, WritesTold, foundTold, chainTold, symbolFlagsTold, symbol2FlagsTold, typeFlagsTold, endTold, attributeTold, refactorTold, symbolTold, fieldTold};
+ghost use Rattle.told.specs.Told.{Tells, WritesTold, WritesBothTold, foundTold, chainTold, symbolFlagsTold, symbol2FlagsTold, typeFlagsTold, endTold, attributeTold, refactorTold, symbolTold, fieldTold};
 ghost use Rattle.told.specs.Slots.{symbolSlotsAfter, fieldSlotsAfter, symbolGuidAfter, fieldGuidAfter, attributeSlotsAfter, refactorSlotsAfter};
 ghost use Rattle.vindaskot.specs.Lent.{guidChecked, lentGuid, symbolNumbers, fieldNumbers};
 
@@ -483,6 +484,18 @@ pub extern "C" fn vindaskot_find_indexed(
         index::find_indexed(bytes, refusal::PRESENT, slots, name),
         answer,
     )
+}
+
+#[no_mangle]
+pub extern "C" fn vindaskot_salvage(
+    bytes: &[u8],
+    out: &mut [u8],
+    runs: &mut [u32],
+    answer: &mut [u64; 2],
+) -> u32
+    ensures { λ r. ⌜ WritesBothTold (salvaging presentMode (now (bytes .entry))) (now (out .entry)) (now (runs .entry)) (now (out .exit)) (now (runs .exit)) r (now (answer .exit)) ⌝ }
+{
+    modes::vindaskot_salvage_in(bytes, refusal::PRESENT, out, runs, answer)
 }
 
 #[no_mangle]

@@ -10,7 +10,8 @@ ghost use Rattle.field.specs.Field.{fieldRead};
 ghost use Rattle.field.specs.Questions.{fieldAttribute, fieldAttributeNamed};
 ghost use Rattle.field_walk.specs.Walk as fields;
 ghost use Rattle.index.specs.Index.{indexing, find, findIndexed};
-ghost use Rattle.told.specs.Told.{Tells, WritesTold, foundTold, chainTold, attributeTold, refactorTold, symbolTold, fieldTold};
+ghost use Rattle.salvage.specs.Salvage.{salvaging};
+ghost use Rattle.told.specs.Told.{Tells, WritesTold, WritesBothTold, foundTold, chainTold, attributeTold, refactorTold, symbolTold, fieldTold};
 ghost use Rattle.told.specs.Slots.{symbolSlotsAfter, fieldSlotsAfter, symbolGuidAfter, fieldGuidAfter, attributeSlotsAfter, refactorSlotsAfter};
 
 #[no_mangle]
@@ -261,4 +262,17 @@ pub extern "C" fn vindaskot_find_indexed_in(
     ensures { λ r. ⌜ Tells (foundTold (findIndexed checked (now (bytes .entry)) (now (slots .entry)) (now (name .entry)))) r (now (answer .exit)) ⌝ }
 {
     told::found(index::find_indexed(bytes, checked, slots, name), answer)
+}
+
+#[no_mangle]
+pub extern "C" fn vindaskot_salvage_in(
+    bytes: &[u8],
+    checked: bool,
+    out: &mut [u8],
+    runs: &mut [u32],
+    answer: &mut [u64; 2],
+) -> u32
+    ensures { λ r. ⌜ WritesBothTold (salvaging checked (now (bytes .entry))) (now (out .entry)) (now (runs .entry)) (now (out .exit)) (now (runs .exit)) r (now (answer .exit)) ⌝ }
+{
+    told::salvaged(salvage::salvage(bytes, checked, out, runs), answer)
 }

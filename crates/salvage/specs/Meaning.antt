@@ -1,0 +1,59 @@
+-- What a salvage means, in a mode, where it answers that it wrote.
+use Prim.Native.Nat.{ℕ, suc, _+_, _<_}
+use mathlib.Core.Path.{_≡_}
+use mathlib.Core.Bool.{Bool}
+use mathlib.Core.List.{List, [], _∷_, map}
+use lib.ListN.{length, take}
+use Rattle.entry.specs.Tells.{Tells, Entry, Refused, End}
+use Rattle.entry.specs.Walk.{steps, walk}
+use Rattle.walk.specs.Walk.{symbolStep}
+use Rattle.walk.specs.Told.{Symbol, stepTold, cursorOf}
+use Rattle.index.specs.Index.{starts}
+use Rattle.salvage.specs.declared.Salvaged.the-variants.{Done}
+use Rattle.salvage.specs.Both.{Both, WritesBoth}
+use Rattle.salvage.specs.Pieces.{Piece, Kept, Dropped, pieces, entriesOf, runsOf}
+use Rattle.salvage.specs.Salvage.{salvaging}
+
+-- pieces from a place on to another, none of them empty: the first begins there, each begins where the one before it ended, the last ends where they end
+pub data Cover (end : ℕ) : ℕ → List Piece → Type 0 where
+  done : Cover end end []
+  kept : {at long : ℕ} {more : List Piece} → 0 < long → Cover end (at + long) more → Cover end at (Kept at long ∷ more)
+  dropped : {at long number : ℕ} {more : List Piece} → 0 < long → Cover end (at + long) more → Cover end at (Dropped at long number ∷ more)
+
+-- where the entries among some pieces begin
+unfoldable pub startsOf : List Piece → List ℕ
+startsOf [] = []
+startsOf (Kept at long ∷ more) = at ∷ startsOf more
+startsOf (Dropped at long number ∷ more) = startsOf more
+
+-- what a walk told, without its refusals: its records one after another from a place on, and then the end
+unfoldable pub relaid : {S : Type 0} → ℕ → List (Tells S) → List (Tells S)
+relaid at [] = End at ∷ []
+relaid at (Entry r size next ∷ more) = Entry r size (at + size) ∷ relaid (at + size) more
+relaid at (Refused figures next ∷ more) = relaid at more
+relaid at (End next ∷ more) = relaid at more
+
+-- what each step of the walk over an upload tells, and what the walk over another tells in at most so many steps
+abbrev pub stepsTold : Bool → List ℕ → List (Tells Symbol)
+stepsTold mode s = map (λ at. stepTold mode s (symbolStep mode s at)) (steps s)
+
+abbrev pub walkTold : Bool → List ℕ → ℕ → List (Tells Symbol)
+walkTold mode s most = map (stepTold mode s) (walk (symbolStep mode) cursorOf s 0 most)
+
+-- an upload, what was kept of it and the runs that were dropped
+pub record Salvages (mode : Bool) (s new runs : List ℕ) : Type 0 where
+  pub copied : new ≡ entriesOf s (pieces mode s)
+  pub listed : runs ≡ runsOf (pieces mode s)
+  -- both together are the upload, without overlap
+  pub covered : Cover (length s) 0 (pieces mode s)
+  -- the entries kept are those that the index of starts names
+  pub named : startsOf (pieces mode s) ≡ starts mode s
+  -- the walk over the new upload gives their records, and then the end; more steps tell nothing more
+  pub walked : (spare : ℕ) → walkTold mode new (suc (length (starts mode s) + spare)) ≡ relaid 0 (stepsTold mode s)
+  -- a second salvage drops nothing and gives the same bytes
+  pub again : salvaging mode new ≡ Both new []
+
+abbrev pub SalvageMeant : Type 0
+SalvageMeant =
+    (mode : Bool) (s out runs out' runs' : List ℕ) (bytes slots : ℕ)
+    → WritesBoth (salvaging mode s) out runs out' runs' (Done bytes slots) → Salvages mode s (take bytes out') (take slots runs')
