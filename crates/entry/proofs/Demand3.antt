@@ -41,10 +41,10 @@ module _ {S T : Type 0} {step : List ℕ → ℕ → T} {cursor : T → ℕ} {to
   pub moves : (s : List ℕ) (at : ℕ) → cursor (step s at) ≡ claimAt s at .next
   moves s at = ap cursor (kind .is s at) ∙ by-met (claimAt s at .met) (claimAt s at .next) (λ size. part s at size)
 
-  abbrev tells : List ℕ → ℕ → ℕ → List (Tells S)
+  abbrev pub tells : List ℕ → ℕ → ℕ → List (Tells S)
   tells s at n = map (told s) (walk step cursor s at n)
 
-  tells-end : (s : List ℕ) (at n : ℕ) → length s ≤ at → tells s at (suc n) ≡ End at ∷ []
+  pub tells-end : (s : List ℕ) (at n : ℕ) → length s ≤ at → tells s at (suc n) ≡ End at ∷ []
   unfolding walk
   tells-end s at n h =
       let t : told s (step s at) ≡ End at = ap (told s) (kind .is s at ∙ simp (claim-end s at h)) ∙ kind .end-told s at in
@@ -54,7 +54,7 @@ module _ {S T : Type 0} {step : List ℕ → ℕ → T} {cursor : T → ℕ} {to
   tells-on s at n next t h e m =
       ap (map (told s)) (walk-on step cursor moves s at n (lt-leb (length s) at h)) ∙ simp (e, m)
 
-  tells-entry : (p e q : List ℕ) (n : ℕ) (r : S) → Whole e → length (p ++ (e ++ q)) ≤ limit
+  pub tells-entry : (p e q : List ℕ) (n : ℕ) (r : S) → Whole e → length (p ++ (e ++ q)) ≤ limit
       → ((s : List ℕ) (at : ℕ) → part s at (length e) ≡ e → told s (entry e (at + length e)) ≡ Entry r (length e) (at + length e))
       → tells (p ++ (e ++ q)) (length p) (suc n) ≡ Entry r (length e) (length p + length e) ∷ tells (p ++ (e ++ q)) (length p + length e) n
   tells-entry p e q n r w h each =

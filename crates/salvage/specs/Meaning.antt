@@ -8,7 +8,9 @@ use Rattle.entry.specs.Tells.{Tells, Entry, Refused, End}
 use Rattle.entry.specs.Walk.{steps, walk}
 use Rattle.walk.specs.Walk.{symbolStep}
 use Rattle.walk.specs.Told.{Symbol, stepTold, cursorOf}
-use Rattle.index.specs.Index.{starts}
+use Rattle.refusal.specs.Writing.{Writes}
+use Rattle.refusal.specs.declared.Written.the-variants as index
+use Rattle.index.specs.Index.{starts, indexing}
 use Rattle.salvage.specs.declared.Salvaged.the-variants.{Done}
 use Rattle.salvage.specs.Both.{Both, WritesBoth}
 use Rattle.salvage.specs.Pieces.{Piece, Kept, Dropped, pieces, entriesOf, runsOf}
@@ -17,8 +19,8 @@ use Rattle.salvage.specs.Salvage.{salvaging}
 -- pieces from a place on to another, none of them empty: the first begins there, each begins where the one before it ended, the last ends where they end
 pub data Cover (end : ℕ) : ℕ → List Piece → Type 0 where
   done : Cover end end []
-  kept : {at long : ℕ} {more : List Piece} → 0 < long → Cover end (at + long) more → Cover end at (Kept at long ∷ more)
-  dropped : {at long number : ℕ} {more : List Piece} → 0 < long → Cover end (at + long) more → Cover end at (Dropped at long number ∷ more)
+  entry : {at long : ℕ} {more : List Piece} → 0 < long → Cover end (at + long) more → Cover end at (Kept at long ∷ more)
+  run : {at long number : ℕ} {more : List Piece} → 0 < long → Cover end (at + long) more → Cover end at (Dropped at long number ∷ more)
 
 -- where the entries among some pieces begin
 unfoldable pub startsOf : List Piece → List ℕ
@@ -46,10 +48,13 @@ pub record Salvages (mode : Bool) (s new runs : List ℕ) : Type 0 where
   pub listed : runs ≡ runsOf (pieces mode s)
   -- both together are the upload, without overlap
   pub covered : Cover (length s) 0 (pieces mode s)
-  -- the entries kept are those that the index of starts names
+  -- the entries kept are those that the index of starts names, and so those of an index that was built
   pub named : startsOf (pieces mode s) ≡ starts mode s
+  pub indexed : (old slots : List ℕ) (n : ℕ) → Writes (indexing mode s) old slots (index.Done n) → startsOf (pieces mode s) ≡ take n slots
   -- the walk over the new upload gives their records, and then the end; more steps tell nothing more
   pub walked : (spare : ℕ) → walkTold mode new (suc (length (starts mode s) + spare)) ≡ relaid 0 (stepsTold mode s)
+  -- where nothing was dropped the same bytes come back
+  pub undamaged : runs ≡ [] → new ≡ s
   -- a second salvage drops nothing and gives the same bytes
   pub again : salvaging mode new ≡ Both new []
 
