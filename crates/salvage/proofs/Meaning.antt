@@ -30,6 +30,7 @@ use Rattle.salvage.specs.Pieces.{Piece, Kept, Dropped, pieceEnd, dropped
 use Rattle.salvage.specs.Salvage.{kept, dropped, salvaging}
 use Rattle.salvage.specs.Meaning.{Cover, done, entry, run, startsOf, relaid, Salvages, SalvageMeant}
 use Rattle.salvage.proofs.Laws.{piece-ahead, piece-within, piecesFrom, pieces-whole, pieces-end, pieces-on, kept-whole, dropped-whole, salvage-both}
+use Rattle.salvage.proofs.Reasons.{reason}
 use Rattle.salvage.proofs.Entries.{Good, size, record-of, told-entry, Here, here, joined, laid, walk-laid, all-kept, none-dropped}
 
 -- induction over the pieces of an upload, from the last one on
@@ -51,47 +52,47 @@ module _ (mode : Bool) (s : List ℕ) (P : ℕ → List Piece → Type 0) (end :
   pieces-all = subst (P 0) (sym (pieces-whole mode s)) (from (length s) 0 (omega arith) (omega arith))
 
 -- they cover it
-module _ (mode : Bool) (s : List ℕ) where
-  cover-by : (at : ℕ) (more : List Piece) → at < length s → Cover (length s) (pieceEnd s at) more → (x : Bool)
-      → Cover (length s) at ((if x then Kept at (pieceEnd s at - at) else Dropped at (pieceEnd s at - at) (droppedWith mode s at)) ∷ more)
+module _ (mode : Bool) (s : List ℕ) (small : length s ≤ limit) where
+  cover-by : (at : ℕ) (more : List Piece) → at < length s → Cover mode (length s) (pieceEnd s at) more → (x : Bool) → accepted mode s at ≡ x
+      → Cover mode (length s) at ((if x then Kept at (pieceEnd s at - at) else Dropped at (pieceEnd s at - at) (droppedWith mode s at)) ∷ more)
   cover-by at more h on x = by x
     where
       long : 0 < pieceEnd s at - at
       long = omega (arith, piece-ahead s at h)
 
-      on' : Cover (length s) (at + (pieceEnd s at - at)) more
-      on' = let e : pieceEnd s at ≡ at + (pieceEnd s at - at) = omega (arith, piece-ahead s at h) in subst (λ (n : ℕ). Cover (length s) n more) e on
+      on' : Cover mode (length s) (at + (pieceEnd s at - at)) more
+      on' = let e : pieceEnd s at ≡ at + (pieceEnd s at - at) = omega (arith, piece-ahead s at h) in subst (λ (n : ℕ). Cover mode (length s) n more) e on
 
-      by : (x : Bool) → Cover (length s) at ((if x then Kept at (pieceEnd s at - at) else Dropped at (pieceEnd s at - at) (droppedWith mode s at)) ∷ more)
-      by true = entry long on'
-      by false = run long on'
+      by : (x : Bool) → accepted mode s at ≡ x → Cover mode (length s) at ((if x then Kept at (pieceEnd s at - at) else Dropped at (pieceEnd s at - at) (droppedWith mode s at)) ∷ more)
+      by true e = entry long on'
+      by false e = run long (reason mode s at small h e) on'
 
-  covers : Cover (length s) 0 (pieces mode s)
+  covers : Cover mode (length s) 0 (pieces mode s)
   unfolding pieceAt
-  covers = pieces-all mode s (Cover (length s)) done (λ at more h on. cover-by at more h on (accepted mode s at))
+  covers = pieces-all mode s (Cover mode (length s)) done (λ at more h on. cover-by at more h on (accepted mode s at) refl)
 
 -- so what is kept is no longer than the upload
 part-short : (s : List ℕ) (at n : ℕ) → length (part s at n) ≤ n
 unfolding part
 part-short s at n = omega (arith, length-take n (drop at s))
 
-cover-long : (s : List ℕ) (at : ℕ) (ps : List Piece) → Cover (length s) at ps → at + length (entriesOf s ps) ≤ length s
+cover-long : {mode : Bool} (s : List ℕ) (at : ℕ) (ps : List Piece) → Cover mode (length s) at ps → at + length (entriesOf s ps) ≤ length s
 unfolding entriesOf
 cover-long s at ps done = omega arith
 cover-long s at ps (entry {long = long} {more = more} h c) =
     let l = length-append (part s at long) (entriesOf s more) in
     omega (arith, cover-long s (at + long) more c, part-short s at long, l)
-cover-long s at ps (run {long = long} {more = more} h c) = omega (arith, cover-long s (at + long) more c)
+cover-long s at ps (run {long = long} {more = more} h r c) = omega (arith, cover-long s (at + long) more c)
 
 -- and where no run is among them, it is the upload
 no-run : (a : ℕ) (l : List ℕ) → a ∷ l ≡ [] → ⊥
 no-run a l e = let z : suc (length l) ≡ 0 = ap length e in omega arith
 
-cover-all : (s : List ℕ) (at : ℕ) (ps : List Piece) → Cover (length s) at ps → runsOf ps ≡ [] → entriesOf s ps ≡ drop at s
+cover-all : {mode : Bool} (s : List ℕ) (at : ℕ) (ps : List Piece) → Cover mode (length s) at ps → runsOf ps ≡ [] → entriesOf s ps ≡ drop at s
 unfolding entriesOf runsOf
 cover-all s at ps done e = sym (drop-of-length-le s {i = at} (omega arith))
 cover-all s at ps (entry {long = long} {more = more} h c) e = ap (λ (l : List ℕ). part s at long ++ l) (cover-all s (at + long) more c e) ∙ sym (drop-part s at long)
-cover-all s at ps (run h c) e = absurd (no-run _ _ e)
+cover-all s at ps (run h r c) e = absurd (no-run _ _ e)
 
 -- the entries kept are those of the index
 starts-all : (mode : Bool) (s l : List ℕ) → startsOf (map (pieceAt mode s) l) ≡ those (accepted mode s) l
@@ -180,7 +181,7 @@ module _ (mode : Bool) (s : List ℕ) (small : length s ≤ limit) where
   new-is = all .bytes
 
   new-small : length (joined (all .goods)) ≤ limit
-  new-small = omega (arith, cover-long s 0 (pieces mode s) (covers mode s), ap length new-is)
+  new-small = omega (arith, cover-long s 0 (pieces mode s) (covers mode s small), ap length new-is)
 
   again : salvaging mode (joined (all .goods)) ≡ Both (joined (all .goods)) []
   again =
@@ -194,11 +195,11 @@ module _ (mode : Bool) (s : List ℕ) (small : length s ≤ limit) where
       record {
         copied = refl;
         listed = refl;
-        covered = covers mode s;
+        covered = covers mode s small;
         named = starts-all mode s (steps s);
         indexed = λ old slots n w. starts-all mode s (steps s) ∙ sym (built mode s old slots n w .3);
         walked = λ spare. simp (new-is, all .number) (walk-laid mode [] (all .goods) new-small spare ∙ sym (all .told 0));
-        undamaged = λ e. cover-all s 0 (pieces mode s) (covers mode s) e;
+        undamaged = λ e. cover-all s 0 (pieces mode s) (covers mode s small) e;
         again = simp new-is again;
       }
 

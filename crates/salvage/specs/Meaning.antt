@@ -8,6 +8,7 @@ use Rattle.entry.specs.Tells.{Tells, Entry, Refused, End}
 use Rattle.entry.specs.Walk.{steps, walk}
 use Rattle.walk.specs.Walk.{symbolStep}
 use Rattle.walk.specs.Told.{Symbol, stepTold, cursorOf}
+use Rattle.refusal.specs.Ends.{checkedMode}
 use Rattle.refusal.specs.Writing.{Writes}
 use Rattle.refusal.specs.declared.Written.the-variants as index
 use Rattle.index.specs.Index.{starts, indexing}
@@ -16,11 +17,18 @@ use Rattle.salvage.specs.Both.{Both, WritesBoth}
 use Rattle.salvage.specs.Pieces.{Piece, Kept, Dropped, pieces, entriesOf, runsOf}
 use Rattle.salvage.specs.Salvage.{salvaging}
 
+-- the numbers that a piece is dropped with; 16 only in the checked mode
+pub data Reason (mode : Bool) : ℕ → Type 0 where
+  too-short : Reason mode 2
+  mismatch : Reason mode 3
+  zero-claim : Reason mode 10
+  end-byte : mode ≡ checkedMode → Reason mode 16
+
 -- pieces from a place on to another, none of them empty: the first begins there, each begins where the one before it ended, the last ends where they end
-pub data Cover (end : ℕ) : ℕ → List Piece → Type 0 where
-  done : Cover end end []
-  entry : {at long : ℕ} {more : List Piece} → 0 < long → Cover end (at + long) more → Cover end at (Kept at long ∷ more)
-  run : {at long number : ℕ} {more : List Piece} → 0 < long → Cover end (at + long) more → Cover end at (Dropped at long number ∷ more)
+pub data Cover (mode : Bool) (end : ℕ) : ℕ → List Piece → Type 0 where
+  done : Cover mode end end []
+  entry : {at long : ℕ} {more : List Piece} → 0 < long → Cover mode end (at + long) more → Cover mode end at (Kept at long ∷ more)
+  run : {at long number : ℕ} {more : List Piece} → 0 < long → Reason mode number → Cover mode end (at + long) more → Cover mode end at (Dropped at long number ∷ more)
 
 -- where the entries among some pieces begin
 unfoldable pub startsOf : List Piece → List ℕ
@@ -47,7 +55,7 @@ pub record Salvages (mode : Bool) (s new runs : List ℕ) : Type 0 where
   pub copied : new ≡ entriesOf s (pieces mode s)
   pub listed : runs ≡ runsOf (pieces mode s)
   -- both together are the upload, without overlap
-  pub covered : Cover (length s) 0 (pieces mode s)
+  pub covered : Cover mode (length s) 0 (pieces mode s)
   -- the entries kept are those that the index of starts names, and so those of an index that was built
   pub named : startsOf (pieces mode s) ≡ starts mode s
   pub indexed : (old slots : List ℕ) (n : ℕ) → Writes (indexing mode s) old slots (index.Done n) → startsOf (pieces mode s) ≡ take n slots
