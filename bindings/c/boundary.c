@@ -61,6 +61,18 @@ static const char *const groups[GROUPS] = {
     [SKIPPED_METHODS] = "a field accepted beside end bytes of methods that are not 0",
     [UNREAD_ENDS] = "a symbol accepted before unread records whose end byte is not 0",
     [BEHIND_ENDS] = "an entry accepted before a record behind it whose end byte is not 0",
+    [SALVAGES] = "an upload salvaged: status, figures, bytes kept and runs dropped",
+    [SALVAGES_SHORT_OF] = "an upload not salvaged, a lent buffer being too small",
+    [SALVAGES_COVER] = "an upload salvaged: kept entries and dropped runs are the whole of it",
+    [SALVAGES_AGAIN] = "what was kept, walked without a refusal and salvaged again",
+    [RUNS_NONE] = "an upload of which nothing is dropped",
+    [RUNS_SHORT] = "a dropped run, claiming less than a header",
+    [RUNS_TAIL] = "a dropped run, fewer than 4 bytes at the end",
+    [RUNS_STRINGS] = "a dropped run, its strings leaving the entry",
+    [RUNS_BEYOND] = "a dropped run, claiming more than there is",
+    [RUNS_ZERO] = "a dropped run, claiming nothing and going to the end",
+    [RUNS_ENDS] = "a dropped run, an end byte that is not 0",
+    [RUNS_ADJACENT] = "a dropped run right behind another",
     [TEXTS] = "text there and back",
 };
 

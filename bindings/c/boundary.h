@@ -10,6 +10,7 @@
  *   boundary_high.c    bytes 22 and 23 of a symbol
  *   boundary_ends.c    end bytes, which the checked mode looks at
  *   boundary_kinds.c   which of the end bytes an answer is about, so that each kind is counted
+ *   boundary_salvage.c what is kept of a damaged upload, and what is dropped
  *   boundary_random.c  random cases
  */
 #ifndef BOUNDARY_H
@@ -67,6 +68,18 @@ enum group {
     SKIPPED_METHODS,
     UNREAD_ENDS,
     BEHIND_ENDS,
+    SALVAGES,
+    SALVAGES_SHORT_OF,
+    SALVAGES_COVER,
+    SALVAGES_AGAIN,
+    RUNS_NONE,
+    RUNS_SHORT,
+    RUNS_TAIL,
+    RUNS_STRINGS,
+    RUNS_BEYOND,
+    RUNS_ZERO,
+    RUNS_ENDS,
+    RUNS_ADJACENT,
     TEXTS,
     GROUPS
 };
@@ -106,7 +119,7 @@ struct parts {
 };
 
 /* Each slice of a call lies in an area of its own, with a page that faults at either end. */
-enum area { UPLOAD, NAME, TYPE_NAME, COMMENT, GUID, BLOCK, CHAIN, SLOTS, OUT, AREAS };
+enum area { UPLOAD, NAME, TYPE_NAME, COMMENT, GUID, BLOCK, CHAIN, SLOTS, OUT, RUNS, AREAS };
 
 /* Where a slice touches its area's guard page: its end at the page behind it, or its start at the page before it. */
 enum side { AT_END, AT_START, SIDES };
@@ -124,11 +137,13 @@ uint8_t *area(enum area which, size_t len);
 struct bytes lay(enum area which, struct bytes from);
 struct parts laid(const struct parts *from);
 
-/* A buffer to be written, filled with a pattern as the memory around it is. After `watch`, `kept` says whether the bytes
- * around it are what they were, and all of it but its first bytes is still the pattern. */
+/* A buffer to be written, in area OUT or in RUNS, filled with a pattern as the memory around it is. After `watch`,
+ * `kept` says whether the bytes around it are what they were, and all of it but its first bytes is still the pattern.
+ */
 struct room lend(size_t len);
-void watch(struct room room);
-bool kept(struct room room, size_t written);
+struct room lend_runs(size_t slots);
+void watch(enum area which, struct room room);
+bool kept(enum area which, struct room room, size_t written);
 
 /* ---- Calls ---- */
 
@@ -158,6 +173,7 @@ enum function {
     INDEX_BUILD,
     FIND,
     FIND_INDEXED,
+    SALVAGE,
     DECODE,
     ENCODE,
     SYMBOL_READ_IN,
@@ -176,6 +192,7 @@ enum function {
     INDEX_BUILD_IN,
     FIND_IN,
     FIND_INDEXED_IN,
+    SALVAGE_IN,
     FUNCTIONS
 };
 
@@ -240,6 +257,7 @@ struct told call_field_write(const struct parts *parts, struct room out);
 struct told call_index_build(struct bytes bytes, struct room slots);
 struct told call_find(struct bytes bytes, struct bytes name);
 struct told call_find_indexed(struct bytes bytes, struct bytes slots, struct bytes name);
+struct told call_salvage(struct bytes bytes, struct room out, struct room runs);
 struct told call_decode(struct bytes src, struct room out);
 struct told call_encode(struct bytes src, struct room out);
 
@@ -286,6 +304,7 @@ struct told model_find_indexed(struct bytes bytes, struct bytes slots, struct by
 
 /* What would be written, with the room taken as enough. */
 struct told model_index(struct bytes bytes, uint32_t *starts);
+struct told model_salvage(struct bytes bytes, uint8_t *out, uint32_t *runs);
 struct told model_decode(struct bytes src, uint8_t *out);
 struct told model_encode(struct bytes src, uint8_t *out);
 
@@ -341,6 +360,7 @@ void make_records(struct buffer *to);
 void make_upload(struct buffer *to);
 void make_family(struct buffer *to);
 void make_wrong(struct buffer *to);
+void make_damaged(struct buffer *to);
 void make_text(struct buffer *to);
 void damage(struct buffer *to, size_t header);
 
@@ -354,6 +374,9 @@ void try_edges(void);
 void try_capitals(void);
 void try_highs(void);
 void try_ends(void);
+void try_salvages(void);
+void try_salvage(struct bytes bytes);
+void try_salvage_limit(size_t len);
 void try_limits(void);
 void try_random(uint64_t from, uint64_t cases, uint64_t seed_number);
 

@@ -59,6 +59,7 @@ static const struct {
     [INDEX_BUILD] = {"vindaskot_index_build", 0, false, false, false, DONE | NUMBER(5) | NUMBER(10) | NUMBER(6)},
     [FIND] = {"vindaskot_find", 0, false, false, false, DONE | NUMBER(5) | NUMBER(10) | NUMBER(13)},
     [FIND_INDEXED] = {"vindaskot_find_indexed", 0, false, false, false, DONE | NUMBER(5) | NUMBER(13)},
+    [SALVAGE] = {"vindaskot_salvage", 0, false, false, false, DONE | NUMBER(5) | NUMBER(6)},
     [DECODE] = {"vindaskot_decode", 0, false, false, false, DONE | NUMBER(5) | NUMBER(6)},
     [ENCODE] = {"vindaskot_encode", 0, false, false, false, DONE | NUMBER(5) | NUMBER(11) | NUMBER(6)},
     [SYMBOL_READ_IN] = {"vindaskot_symbol_read_in", OF_SYMBOL, true, false, false, DIRECT | ENDS_TOO},
@@ -85,6 +86,7 @@ static const struct {
     [INDEX_BUILD_IN] = {"vindaskot_index_build_in", 0, false, false, false, DONE | NUMBER(5) | NUMBER(10) | NUMBER(6)},
     [FIND_IN] = {"vindaskot_find_in", 0, false, false, false, DONE | NUMBER(5) | NUMBER(10) | NUMBER(13)},
     [FIND_INDEXED_IN] = {"vindaskot_find_indexed_in", 0, false, false, false, DONE | NUMBER(5) | NUMBER(13)},
+    [SALVAGE_IN] = {"vindaskot_salvage_in", 0, false, false, false, DONE | NUMBER(5) | NUMBER(6)},
 };
 
 enum function calling = FUNCTIONS;
@@ -129,7 +131,7 @@ static struct frame *begin(enum function function, size_t cursor)
 
 static struct frame *begin_out(enum function function, struct room out)
 {
-    watch(out);
+    watch(OUT, out);
     return begin(function, 0);
 }
 
@@ -179,17 +181,23 @@ static struct told finish(enum function f, uint32_t status)
     return told;
 }
 
-/* The same for a function that is lent a buffer, of items of so many bytes. */
+/* A lent buffer, of items of so many bytes, of which a call says that it wrote so many. */
+static void finish_room(struct told told, enum area which, struct room room, size_t item, uint64_t items)
+{
+    bool wrote = told.status == VINDASKOT_DONE;
+    bool within = !wrote || items <= room.len / item;
+    CHECK(OUTPUTS, within, "%s wrote %llu where %zu were lent", functions[told.function].name,
+          (unsigned long long)items, room.len / item);
+    CHECK(OUTPUTS, !within || kept(which, room, wrote ? (size_t)items * item : 0),
+          "%s changed bytes of a lent buffer, or beside it, that it may not (status %u, %zu bytes lent)",
+          functions[told.function].name, (unsigned)told.status, room.len);
+}
+
+/* The same for a function that is lent a buffer. */
 static struct told finish_out(enum function f, uint32_t status, struct room out, size_t item)
 {
     struct told told = finish(f, status);
-    bool wrote = status == VINDASKOT_DONE;
-    bool within = !wrote || told.answer[0] <= out.len / item;
-    CHECK(OUTPUTS, within, "%s wrote %llu where %zu were lent", functions[f].name, (unsigned long long)told.answer[0],
-          out.len / item);
-    CHECK(OUTPUTS, !within || kept(out, wrote ? (size_t)told.answer[0] * item : 0),
-          "%s changed bytes of a lent buffer, or beside it, that it may not (status %u, %zu bytes lent)",
-          functions[f].name, (unsigned)status, out.len);
+    finish_room(told, OUT, out, item, told.answer[0]);
     return told;
 }
 
@@ -404,6 +412,21 @@ struct told call_find_indexed(struct bytes b, struct bytes slots, struct bytes n
     const size_t count = slots.len / 4;
     IN_MODE(FIND_INDEXED, 0, vindaskot_find_indexed(b.at, b.len, at, count, n.at, n.len, f->answer),
             vindaskot_find_indexed_in(b.at, b.len, mode == CHECKED, at, count, n.at, n.len, f->answer));
+}
+
+struct told call_salvage(struct bytes b, struct room out, struct room runs)
+{
+    uint32_t *at = (uint32_t *)(void *)runs.at;
+    const size_t slots = runs.len / 4;
+    enum function function = mode == PRESENT ? SALVAGE : SALVAGE_IN;
+    watch(RUNS, runs);
+    struct frame *f = begin_out(function, out);
+    uint32_t status =
+        mode == PRESENT ? vindaskot_salvage(b.at, b.len, out.at, out.len, at, slots, f->answer)
+                        : vindaskot_salvage_in(b.at, b.len, mode == CHECKED, out.at, out.len, at, slots, f->answer);
+    struct told told = finish_out(function, status, out, 1);
+    finish_room(told, RUNS, runs, 4, told.answer[1]);
+    return told;
 }
 
 struct told call_decode(struct bytes src, struct room out)

@@ -103,6 +103,19 @@ static void empty_finds(struct bytes none, lending no_room)
     SAME(EMPTY, call_find_indexed(upload, index, text("Z")), done(0, 0));
 }
 
+static void empty_salvages(struct bytes none, lending no_room)
+{
+    const struct bytes upload = {one_symbol, sizeof one_symbol}, tail = part(upload, 0, 3);
+    const struct room null = {NULL, 0};
+    SAME(EMPTY, call_salvage(none, lend(8), lend_runs(6)), done(0, 0));
+    SAME(EMPTY, call_salvage(none, no_room(), lend_runs(0)), done(0, 0));
+    SAME(EMPTY, call_salvage(none, no_room(), null), done(0, 0));
+    SAME(EMPTY, call_salvage(upload, no_room(), null), refused(6, 37, 0));
+    SAME(EMPTY, call_salvage(upload, lend(37), null), done(37, 0));
+    SAME(EMPTY, call_salvage(tail, no_room(), null), refused(6, VINDASKOT_RUN_SLOTS, 0));
+    SAME(EMPTY, call_salvage(tail, no_room(), lend_runs(VINDASKOT_RUN_SLOTS)), done(0, VINDASKOT_RUN_SLOTS));
+}
+
 /* An attribute whose name is empty, behind one whose value is. */
 static const uint8_t nameless[10] = {1, 0, 'n', 0, 0, 0, 1, 0, 'v', 0};
 
@@ -139,6 +152,7 @@ static void try_empty(struct bytes none, lending no_room)
     empty_reads(none);
     empty_writes(none, no_room);
     empty_finds(none, no_room);
+    empty_salvages(none, no_room);
     empty_names(none);
     empty_texts(none, no_room);
 }
@@ -704,6 +718,7 @@ static void try_mode(void)
     try_capitals();
     try_highs();
     try_ends();
+    try_salvages();
     refused_symbols();
     refused_fields();
     other_statuses();
@@ -927,6 +942,7 @@ void try_limits(void)
                 limit_records(len);
                 limit_finds(len);
                 limit_ends(len);
+                try_salvage_limit(len);
             }
             mode = PRESENT;
             limit_texts(len);

@@ -857,3 +857,62 @@ void damage(struct buffer *b, size_t header)
         default: relength(b, header);
         }
 }
+
+/* ---- Damaged uploads ---- */
+
+static void hurt_claim(struct buffer *e)
+{
+    const size_t claims[] = {0, 1, 2, 3, 4, 4 + below(26), 29, 30, 32, 33, e->len - 1, e->len + 1,
+                             e->len + below(200), 0x7FFFFFFF, 0xFFFFFFFF, (size_t)(any() & 0xFFFFFFFF)};
+    set_claim(e, 0, claims[below(sizeof claims / sizeof *claims)]);
+}
+
+static void hurt_length(struct buffer *e)
+{
+    size_t at = 24 + below(6);
+    e->at[at] = one_in(2) ? 0xFF : (uint8_t)(e->at[at] + 1 + below(3));
+}
+
+/* As much of an entry as is left when its end is gone, and the claim with it: what follows is walked as before. */
+static void hurt_end(struct buffer *e)
+{
+    e->len = 4 + below(e->len - 4);
+    set_claim(e, 0, e->len);
+}
+
+static void hurt(struct buffer *e)
+{
+    switch (below(8)) {
+    case 0: hurt_claim(e); break;
+    case 1: hurt_end(e); break;
+    case 2:
+    case 3:
+    case 4: hurt_length(e); break;
+    case 5:
+    case 6: e->at[ends.at[below(ends.count)]] = no_zero(); break;
+    default: flip(e);
+    }
+}
+
+/* Up to twelve symbols, each of them hurt one time in three, so that hurt ones stand side by side too, or all of them,
+ * or none; then often cut, or with bytes behind the last. */
+void make_damaged(struct buffer *to)
+{
+    static struct buffer entry;
+    size_t way = below(6), end = below(6);
+    for (size_t left = below(13); left > 0; left--) {
+        entry.len = 0;
+        draft_symbol(&made);
+        put_symbol(&entry, &made.parts);
+        ends_of_symbol(0, &made);
+        if (way == 0 || (way > 1 && one_in(3)))
+            hurt(&entry);
+        put(to, whole(&entry));
+    }
+    if (end == 0)
+        to->len -= below(to->len < 90 ? to->len + 1 : 90);
+    else if (end == 1)
+        put_any(to, 1 + below(5));
+    else if (end == 2)
+        put_zeros(to, 1 + below(40));
+}

@@ -69,27 +69,37 @@ static size_t shorter(size_t a, size_t b)
     return a < b ? a : b;
 }
 
-static uint8_t *before(struct room room)
+static uint8_t *before(enum area which, struct room room)
 {
-    return room.at - shorter(AROUND, (size_t)(room.at - low[OUT]));
+    return room.at - shorter(AROUND, (size_t)(room.at - low[which]));
 }
 
-static uint8_t *behind(struct room room)
+static uint8_t *behind(enum area which, struct room room)
 {
     uint8_t *end = room.at + room.len;
-    return end + shorter(AROUND, (size_t)(high[OUT] - end));
+    return end + shorter(AROUND, (size_t)(high[which] - end));
 }
 
-struct room lend(size_t len)
+static struct room lend_in(enum area which, size_t len)
 {
-    struct room room = {area(OUT, len), len};
-    uint8_t *end = behind(room);
-    for (uint8_t *at = before(room); at < end;) {
+    struct room room = {area(which, len), len};
+    uint8_t *end = behind(which, room);
+    for (uint8_t *at = before(which, room); at < end;) {
         size_t n = shorter(PATTERN, (size_t)(end - at));
         memcpy(at, pattern + ((uintptr_t)at & 255), n);
         at += n;
     }
     return room;
+}
+
+struct room lend(size_t len)
+{
+    return lend_in(OUT, len);
+}
+
+struct room lend_runs(size_t slots)
+{
+    return lend_in(RUNS, 4 * slots);
 }
 
 static bool patterned(const uint8_t *at, const uint8_t *end)
@@ -103,21 +113,25 @@ static bool patterned(const uint8_t *at, const uint8_t *end)
     return true;
 }
 
-static uint8_t was_before[AROUND], was_behind[AROUND];
+/* What stood beside the buffers that a call is lent, at most one in each area. */
+static struct beside {
+    uint8_t before[AROUND], behind[AROUND];
+} was[AREAS];
 
-void watch(struct room room)
+void watch(enum area which, struct room room)
 {
     if (room.at == NULL)
         return;
-    memcpy(was_before, before(room), (size_t)(room.at - before(room)));
-    memcpy(was_behind, room.at + room.len, (size_t)(behind(room) - room.at) - room.len);
+    memcpy(was[which].before, before(which, room), (size_t)(room.at - before(which, room)));
+    memcpy(was[which].behind, room.at + room.len, (size_t)(behind(which, room) - room.at) - room.len);
 }
 
-bool kept(struct room room, size_t written)
+bool kept(enum area which, struct room room, size_t written)
 {
     if (room.at == NULL)
         return written == 0;
-    return written <= room.len && patterned(room.at + written, room.at + room.len) &&
-           memcmp(was_before, before(room), (size_t)(room.at - before(room))) == 0 &&
-           memcmp(was_behind, room.at + room.len, (size_t)(behind(room) - room.at) - room.len) == 0;
+    const uint8_t *first = before(which, room), *end = room.at + room.len;
+    return written <= room.len && patterned(room.at + written, end) &&
+           memcmp(was[which].before, first, (size_t)(room.at - first)) == 0 &&
+           memcmp(was[which].behind, end, (size_t)(behind(which, room) - end)) == 0;
 }

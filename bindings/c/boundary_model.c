@@ -1,7 +1,7 @@
-/* What document 01, for finding request W-201, for bytes 22 and 23 request W-205 and for end bytes request W-212 say
- * the answer is, worked out from the bytes in plain C, in the mode that is being tried. It shares no code with the
- * library. Where 01 leaves a choice it follows docs/DECISIONS.md. Slots and flags go by the header's names, so that a
- * header that gives one of them another number is found. */
+/* What document 01, for finding request W-201, for salvage request W-203, for bytes 22 and 23 request W-205 and for end
+ * bytes request W-212 say the answer is, worked out from the bytes in plain C, in the mode that is being tried. It
+ * shares no code with the library. Where 01 leaves a choice it follows docs/DECISIONS.md. Slots and flags go by the
+ * header's names, so that a header that gives one of them another number is found. */
 #include "boundary.h"
 
 const size_t symbol_numbers[4] = {VINDASKOT_SYMBOL_INDEX_GROUP, VINDASKOT_SYMBOL_INDEX_OFFSET, VINDASKOT_SYMBOL_SIZE,
@@ -483,6 +483,30 @@ struct told model_index(struct bytes b, uint32_t *starts)
         at = told.cursor;
     }
     return done(count, 0);
+}
+
+/* W-203: "copies every accepted symbol entry"; "one for each refused step: start, length, refusal number"; "A zero
+ * claim drops everything from there under number 10". */
+struct told model_salvage(struct bytes b, uint8_t *out, uint32_t *runs)
+{
+    uint64_t bytes = 0, slots = 0;
+    if (too_large(b))
+        return refused_size(b.len);
+    for (size_t at = 0, next; at < b.len; at = next) {
+        struct told told = step(b, at, symbol_entry);
+        bool stopped = told.cursor == at;
+        next = stopped ? b.len : told.cursor;
+        if (told.status == VINDASKOT_DONE) {
+            memcpy(out + bytes, b.at + at, next - at);
+            bytes += next - at;
+        } else {
+            runs[slots + VINDASKOT_RUN_START] = (uint32_t)at;
+            runs[slots + VINDASKOT_RUN_LENGTH] = (uint32_t)(next - at);
+            runs[slots + VINDASKOT_RUN_NUMBER] = stopped ? 10 : told.status;
+            slots += VINDASKOT_RUN_SLOTS;
+        }
+    }
+    return done(bytes, slots);
 }
 
 /* W-201: "A to Z equal a to z; every other byte, accented letters included, still equals only itself." By two

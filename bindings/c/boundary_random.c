@@ -557,6 +557,7 @@ static void try_input(struct bytes from, size_t some)
         try_field(b);
         try_walk(b, some);
         try_finds(b, part(from, 0, from.len < 9 ? from.len : 9));
+        try_salvage(b);
     }
     mode = PRESENT;
     try_flags(b);
@@ -818,6 +819,20 @@ static void make_case(size_t kind)
 /* The last two are a field and a symbol, written. */
 enum { READ_KINDS = 8, KINDS = 10 };
 
+/* With every case, a damaged upload that is salvaged. It is made last, from what the seed has left. */
+static void try_damaged(void)
+{
+    input.len = 0;
+    make_damaged(&input);
+    for (side = 0; side < SIDES; side++) {
+        struct bytes b = lay(UPLOAD, whole(&input));
+        for (mode = 0; mode < MODES; mode++)
+            try_salvage(b);
+        mode = PRESENT;
+        CHECK(INPUTS, equal(b, whole(&input)), "an input was changed");
+    }
+}
+
 static void try_case(uint64_t number)
 {
     size_t kind = number % KINDS, some = below(BUFFER);
@@ -837,6 +852,7 @@ static void try_case(uint64_t number)
             try_written(&draft, kind == READ_KINDS, spoilt, count);
         mode = PRESENT;
     }
+    try_damaged();
 }
 
 void try_random(uint64_t from, uint64_t cases, uint64_t seed_number)

@@ -1,4 +1,4 @@
-/* Vindaskot for C: reads, walks, writes, indexes and finds in TwinCAT symbol uploads.
+/* Vindaskot for C: reads, walks, writes, indexes, finds in and salvages TwinCAT symbol uploads.
  *
  * Link libvindaskot.a, which `rt staticlib vindaskot` makes in target/staticlib. Every function is proved to meet a
  * contract: the status, the answer and every lent buffer afterwards are a function of the inputs
@@ -13,13 +13,14 @@
  *     VINDASKOT_OUT_OF_STEPS (101)  a bounded walk has used its steps and is not at the end
  *   answer[0], answer[1] are set by every call. After a refusal they are its figures, expected and got. After any
  *   other status they hold what the call says below under "answer", and 0 where it says nothing.
- *   A refusal changes no lent buffer: out, slots and guid are as they were. (The cursor of a step and of a walk
+ *   A refusal changes no lent buffer: out, slots, runs and guid are as they were. (The cursor of a step and of a walk
  *   is part of the answer: it moves past what was refused.)
  *
  * Slices
  *   Bytes come as a pointer and a length; NULL is allowed where the length is 0. `answer`, `slots[N]`, `guid[16]`,
  *   `cursor` and `steps` point to as many numbers as their type says and are never NULL. The caller sees to it that
- *   nothing that a call writes (out, slots, guid, answer, cursor, steps) overlaps what it reads or what else it writes.
+ *   nothing that a call writes (out, slots, runs, guid, answer, cursor, steps) overlaps what it reads or what else it
+ *   writes.
  *
  * Places
  *   A name, a value and the like are told as a place and a length: bytes + place, length bytes. After a read they
@@ -337,6 +338,33 @@ uint32_t vindaskot_find_indexed(const uint8_t *bytes, size_t bytes_len, const ui
                                 size_t slots_len, const uint8_t *name, size_t name_len,
                                 uint64_t answer[VINDASKOT_AT_LEAST 2]);
 
+/* ---- Salvage ---- */
+
+/* What the three slots of a dropped run hold. */
+enum {
+    VINDASKOT_RUN_START,  /* place in the damaged upload */
+    VINDASKOT_RUN_LENGTH, /* bytes, at least 1 */
+    VINDASKOT_RUN_NUMBER, /* why: the number of the refusal */
+    VINDASKOT_RUN_SLOTS
+};
+
+/* Copies every accepted symbol of a damaged upload, unchanged and in order, from out[0] on: a new upload, which a walk
+ * goes through without a refusal. What is left out goes to runs[0] on, VINDASKOT_RUN_SLOTS slots a run, in order.
+ * answer: bytes written to out, and slots written to runs; what stands behind these is as it was. The entries copied
+ * and the runs make up the damaged upload, each of its bytes once. A second salvage of what was copied copies all of
+ * it.
+ * A run is one refused step of the walk, so two refused entries side by side are two runs. Its number is the step's:
+ *   2   a claim below 30, and the run is as long as that claim; or under 4 bytes left, and it goes to the end
+ *   3   strings that leave the entry, and the run is as long as the claim; or a claim beyond the upload, and it goes to
+ *       the end
+ *   10  a claim of 0, where the walk stops: the run goes to the end, and nothing behind it is looked at
+ *   16  in the checked mode alone, an end byte that is not 0: as long as the claim
+ * out never needs more than bytes_len bytes. How many slots are needed is not known before: lent an out of that length
+ * and no slots, the call is done where nothing is dropped, and else is refused with 6, whose first figure is the number
+ * of slots. Refusals: 5, 6 for out (bytes needed, lent), 6 for runs (slots needed, lent). */
+uint32_t vindaskot_salvage(const uint8_t *bytes, size_t bytes_len, uint8_t *out, size_t out_len, uint32_t *runs,
+                           size_t runs_len, uint64_t answer[VINDASKOT_AT_LEAST 2]);
+
 /* ---- The same reading, in either mode ---- */
 
 /* Each call here answers with checked = false as the call above that has its name without _in (and, in three of them,
@@ -417,6 +445,11 @@ uint32_t vindaskot_find_in(const uint8_t *bytes, size_t bytes_len, bool checked,
 uint32_t vindaskot_find_indexed_in(const uint8_t *bytes, size_t bytes_len, bool checked,
                                    const uint32_t *slots, size_t slots_len, const uint8_t *name,
                                    size_t name_len, uint64_t answer[VINDASKOT_AT_LEAST 2]);
+
+/* Salvage: in the checked mode a symbol is kept where vindaskot_symbol_step_in accepts it, and one that is refused with
+ * 16 is a run of that number. What was kept in that mode a second salvage in it keeps too. Refusals: 5, 6, 6. */
+uint32_t vindaskot_salvage_in(const uint8_t *bytes, size_t bytes_len, bool checked, uint8_t *out, size_t out_len,
+                              uint32_t *runs, size_t runs_len, uint64_t answer[VINDASKOT_AT_LEAST 2]);
 
 /* ---- Text ---- */
 
