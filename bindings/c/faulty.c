@@ -1,7 +1,7 @@
 /* Wrong versions of exported functions, one a number, to show that the boundary tests find such faults.
  *
  *   cc -DFAULT=n -c faulty.c       then linked with --wrap for each function that this defines as __wrap_..., by its
- *                                  text or by SEARCHES
+ *                                  text, by SEARCHES or by SALVAGES
  *
  * tools/c-tests builds and runs each, and demands that boundary fails; with number 0, a control, it must pass.
  */
@@ -182,6 +182,153 @@ static bool mend(const uint8_t *bytes, size_t bytes_len, uint64_t place)
     mended[place] = 0;
     return true;
 }
+#endif
+
+#if FAULT == 0 || FAULT > 90
+/* What salvage takes, and the right ones. */
+#define DAMAGED const uint8_t *bytes, size_t bytes_len
+#define LENT uint8_t *out, size_t out_len, uint32_t *runs, size_t runs_len, uint64_t *answer
+uint32_t __real_vindaskot_salvage(DAMAGED, LENT);
+uint32_t __real_vindaskot_salvage_in(DAMAGED, bool checked, LENT);
+#endif
+
+#if FAULT == 0 || (FAULT > 90 && FAULT < 118)
+/* What is made of an upload: bytes and slots so far, and where the last run ends. */
+struct making {
+    uint8_t *out;
+    uint32_t *runs;
+    uint64_t bytes, slots;
+    size_t end;
+};
+
+static size_t claim_at(const uint8_t *bytes)
+{
+    return (size_t)bytes[0] | (size_t)bytes[1] << 8 | (size_t)bytes[2] << 16 | (size_t)bytes[3] << 24;
+}
+
+static void run(struct making *to, size_t start, size_t len, uint32_t number)
+{
+    uint32_t *slots = to->runs == NULL ? NULL : to->runs + to->slots;
+    if (FAULT == 97 && to->slots > 0 && to->end == start) {
+        if (slots != NULL)
+            slots[(int)VINDASKOT_RUN_LENGTH - VINDASKOT_RUN_SLOTS] += (uint32_t)len;
+    } else {
+        if (slots != NULL) {
+            slots[VINDASKOT_RUN_START] = (uint32_t)(FAULT == 102 ? to->bytes : FAULT == 103 ? start % 65536 : start);
+            slots[VINDASKOT_RUN_LENGTH] = (uint32_t)len;
+            slots[VINDASKOT_RUN_NUMBER] = number;
+        }
+        to->slots += VINDASKOT_RUN_SLOTS;
+    }
+    to->end = start + len;
+}
+
+/* A refused step from there on, of which so many bytes are left. */
+static void drop(struct making *to, const uint8_t *bytes, size_t at, size_t len, size_t left, uint32_t number)
+{
+    size_t claim = left < 4 ? 0 : claim_at(bytes + at);
+    bool zero = left >= 4 && claim == 0, beyond = claim > left, tail = left < 4;
+    for (size_t i = 0; FAULT == 91 && i < len; i++)
+        run(to, at + i, 1, number);
+    if (FAULT == 91 || (FAULT == 100 && tail))
+        return;
+    len = FAULT == 92 && beyond ? claim : FAULT == 93 && zero ? 0 : FAULT == 101 && tail ? 4 : len;
+    number = FAULT == 96 && zero ? 2 : FAULT == 99 && !tail && !zero && claim < 30 ? 4 : number;
+    run(to, at, len, number);
+}
+
+static void keep(struct making *to, const uint8_t *from, size_t len, size_t unread)
+{
+    if (to->out != NULL) {
+        memcpy(to->out + to->bytes, from, len);
+        memset(to->out + to->bytes + len - unread, 0, FAULT == 107 ? unread : 0);
+    }
+    to->bytes += len;
+}
+
+/* Salvage as it has to be, but for what a fault makes of it. */
+static struct making made_of(const uint8_t *bytes, size_t bytes_len, bool checked, uint8_t *out, uint32_t *runs)
+{
+    struct making to = {.out = out, .runs = runs};
+    uint64_t entry[VINDASKOT_SYMBOL_SLOTS], own[2];
+    uint8_t guid[16];
+    for (size_t at = 0, next; at < bytes_len; at = next) {
+        size_t left = bytes_len - at, other = next = at;
+        uint32_t status = vindaskot_symbol_step_in(bytes, bytes_len, checked, &next, entry, guid, own);
+        bool zero = next == at;
+        if (zero)
+            next = FAULT == 104 ? at + 4 : bytes_len;
+        bool strings = status == 3 && next - at == claim_at(bytes + at);
+        if (status == VINDASKOT_DONE || (FAULT == 105 && strings)) {
+            size_t unread = status == VINDASKOT_DONE ? (size_t)entry[VINDASKOT_SYMBOL_UNREAD] : 0;
+            if (FAULT != 106 || next < bytes_len)
+                keep(&to, bytes + at, next - at, unread);
+            if (FAULT == 94 && at == 0)
+                keep(&to, bytes, next, unread);
+            continue;
+        }
+        if (FAULT == 98)
+            status = vindaskot_symbol_step_in(bytes, bytes_len, !checked, &other, entry, guid, own);
+        drop(&to, bytes, at, next - at, left, zero ? 10 : status);
+    }
+    return to;
+}
+
+static uint32_t told_6(uint64_t *answer, uint64_t needed, size_t lent)
+{
+    answer[0] = needed;
+    answer[1] = lent;
+    return 6;
+}
+
+static uint32_t salvage(const uint8_t *bytes, size_t bytes_len, bool checked, uint8_t *out, size_t out_len,
+                        uint32_t *runs, size_t runs_len, uint64_t *answer)
+{
+    size_t limit = FAULT == 110 ? VINDASKOT_LIMIT - 1 : FAULT == 111 ? VINDASKOT_LIMIT + 1 : VINDASKOT_LIMIT;
+    struct making need = made_of(bytes, bytes_len, checked, NULL, NULL);
+    bool few = need.slots > runs_len, little = (FAULT == 112 ? bytes_len : need.bytes) > out_len;
+    if (bytes_len > limit && !(FAULT == 109 && (few || little))) {
+        answer[0] = VINDASKOT_LIMIT;
+        answer[1] = bytes_len;
+        if (FAULT == 117 && out_len > 0)
+            out[0] = bytes[0];
+        return 5;
+    }
+    if (FAULT == 108 && few)
+        return told_6(answer, need.slots, runs_len);
+    if (FAULT == 114 && !little && need.bytes > 0)
+        out[0] = bytes[0];
+    if (FAULT == 115 && !few && need.slots > 0)
+        runs[0] = 0;
+    if (little)
+        return told_6(answer, FAULT == 112 ? bytes_len : need.bytes, out_len);
+    if (few)
+        return told_6(answer, FAULT == 113 ? need.slots / VINDASKOT_RUN_SLOTS : need.slots, runs_len);
+    struct making made = made_of(bytes, bytes_len, checked, out, runs);
+    for (uint64_t i = 0, k = made.slots; FAULT == 95 && i + VINDASKOT_RUN_SLOTS < k; i += VINDASKOT_RUN_SLOTS) {
+        uint32_t other[VINDASKOT_RUN_SLOTS];
+        k -= VINDASKOT_RUN_SLOTS;
+        memcpy(other, runs + i, sizeof other);
+        memmove(runs + i, runs + k, sizeof other);
+        memcpy(runs + k, other, sizeof other);
+    }
+    answer[0] = made.bytes;
+    answer[1] = FAULT == 116 ? made.slots / VINDASKOT_RUN_SLOTS : made.slots;
+    return VINDASKOT_DONE;
+}
+
+/* One of the two functions, so. */
+#define SALVAGES(function) SALVAGES_##function
+#define SALVAGES_vindaskot_salvage                                                                                     \
+    uint32_t __wrap_vindaskot_salvage(DAMAGED, LENT)                                                                   \
+    {                                                                                                                  \
+        return salvage(bytes, bytes_len, false, out, out_len, runs, runs_len, answer);                                 \
+    }
+#define SALVAGES_vindaskot_salvage_in                                                                                  \
+    uint32_t __wrap_vindaskot_salvage_in(DAMAGED, bool checked, LENT)                                                  \
+    {                                                                                                                  \
+        return salvage(bytes, bytes_len, checked, out, out_len, runs, runs_len, answer);                               \
+    }
 #endif
 
 #if FAULT == 1 /* a writer changes the byte after what it wrote */
@@ -1152,11 +1299,215 @@ uint32_t __wrap_vindaskot_symbol_read_in(BYTES, TELLS_ENTRY)
     return __real_vindaskot_symbol_read_in(bytes, bytes_len, checked, slots, guid, answer);
 }
 
+#elif FAULT == 91 /* each refused byte is a run */
+SALVAGES(vindaskot_salvage_in)
+
+#elif FAULT == 92 /* the run of a claim beyond the upload is as long as that claim */
+SALVAGES(vindaskot_salvage_in)
+
+#elif FAULT == 93 /* the run of a zero claim has no bytes */
+SALVAGES(vindaskot_salvage)
+
+#elif FAULT == 94 /* an entry is kept twice */
+SALVAGES(vindaskot_salvage_in)
+
+#elif FAULT == 95 /* the last run comes first */
+SALVAGES(vindaskot_salvage_in)
+
+#elif FAULT == 96 /* a zero claim is dropped under 2 */
+SALVAGES(vindaskot_salvage_in)
+
+#elif FAULT == 97 /* runs side by side are one */
+SALVAGES(vindaskot_salvage)
+
+#elif FAULT == 98 /* a run has the number that it has in the other mode */
+SALVAGES(vindaskot_salvage_in)
+
+#elif FAULT == 99 /* a claim below the header is dropped under 4 */
+SALVAGES(vindaskot_salvage)
+
+#elif FAULT == 100 /* fewer than 4 bytes at the end are no run */
+SALVAGES(vindaskot_salvage_in)
+
+#elif FAULT == 101 /* the run of fewer than 4 bytes has 4 */
+SALVAGES(vindaskot_salvage)
+
+#elif FAULT == 102 /* a run starts where it would stand in the new upload */
+SALVAGES(vindaskot_salvage_in)
+
+#elif FAULT == 103 /* the start of a run is told in 16 bits */
+SALVAGES(vindaskot_salvage_in)
+
+#elif FAULT == 104 /* a zero claim is a run of 4 bytes, and the walk goes on behind it */
+SALVAGES(vindaskot_salvage_in)
+
+#elif FAULT == 105 /* an entry is kept though its strings leave it */
+SALVAGES(vindaskot_salvage)
+
+#elif FAULT == 106 /* an entry that ends with the upload is left out */
+SALVAGES(vindaskot_salvage_in)
+
+#elif FAULT == 107 /* unread bytes are copied as zeros */
+SALVAGES(vindaskot_salvage)
+
+#elif FAULT == 108 /* too few slots are told before too few bytes */
+SALVAGES(vindaskot_salvage_in)
+
+#elif FAULT == 109 /* too little room is told before too large an upload */
+SALVAGES(vindaskot_salvage)
+
+#elif FAULT == 110 /* 16,777,216 bytes are too large */
+SALVAGES(vindaskot_salvage_in)
+
+#elif FAULT == 111 /* 16,777,217 bytes are not too large */
+SALVAGES(vindaskot_salvage_in)
+
+#elif FAULT == 112 /* as many bytes are asked for as the upload has */
+SALVAGES(vindaskot_salvage)
+
+#elif FAULT == 113 /* 6 for the list counts runs */
+SALVAGES(vindaskot_salvage_in)
+
+#elif FAULT == 114 /* the upload has been begun where the list has too few slots */
+SALVAGES(vindaskot_salvage_in)
+
+#elif FAULT == 115 /* the list has been begun where the upload has too few bytes */
+SALVAGES(vindaskot_salvage_in)
+
+#elif FAULT == 116 /* the answer counts runs and not slots */
+SALVAGES(vindaskot_salvage)
+
+#elif FAULT == 117 /* a byte is written before an upload that is too large is refused */
+SALVAGES(vindaskot_salvage)
+
+#elif FAULT == 118 /* in the checked mode what has a wrong end byte is kept */
+uint32_t __wrap_vindaskot_salvage_in(DAMAGED, bool checked, LENT)
+{
+    (void)checked;
+    return __real_vindaskot_salvage_in(bytes, bytes_len, false, out, out_len, runs, runs_len, answer);
+}
+
+#elif FAULT == 119 /* in the present mode what has a wrong end byte is dropped */
+uint32_t __wrap_vindaskot_salvage_in(DAMAGED, bool checked, LENT)
+{
+    (void)checked;
+    return __real_vindaskot_salvage_in(bytes, bytes_len, true, out, out_len, runs, runs_len, answer);
+}
+
+#elif FAULT == 120 /* without a mode what has a wrong end byte is dropped */
+uint32_t __wrap_vindaskot_salvage(DAMAGED, LENT)
+{
+    return vindaskot_salvage_in(bytes, bytes_len, true, out, out_len, runs, runs_len, answer);
+}
+
+#elif FAULT == 121 /* the figures of 6 are exchanged, for bytes and for slots */
+uint32_t __wrap_vindaskot_salvage_in(DAMAGED, bool checked, LENT)
+{
+    uint32_t status = __real_vindaskot_salvage_in(bytes, bytes_len, checked, out, out_len, runs, runs_len, answer);
+    if (status == 6) {
+        uint64_t needed = answer[0];
+        answer[0] = answer[1];
+        answer[1] = needed;
+    }
+    return status;
+}
+
+#elif FAULT == 122 /* as many bytes are copied as are lent before too few are refused */
+uint32_t __wrap_vindaskot_salvage_in(DAMAGED, bool checked, LENT)
+{
+    uint32_t status = __real_vindaskot_salvage_in(bytes, bytes_len, checked, out, out_len, runs, runs_len, answer);
+    if (status == 6 && out_len > 0 && out_len < answer[0] && answer[1] == out_len)
+        memcpy(out, bytes, out_len);
+    return status;
+}
+
+#elif FAULT == 123 /* as many slots are filled as are lent before too few are refused */
+uint32_t __wrap_vindaskot_salvage(DAMAGED, LENT)
+{
+    uint32_t status = __real_vindaskot_salvage(bytes, bytes_len, out, out_len, runs, runs_len, answer);
+    if (status == 6 && runs_len > 0 && answer[1] == runs_len && answer[0] % VINDASKOT_RUN_SLOTS == 0)
+        memset(runs, 0, 4 * runs_len);
+    return status;
+}
+
+#elif FAULT == 124 /* the byte behind what was kept is changed */
+uint32_t __wrap_vindaskot_salvage(DAMAGED, LENT)
+{
+    uint32_t status = __real_vindaskot_salvage(bytes, bytes_len, out, out_len, runs, runs_len, answer);
+    if (status == VINDASKOT_DONE && answer[0] < out_len)
+        out[answer[0]] = 0;
+    return status;
+}
+
+#elif FAULT == 125 /* the slot behind the last run is changed */
+uint32_t __wrap_vindaskot_salvage_in(DAMAGED, bool checked, LENT)
+{
+    uint32_t status = __real_vindaskot_salvage_in(bytes, bytes_len, checked, out, out_len, runs, runs_len, answer);
+    if (status == VINDASKOT_DONE && answer[1] < runs_len)
+        runs[answer[1]] = 0;
+    return status;
+}
+
+#elif FAULT == 126 /* how many slots were written is left unset */
+uint32_t __wrap_vindaskot_salvage_in(DAMAGED, bool checked, LENT)
+{
+    uint64_t own[2];
+    uint32_t status =
+        __real_vindaskot_salvage_in(bytes, bytes_len, checked, out, out_len, runs, runs_len, own);
+    answer[0] = own[0];
+    if (status != VINDASKOT_DONE)
+        answer[1] = own[1];
+    return status;
+}
+
+#elif FAULT == 127 /* a run tells its length before its start */
+uint32_t __wrap_vindaskot_salvage(DAMAGED, LENT)
+{
+    uint32_t status = __real_vindaskot_salvage(bytes, bytes_len, out, out_len, runs, runs_len, answer);
+    for (uint64_t i = 0; status == VINDASKOT_DONE && i < answer[1]; i += VINDASKOT_RUN_SLOTS) {
+        uint32_t start = runs[i + VINDASKOT_RUN_START];
+        runs[i + VINDASKOT_RUN_START] = runs[i + VINDASKOT_RUN_LENGTH];
+        runs[i + VINDASKOT_RUN_LENGTH] = start;
+    }
+    return status;
+}
+
+#elif FAULT == 128 /* a claim is read of fewer than 4 bytes at the end */
+uint32_t __wrap_vindaskot_salvage_in(DAMAGED, bool checked, LENT)
+{
+    for (size_t i = 0; i < 4 && bytes_len > 0 && bytes_len < 4; i++)
+        (void)*(const volatile uint8_t *)(bytes + i);
+    return __real_vindaskot_salvage_in(bytes, bytes_len, checked, out, out_len, runs, runs_len, answer);
+}
+
+#elif FAULT == 129 /* a zero claim refuses the upload with 10 */
+uint32_t __wrap_vindaskot_salvage(DAMAGED, LENT)
+{
+    uint32_t status = __real_vindaskot_salvage(bytes, bytes_len, out, out_len, runs, runs_len, answer);
+    if (status != VINDASKOT_DONE || answer[1] == 0 || runs[answer[1] - 1] != 10)
+        return status;
+    answer[0] = 1;
+    answer[1] = 0;
+    return 10;
+}
+
+#elif FAULT == 130 /* the damaged upload is changed */
+uint32_t __wrap_vindaskot_salvage_in(DAMAGED, bool checked, LENT)
+{
+    uint32_t status = __real_vindaskot_salvage_in(bytes, bytes_len, checked, out, out_len, runs, runs_len, answer);
+    if (status == VINDASKOT_DONE && bytes_len > 0 && bytes_len < 1000)
+        ((uint8_t *)(uintptr_t)bytes)[bytes_len - 1] ^= 1;
+    return status;
+}
+
 #elif FAULT == 0
-/* No fault but a control: the search that 23 to 33, 38 and 39 share, with the right comparison. */
+/* No fault but a control: the search that 23 to 33, 38 and 39 share, with the right comparison, and the salvage that 91
+ * to 117 share. */
 SAME_WHERE(small(x) == small(y))
 SEARCHES(vindaskot_find)
 SEARCHES(vindaskot_find_indexed)
+SALVAGES(vindaskot_salvage)
+SALVAGES(vindaskot_salvage_in)
 
 #else
 #error "no such fault"
