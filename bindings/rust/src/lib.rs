@@ -14,6 +14,7 @@ pub mod index;
 pub mod mode;
 pub mod refactor_info;
 pub mod refusal;
+pub mod salvage;
 pub mod symbol;
 mod sys;
 pub mod text;
@@ -28,5 +29,8 @@ pub use index::{Index, find, find_in};
 pub use mode::Mode;
 pub use refactor_info::{AdsRefactorInfo, AdsRefactorInfos, RefactorWriter};
 pub use refusal::{LIMIT, Refusal, RefusalKind};
+pub use salvage::{Run, Runs, Salvage, salvage, salvage_in};
+#[cfg(feature = "alloc")]
+pub use salvage::{Salvaged, salvage_to_vec, salvage_to_vec_in};
 pub use symbol::{AdsSymbolInfo, AdsSymbolInfoIterator, SymbolNumbers, SymbolParts};
 pub use walk::{WalkEnd, Walked, walk};

@@ -69,6 +69,11 @@ pub const FIELD_ATTRIBUTES: usize = 15;
 pub const FIELD_ATTRIBUTE_COUNT: usize = 16;
 pub const FIELD_SLOTS: usize = 17;
 
+pub const RUN_START: usize = 0;
+pub const RUN_LENGTH: usize = 1;
+pub const RUN_NUMBER: usize = 2;
+pub const RUN_SLOTS: usize = 3;
+
 pub const SYMBOL_FLAG_TYPE_GUID: u16 = 0x0008;
 pub const SYMBOL_FLAG_ATTRIBUTES: u16 = 0x1000;
 pub const SYMBOL_FLAG_EXTENDED_FLAGS: u16 = 0x8000;
@@ -294,6 +299,15 @@ unsafe extern "C" {
         name_len: usize,
         answer: &mut [u64; 2],
     ) -> u32;
+    pub fn vindaskot_salvage(
+        bytes: *const u8,
+        bytes_len: usize,
+        out: *mut u8,
+        out_len: usize,
+        runs: *mut u32,
+        runs_len: usize,
+        answer: &mut [u64; 2],
+    ) -> u32;
     pub fn vindaskot_symbol_read_in(
         bytes: *const u8,
         bytes_len: usize,
@@ -422,6 +436,16 @@ unsafe extern "C" {
         slots_len: usize,
         name: *const u8,
         name_len: usize,
+        answer: &mut [u64; 2],
+    ) -> u32;
+    pub fn vindaskot_salvage_in(
+        bytes: *const u8,
+        bytes_len: usize,
+        checked: bool,
+        out: *mut u8,
+        out_len: usize,
+        runs: *mut u32,
+        runs_len: usize,
         answer: &mut [u64; 2],
     ) -> u32;
     pub fn vindaskot_decode(

@@ -9,7 +9,8 @@ use common::{Random, refusal, rig};
 use vindaskot::index::{starts_to_vec, starts_to_vec_in};
 use vindaskot::text::{decode_to_string, encode_to_vec};
 use vindaskot::{
-    AdsAttribute, AdsFieldInfo, AdsRefactorInfo, AdsSymbolInfo, Index, Mode, SymbolParts,
+    AdsAttribute, AdsFieldInfo, AdsRefactorInfo, AdsSymbolInfo, Index, LIMIT, Mode, Run, Salvaged,
+    SymbolParts, salvage_in, salvage_to_vec, salvage_to_vec_in,
 };
 
 #[test]
@@ -106,4 +107,55 @@ fn starts_in_a_mode() {
     assert_eq!(checked, [&starts[..1], &starts[2..]].concat());
     let zero = starts_to_vec_in(&[0; 9], Mode::Checked);
     assert_eq!(zero, Err(refusal(10, 1, 0)));
+}
+
+/// The rig with one byte in fifty changed: what the lent form says of it.
+#[test]
+fn salvaged() {
+    let mut r = Random(31);
+    for _ in 0..300 {
+        let mut data = rig();
+        for _ in 0..data.len() / 50 {
+            let at = r.below(data.len());
+            data[at] = r.next() as u8;
+        }
+        data.truncate(r.below(data.len()));
+        for mode in [Mode::Present, Mode::Checked] {
+            let (mut out, mut slots) = (vec![0; data.len()], vec![0; data.len() + 3]);
+            let lent = salvage_in(&data, &mut out, &mut slots, mode).unwrap();
+            let owned = Salvaged {
+                upload: lent.upload().to_vec(),
+                runs: lent.runs().collect(),
+            };
+            assert_eq!(salvage_to_vec_in(&data, mode).as_ref(), Ok(&owned));
+            if mode == Mode::Present {
+                assert_eq!(salvage_to_vec(&data), Ok(owned));
+            }
+        }
+    }
+}
+
+#[test]
+fn salvaged_whole_or_not_at_all() {
+    let upload = rig();
+    let runs = vec![];
+    let whole = Salvaged { upload, runs };
+    assert_eq!(salvage_to_vec(&whole.upload), Ok(whole.clone()));
+    let checked = salvage_to_vec_in(&whole.upload, Mode::Checked);
+    assert_eq!(checked, Ok(whole));
+    assert_eq!(salvage_to_vec(&[]), Ok(Salvaged::default()));
+    let run = Run {
+        start: 0,
+        length: 9,
+        number: 10,
+    };
+    let none = Salvaged {
+        upload: vec![],
+        runs: vec![run],
+    };
+    assert_eq!(salvage_to_vec(&[0; 9]), Ok(none));
+    let why = refusal(5, LIMIT, LIMIT + 1);
+    let large = vec![0; LIMIT + 1];
+    assert_eq!(salvage_to_vec(&large), Err(why));
+    assert_eq!(salvage_to_vec_in(&large, Mode::Checked), Err(why));
 }

@@ -8,7 +8,7 @@ use vindaskot::text::{decode, encode};
 use vindaskot::{
     AdsAttribute, AdsFieldInfo, AdsRefactorInfo, AdsSymbol2Flags, AdsSymbolFlags, AdsSymbolInfo,
     AdsSymbolInfoIterator, AdsTypeFlags, Index, LIMIT, Mode, RefusalKind, WalkEnd, find, find_in,
-    walk,
+    salvage, salvage_in, walk,
 };
 
 /// A refusal a line: number, figures, and how they are told.
@@ -92,12 +92,14 @@ fn input_above_the_limit_is_refused_first() {
     assert_eq!(Index::over(&[0]).find(&large, b""), Err(why));
     assert_eq!(decode(&large, &mut []), Err(why));
     assert_eq!(encode(&large, &mut []), Err(why));
+    assert_eq!(salvage(&large, &mut [], &mut []), Err(why));
     let checked = Mode::Checked;
     assert_eq!(AdsSymbolInfo::try_from_slice_in(&large, checked), Err(why));
     assert_eq!(AdsFieldInfo::try_from_slice_in(&large, checked), Err(why));
     assert_eq!(AdsAttribute::try_from_slice_in(&large, checked), Err(why));
     assert_eq!(slots_needed_in(&large, checked), Err(why));
     assert_eq!(find_in(&large, b"", checked), Err(why));
+    assert_eq!(salvage_in(&large, &mut [], &mut [], checked), Err(why));
     let mut items = AdsSymbolInfoIterator::new_in(&large, checked);
     assert_eq!([items.next(), items.next()], [Some(Err(why)), None]);
     let mut items = AdsSymbolInfoIterator::new(&large);
