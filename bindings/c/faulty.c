@@ -1495,7 +1495,7 @@ uint32_t __wrap_vindaskot_salvage(DAMAGED, LENT)
 uint32_t __wrap_vindaskot_salvage_in(DAMAGED, bool checked, LENT)
 {
     uint32_t status = __real_vindaskot_salvage_in(bytes, bytes_len, checked, out, out_len, runs, runs_len, answer);
-    if (status == VINDASKOT_DONE && bytes_len > 0 && bytes_len < 1000)
+    if (status == VINDASKOT_DONE && bytes_len > 100 && bytes_len < 1000)
         ((uint8_t *)(uintptr_t)bytes)[bytes_len - 1] ^= 1;
     return status;
 }

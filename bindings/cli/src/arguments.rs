@@ -37,6 +37,10 @@ pub enum Asked {
         json: bool,
     },
     Check,
+    Salvage {
+        /// Where what is kept is written to.
+        to: OsString,
+    },
 }
 
 #[derive(Default)]
@@ -84,7 +88,7 @@ fn command(options: Options, words: Vec<OsString>) -> Result<Command, Failure> {
         return Err(usage("it is not said what to do"));
     };
     let word = word.to_string_lossy().into_owned();
-    if !["find", "show", "list", "check"].contains(&word.as_str()) {
+    if !["find", "show", "list", "check", "salvage"].contains(&word.as_str()) {
         return Err(usage(format!("there is no command {word:?}")));
     }
     if options.json && word != "list" {
@@ -104,6 +108,9 @@ fn command(options: Options, words: Vec<OsString>) -> Result<Command, Failure> {
             name: next("the name of a symbol")?,
         },
         "list" => Asked::List { json: options.json },
+        "salvage" => Asked::Salvage {
+            to: next("a path that what is kept is written to")?,
+        },
         _ => Asked::Check,
     };
     if let Some(extra) = words.next() {

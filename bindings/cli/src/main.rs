@@ -11,9 +11,11 @@ mod input;
 mod json;
 mod list;
 mod picture;
+mod salvage;
 mod show;
 mod text;
 mod words;
+mod written;
 
 use std::env;
 use std::io::{self, BufWriter, IsTerminal, Write};
@@ -44,6 +46,9 @@ fn run(out: &mut impl Write) -> Result<bool, Failure> {
 }
 
 fn answer(command: &Command, out: &mut impl Write) -> Result<bool, Failure> {
+    if let Asked::Salvage { to } = &command.asked {
+        written::is_free(to, &command.file)?;
+    }
     let upload = input::read(&command.file, command.form, command.mode)?;
     match &command.asked {
         Asked::Find { name, attribute } => find::find(&upload, name, attribute.as_deref(), out),
@@ -51,6 +56,7 @@ fn answer(command: &Command, out: &mut impl Write) -> Result<bool, Failure> {
         Asked::List { json: true } => json::list(&upload, out),
         Asked::List { json: false } => list::list(&upload, out),
         Asked::Check => check::check(&upload, out),
+        Asked::Salvage { to } => salvage::salvage(&upload, to, out),
     }
 }
 

@@ -37,6 +37,10 @@ fn usage() {
         &["check", "-x", "samples/rig.bin"],
         &["check", "--hex=yes", "samples/rig.bin"],
         &["check", "--checked=yes", "samples/rig.bin"],
+        &["salvage"],
+        &["salvage", "samples/rig.bin"],
+        &["salvage", "samples/rig.bin", "a", "b"],
+        &["salvage", "--json", "samples/rig.bin", "a"],
     ] {
         let output = session.run(words);
         assert!(output.stdout.is_empty());

@@ -13,9 +13,9 @@ use crate::told::done;
 
 /// A part of a damaged upload that was dropped: one refused step of the walk.
 ///
-/// Two refused entries side by side are two runs. A run is as long as its entry claims. It goes to the end of the upload
-/// where the claim leaves it (3), where fewer than 4 bytes are left (2), and at a claim of 0 (10), behind which nothing is
-/// looked at.
+/// Two refused entries side by side are two runs. A run is as long as its entry claims. It goes to the end of the
+/// upload where the claim leaves it (3), where fewer than 4 bytes are left (2), and at a claim of 0 (10), behind which
+/// nothing is looked at.
 #[derive(Debug, Clone, Copy, PartialEq, Eq, PartialOrd, Ord, Hash)]
 pub struct Run {
     /// Where it starts in the damaged upload.
@@ -118,11 +118,11 @@ impl fmt::Debug for Salvage<'_, '_> {
     }
 }
 
-/// Copies every accepted symbol of a damaged upload to `out`, from its start on, and lists in `runs` what is dropped. What
-/// stands behind either in its buffer is as it was. Refusals: 5, 6 for `out` (bytes), 6 for `runs` (slots).
+/// Copies every accepted symbol of a damaged upload to `out`, from its start on, and lists in `runs` what is dropped.
+/// What stands behind either in its buffer is as it was. Refusals: 5, 6 for `out` (bytes), 6 for `runs` (slots).
 ///
-/// An `out` as long as `data` is always enough, and then 6 is about the slots, of which a run takes three. Where nothing is
-/// dropped none is needed.
+/// An `out` as long as `data` is always enough, and then 6 is about the slots, of which a run takes three. Where nothing
+/// is dropped none is needed.
 ///
 /// ```
 /// use vindaskot::{AdsSymbolInfoIterator, Refusal, Run, SymbolNumbers, SymbolParts, salvage};
