@@ -236,6 +236,29 @@ pub fn index_build(bytes: &[u8], slots: &mut [u32]) -> usize {
     done("index_build", status, answer)
 }
 
+/// What was written: bytes and slots. By the call that takes no mode, or in one.
+pub fn salvage(
+    checked: Option<bool>,
+    bytes: &[u8],
+    out: &mut [u8],
+    runs: &mut [u32],
+) -> [usize; 2] {
+    let mut answer = [0; 2];
+    let (start, len) = (bytes.as_ptr(), bytes.len());
+    let (kept, room) = (out.as_mut_ptr(), out.len());
+    let (list, slots) = (runs.as_mut_ptr(), runs.len());
+    let status = unsafe {
+        match checked {
+            None => sys::vindaskot_salvage(start, len, kept, room, list, slots, &mut answer),
+            Some(checked) => {
+                sys::vindaskot_salvage_in(start, len, checked, kept, room, list, slots, &mut answer)
+            }
+        }
+    };
+    done("salvage", status, answer);
+    answer.map(|figure| figure as usize)
+}
+
 /// `vindaskot_find` of this archive, or of an earlier one.
 pub type Find =
     unsafe extern "C" fn(*const u8, usize, *const u8, usize, answer: &mut [u64; 2]) -> u32;

@@ -8,6 +8,7 @@ mod find;
 mod growth;
 mod report;
 mod rig;
+mod salvage;
 /// The declarations of the Rust crate, which tools/bench puts beside this folder.
 #[allow(dead_code)]
 #[path = "../bindings/rust/src/sys.rs"]
@@ -88,6 +89,7 @@ fn main() {
     find::rows(&mut report, seed, "index and finding, names alike", &alike);
     let what = "index and finding, names that end alike";
     find::rows(&mut report, seed, what, &ends_alike);
+    salvage::rows(&mut report, &rig);
     text::rows(&mut report, seed);
     write::rows(&mut report, &rig);
     growth::rows(&mut report, seed);
