@@ -73,16 +73,17 @@ impl Unnamed {
     /// Beside a path, since a file can't be given a name on another file system.
     fn beside(path: &Path) -> io::Result<Self> {
         let folder = path.parent().unwrap_or(Path::new(""));
-        let mut last = io::Error::from(ErrorKind::AlreadyExists);
         for number in 0..TRIES {
             let path = folder.join(format!(".vindaskot-{}-{number}", process::id()));
             match File::create_new(&path) {
                 Ok(file) => return Ok(Self { path, file }),
-                Err(why) if why.kind() == ErrorKind::AlreadyExists => last = why,
+                Err(why) if why.kind() == ErrorKind::AlreadyExists => {}
                 Err(why) => return Err(why),
             }
         }
-        Err(last)
+        Err(io::Error::other(
+            "killed runs have left too many files beside it",
+        ))
     }
 
     /// A second name is refused where anything has it, and the file is whole by then: so its reader never sees a part.

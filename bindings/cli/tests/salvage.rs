@@ -276,6 +276,20 @@ fn a_file_that_was_left_behind() {
     let names = desk.names();
     assert_eq!(names.len(), 3, "{names:?}");
     assert_eq!(desk.get(&names[0]), b"left\n");
+    // Where all names are taken, that is said.
+    let script = "for n in $(seq 0 99); do echo left >.vindaskot-$$-$n; done; exec \"$0\" salvage rig.bin more.bin";
+    let mut command = Command::new("sh");
+    command
+        .args(["-c", script, PROGRAM])
+        .current_dir(&desk.folder);
+    let output = command.output().unwrap();
+    assert_eq!(output.status.code(), Some(2));
+    let said = String::from_utf8(output.stderr).unwrap();
+    assert!(
+        said.contains("more.bin can't be written: killed runs"),
+        "{said}"
+    );
+    assert_eq!(desk.names().len(), 103);
     fs::remove_dir_all(&desk.folder).unwrap();
 }
 
