@@ -2,7 +2,7 @@
  * request W-203 and does not come from the model; a random case is held to the model and to those words. */
 #include "boundary.h"
 
-enum { HEADER = 30, LEAST = 33, EVERY = 8192, RUN = VINDASKOT_RUN_SLOTS };
+enum { HEADER = 30, LEAST = 33, MOST = 8192, RUN = VINDASKOT_RUN_SLOTS };
 
 /* What an upload has to be made into: the bytes that are kept, and so many slots of dropped runs. */
 struct salvaged {
@@ -82,8 +82,8 @@ static void check_run(struct bytes b, size_t start, size_t len, uint32_t number,
 }
 
 /* W-203: "The runs and the copied entries cover the damaged upload exactly, without overlap". No upload has more runs
- * than this: behind a claim of 1, 2 or 3 stand the zeros of its other bytes, and what is claimed there is 0 or at least
- * 256, so only the last two runs can have fewer than 4 bytes. */
+ * than a fourth of its bytes and one: behind a claim of 1, 2 or 3 stand the zeros of its other bytes, so that what is
+ * claimed there is at least 256, or 0 and then the run goes to the end. */
 static void check_cover(struct bytes b, struct bytes kept, const uint32_t *runs, size_t slots)
 {
     size_t at = 0, copied = 0;
@@ -151,7 +151,7 @@ void try_salvage(struct bytes b)
 /* ---- Uploads of pieces, of each of which it is known what becomes of it ---- */
 
 static struct buffer upload, sound;
-static uint32_t dropped[EVERY];
+static uint32_t dropped[MOST];
 static size_t slots;
 
 static void begin(void)
@@ -381,8 +381,8 @@ static void beyond(void)
         }
 }
 
-/* W-203: "A zero claim drops everything from there under number 10": first, between others and last, with sound entries,
- * refused ones and too few bytes behind it. */
+/* W-203: "A zero claim drops everything from there under number 10": first, between others and last, with sound
+ * entries, refused ones and too few bytes behind it. */
 static void zero_claims(void)
 {
     static struct buffer rest;
@@ -453,7 +453,7 @@ static void wrong_ends(void)
             for (size_t number = 3; number < 7; number++) {
                 begin();
                 keep(entry(number + 1));
-                for (size_t twice = 0; twice < 1 + k; twice++) {
+                for (size_t left = 1 + k; left > 0; left--) {
                     struct buffer *one = changed(entry(number));
                     one->at[ends[i]] = bytes[k];
                     if (mode == CHECKED)
@@ -591,7 +591,7 @@ static void limit_entries(size_t len)
     hold_limit((struct bytes){made.at, len}, LEAST * count, 1, last);
 }
 
-/* As many runs as there can be: claims of 4, and the last claims 1 and leaves 3 bytes or 4. */
+/* As many runs as there can be: claims of 4, of which the last claims 1 and leaves 3 bytes. */
 static void limit_runs(size_t len)
 {
     struct room made = zeros_of(len);
@@ -602,7 +602,9 @@ static void limit_runs(size_t len)
     struct bytes b = {made.at, len};
     lend_at_limit(b, 0, RUN * count - 1, refused(6, RUN * count, RUN * count - 1));
     const uint32_t *runs = slots_of(lend_at_limit(b, 3, RUN * count, done(0, RUN * count)));
-    for (size_t i = 0; len <= VINDASKOT_LIMIT && i < count; i++) {
+    if (len > VINDASKOT_LIMIT)
+        return;
+    for (size_t i = 0; i < count; i++) {
         uint32_t wanted[RUN];
         size_t start = i + 1 < count ? 4 * i : len - 3;
         set_run(wanted, start, i + 2 < count ? 4 : i + 2 == count ? 1 : 3, 2);
