@@ -3,7 +3,7 @@
 use std::ffi::OsStr;
 use std::io::Write;
 
-use vindaskot::salvage_to_vec_in;
+use vindaskot::{Run, salvage_to_vec_in};
 
 use crate::entries::entries;
 use crate::failure::Failure;
@@ -19,22 +19,14 @@ pub fn salvage(upload: &Upload, to: &OsStr, out: &mut impl Write) -> Result<bool
     let salvaged = salvage_to_vec_in(&upload.bytes, upload.mode)
         .map_err(|why| upload.refused(words::refusal(&why)))?;
     written::write(to, &salvaged.upload)?;
-    // A run is a refused step and has its number; the step has the figures too.
-    let (kept, refused): (Vec<_>, Vec<_>) = entries(upload).partition(|(_, entry)| entry.is_ok());
-    let steps = refused.iter().filter_map(|(_, entry)| entry.err());
-    let runs = salvaged.runs.iter().zip(steps);
-    let lines = runs.map(|(run, why)| {
-        let (place, length) = (run.start.to_string(), run.length.to_string());
-        [place, length, words::refusal(&why)]
-    });
     writeln!(out, "{}", upload.told())?;
-    table(lines.collect(), out)?;
+    let kept = table(upload, &salvaged.runs, out)?;
     let length = salvaged.upload.len();
     let dropped = upload.bytes.len() - length;
     writeln!(
         out,
         "kept: {}, {}, in {}; dropped: {}, {}",
-        many(kept.len(), "entry", "entries"),
+        many(kept, "entry", "entries"),
         many(length, "byte", "bytes"),
         to.to_string_lossy(),
         many(salvaged.runs.len(), "run", "runs"),
@@ -43,19 +35,33 @@ pub fn salvage(upload: &Upload, to: &OsStr, out: &mut impl Write) -> Result<bool
     Ok(salvaged.runs.is_empty())
 }
 
-/// Numbers stand at the right of their columns. Where nothing was dropped there is no table.
-fn table(lines: Vec<[String; 3]>, out: &mut impl Write) -> Result<(), Failure> {
-    if lines.is_empty() {
-        return Ok(());
-    }
-    let lines: Vec<_> = [HEADINGS.map(String::from)]
-        .into_iter()
-        .chain(lines)
-        .collect();
-    let widest = |column: usize| lines.iter().map(|line| width(&line[column])).max();
-    let (first, second) = (widest(0).unwrap_or(0), widest(1).unwrap_or(0));
-    for [place, length, why] in &lines {
+/// A line a run, and none where nothing was dropped; how many entries were kept. A run is a refused step of the walk and
+/// has its number; the step has the figures too. An upload can have millions, so none is kept in memory as text.
+fn table(upload: &Upload, runs: &[Run], out: &mut impl Write) -> Result<usize, Failure> {
+    let [place, length, why] = HEADINGS;
+    let first = widest(place, runs.iter().map(|run| run.start));
+    let second = widest(length, runs.iter().map(|run| run.length));
+    if !runs.is_empty() {
         writeln!(out, "{place:>first$}  {length:>second$}  {why}")?;
     }
-    Ok(())
+    let mut runs = runs.iter();
+    let mut kept = 0;
+    for (_, entry) in entries(upload) {
+        match entry {
+            Ok(_) => kept += 1,
+            Err(why) => {
+                let Some(Run { start, length, .. }) = runs.next() else {
+                    break;
+                };
+                let why = words::refusal(&why);
+                writeln!(out, "{start:>first$}  {length:>second$}  {why}")?;
+            }
+        }
+    }
+    Ok(kept)
+}
+
+fn widest(heading: &str, numbers: impl Iterator<Item = usize>) -> usize {
+    let most = numbers.max().unwrap_or(0);
+    width(heading).max(most.to_string().len())
 }
