@@ -544,30 +544,33 @@ void try_salvages(void)
 
 /* ---- 16,777,216 bytes, and one more ---- */
 
-static struct told at_limit(size_t len, struct told told)
-{
-    return len > VINDASKOT_LIMIT ? refused(5, VINDASKOT_LIMIT, len) : told;
-}
-
 static struct made lend_at_limit(struct bytes b, size_t bytes, size_t lent, struct told want)
 {
     struct made made = {.out = lend(bytes), .runs = lend_runs(lent)};
     made.told = call_salvage(b, made.out, made.runs);
-    SAME(LIMITS, made.told, at_limit(b.len, want));
+    SAME(LIMITS, made.told, want);
     return made;
 }
 
-/* So many bytes that are kept, with which the upload begins, so many runs, and the last of them. Above the limit 5
- * goes before either 6. */
+/* Above the limit 5 goes before either 6, and comes where there is room enough, too. */
+static void refused_limit(struct bytes b, size_t bytes, size_t lent)
+{
+    const struct told want = refused(5, VINDASKOT_LIMIT, b.len);
+    lend_at_limit(b, 0, 0, want);
+    lend_at_limit(b, bytes, 0, want);
+    lend_at_limit(b, 0, lent, want);
+    lend_at_limit(b, bytes, lent, want);
+}
+
+/* So many bytes that are kept, with which the upload begins, so many runs, and the last of them. */
 static void hold_limit(struct bytes b, size_t bytes, size_t count, const uint32_t *last)
 {
     size_t lent = RUN * count;
-    lend_at_limit(b, bytes - (bytes > 0), lent - (lent > 0),
-                  bytes > 0 ? refused(6, bytes, bytes - 1) : refused(6, lent, lent - 1));
-    lend_at_limit(b, bytes, 0, lent > 0 ? refused(6, lent, 0) : done(bytes, 0));
+    if (bytes > 0)
+        lend_at_limit(b, bytes - 1, lent, refused(6, bytes, bytes - 1));
+    if (lent > 0)
+        lend_at_limit(b, bytes, lent - 1, refused(6, lent, lent - 1));
     struct made made = lend_at_limit(b, bytes, lent, done(bytes, lent));
-    if (b.len > VINDASKOT_LIMIT)
-        return;
     CHECK(LIMITS, equal((struct bytes){made.out.at, bytes}, part(b, 0, bytes)), "other bytes are kept");
     CHECK(LIMITS, count == 0 || memcmp(slots_of(made) + lent - RUN, last, 4 * RUN) == 0, "the last run is another");
 }
@@ -587,23 +590,26 @@ static void limit_entries(size_t len)
     size_t count = len / LEAST;
     for (size_t i = 0; i < count; i++)
         made.at[LEAST * i] = LEAST;
+    struct bytes b = {made.at, len};
     set_run(last, LEAST * count, len - LEAST * count, 10);
-    hold_limit((struct bytes){made.at, len}, LEAST * count, 1, last);
+    if (len > VINDASKOT_LIMIT)
+        refused_limit(b, LEAST * count, RUN);
+    else
+        hold_limit(b, LEAST * count, 1, last);
 }
 
 /* As many runs as there can be: claims of 4, of which the last claims 1 and leaves 3 bytes. */
-static void limit_runs(size_t len)
+static void limit_runs(void)
 {
+    const size_t len = VINDASKOT_LIMIT, count = len / 4 + 1;
     struct room made = zeros_of(len);
-    size_t count = len / 4 + 1, bad = 0;
-    for (size_t i = 0; i + 4 <= len; i += 4)
-        made.at[i] = 4;
-    made.at[4 * (len / 4) - 4] = 1;
     struct bytes b = {made.at, len};
+    size_t bad = 0;
+    for (size_t i = 0; i < len; i += 4)
+        made.at[i] = 4;
+    made.at[len - 4] = 1;
     lend_at_limit(b, 0, RUN * count - 1, refused(6, RUN * count, RUN * count - 1));
     const uint32_t *runs = slots_of(lend_at_limit(b, 3, RUN * count, done(0, RUN * count)));
-    if (len > VINDASKOT_LIMIT)
-        return;
     for (size_t i = 0; i < count; i++) {
         uint32_t wanted[RUN];
         size_t start = i + 1 < count ? 4 * i : len - 3;
@@ -620,24 +626,29 @@ static void limit_entry(size_t len)
     struct room made = zeros_of(len);
     struct bytes b = {made.at, len};
     uint32_t last[RUN];
-    set_run(last, 0, len, 10);
-    hold_limit(b, 0, 1, last);
-    const size_t claims[] = {len, len - 1, LEAST, len + 1, HEADER - 1};
+    const size_t claims[] = {0, len, len - 1, LEAST, len + 1, HEADER - 1};
     for (size_t i = 0; i < sizeof claims / sizeof *claims; i++) {
-        set_claim(&claimed, claims[i]);
+        size_t claim = claims[i], behind = claim > 0 && claim < len ? len - claim : 0;
+        bool kept = claim >= LEAST && claim <= len;
+        set_claim(&claimed, claim);
         memcpy(made.at, claimed.at, 4);
-        bool kept = claims[i] >= LEAST && claims[i] <= len;
-        size_t behind = claims[i] < len ? len - claims[i] : 0;
-        set_run(last, len - behind, behind, behind < 4 ? 2 : 10);
-        if (claims[i] > len)
-            set_run(last, 0, len, 3);
-        hold_limit(b, kept ? claims[i] : 0, (size_t)!kept + (behind > 0), last);
+        if (behind > 0)
+            set_run(last, claim, behind, behind < 4 ? 2 : 10);
+        else
+            set_run(last, 0, len, claim == 0 ? 10 : 3);
+        if (len > VINDASKOT_LIMIT)
+            refused_limit(b, LEAST, 2 * RUN);
+        else
+            hold_limit(b, kept ? claim : 0, (size_t)!kept + (behind > 0), last);
     }
 }
 
+/* Millions of runs take their time, so on one side they are dropped by the function that takes no mode, and on the
+ * other by the one that takes it. */
 void try_salvage_limit(size_t len)
 {
     limit_entries(len);
-    limit_runs(len);
     limit_entry(len);
+    if (len == VINDASKOT_LIMIT && mode == (side == AT_END ? PRESENT : PRESENT_IN))
+        limit_runs();
 }
