@@ -1500,6 +1500,18 @@ uint32_t __wrap_vindaskot_salvage_in(DAMAGED, bool checked, LENT)
     return status;
 }
 
+#elif FAULT == 131 /* bytes and slots written are told in each other's place */
+uint32_t __wrap_vindaskot_salvage(DAMAGED, LENT)
+{
+    uint32_t status = __real_vindaskot_salvage(bytes, bytes_len, out, out_len, runs, runs_len, answer);
+    if (status == VINDASKOT_DONE) {
+        uint64_t written = answer[0];
+        answer[0] = answer[1];
+        answer[1] = written;
+    }
+    return status;
+}
+
 #elif FAULT == 0
 /* No fault but a control: the search that 23 to 33, 38 and 39 share, with the right comparison, and the salvage that 91
  * to 117 share. */
