@@ -1,16 +1,18 @@
 /* Tries the boundary between C and the library, hard. docs/BOUNDARY.md says what is tried.
  *
- *   boundary CASES [SEED [FIRST]]
+ *   boundary [--to-failure] CASES [SEED [FIRST]]
  *
  * CASES random cases, from case FIRST (0) of a seed (1). Prints the first failed checks with their file and line, then
  * how many checks of each group and how many calls of each function were made. Status 0 only where no check failed,
- * there was at least one of each, and each function was seen with every status that is documented for it.
+ * there was at least one of each, and each function was seen with every status that is documented for it. With
+ * --to-failure it ends at the first failed check: for wrong versions, of which one is enough.
  */
 #define _POSIX_C_SOURCE 200809L
 #include <signal.h>
 #include <stdarg.h>
 #include <stdio.h>
 #include <stdlib.h>
+#include <string.h>
 #include <unistd.h>
 
 #include "boundary.h"
@@ -82,6 +84,7 @@ uint64_t checks[GROUPS];
 uint64_t now_trying = NO_CASE;
 
 static uint64_t seed_number, failures;
+static bool to_failure;
 
 static void where(char *to, size_t room)
 {
@@ -107,6 +110,10 @@ void failed(const char *file, int line, enum group group, const char *format, ..
     vprintf(format, more);
     va_end(more);
     printf(" (%s)\n", place);
+    if (to_failure) {
+        puts("boundary: 1 of the checks failed, and none was made after it");
+        exit(1);
+    }
 }
 
 /* An access outside what was lent ends the program: nothing after it can be trusted. */
@@ -168,8 +175,11 @@ static int report(uint64_t cases)
 
 int main(int argc, char **argv)
 {
+    to_failure = argc > 1 && strcmp(argv[1], "--to-failure") == 0;
+    argc -= to_failure;
+    argv += to_failure;
     if (argc < 2 || argc > 4) {
-        fputs("usage: boundary CASES [SEED [FIRST]]\n", stderr);
+        fputs("usage: boundary [--to-failure] CASES [SEED [FIRST]]\n", stderr);
         return 2;
     }
     if (vindaskot_interface_2() != VINDASKOT_INTERFACE) {
