@@ -73,7 +73,7 @@ module _ (mode : Bool) (s old new : List ℕ) (n : ℕ) where
       let y = passed q b (Bytes c) bs (x .1) in
       (x .0, y .0, let z : Bytes c ≡ Bytes bs = y .1 in cc)
 
-  pub built : Writes (indexing mode s) old new (Done n) → (ltb limit (length s) ≡ false) × (any (stands s) (steps s) ≡ false) × (length (starts mode s) ≡ n) × (take n new ≡ starts mode s)
+  built : Writes (indexing mode s) old new (Done n) → (ltb limit (length s) ≡ false) × (any (stands s) (steps s) ≡ false) × (length (starts mode s) ≡ n) × (take n new ≡ starts mode s)
   unfolding indexing
   built w =
       let d = done-by (indexing mode s) old new n w in

@@ -1,4 +1,4 @@
--- What the inner functions answer.
+-- What the inner functions answer, and `look_at`, on which salvage stands too.
 use Prim.Native.Nat.{ℕ, _+_, _-_}
 use mathlib.Core.Bool.{Bool, true, false}
 use mathlib.Core.List.{List}

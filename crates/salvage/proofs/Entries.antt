@@ -2,16 +2,16 @@
 use Prim.Native.Nat.{ℕ, zero, suc, _+_, _-_, _<_, _≤_}
 use native.Mathlib.Omega.{arith}
 use native.Mathlib.Nat.{suc-add}
-use mathlib.Core.Path.{_≡_, refl, sym, ap, subst, _∙_}
+use mathlib.Core.Path.{_≡_, refl, sym, ap, _∙_}
 use mathlib.Core.Bool.{Bool, true, false}
-use mathlib.Core.List.{List, [], _∷_, _++_, append-assoc, append-nil, map}
+use mathlib.Core.List.{List, [], _∷_, _++_, append-assoc, append-nil}
 use lib.ListN.{length, length-append}
 use borrow.Author.Tests.{ne-eqb}
-use Rattle.le.specs.Le.{if_then_else_, part}
+use Rattle.le.specs.Le.{part}
 use Rattle.le.proofs.Inside.{part-whole}
 use Rattle.le.proofs.Laws.{length-part, not-both}
 use Rattle.refusal.specs.Refusal.{limit}
-use Rattle.entry.specs.Entry.{claimAt, claimed}
+use Rattle.entry.specs.Entry.{claimAt}
 use Rattle.entry.specs.declared.Met.{Met}
 use Rattle.entry.specs.declared.Met.the-variants as met
 use Rattle.entry.specs.Tells.{Tells, Entry, Refused, End}
@@ -24,7 +24,7 @@ use Rattle.symbol.specs.declared.SymbolAnswer.{SymbolAnswer}
 use Rattle.symbol.specs.declared.SymbolAnswer.the-variants as answer
 use Rattle.symbol.proofs.Inside.{symbols-inside}
 use Rattle.walk.specs.Walk.{stepIs, entry, symbolStep}
-use Rattle.walk.specs.Told.{Symbol, symbolTold, stepTold, cursorOf}
+use Rattle.walk.specs.Told.{Symbol, symbolTold, stepTold}
 use Rattle.walk.proofs.Kind.{kind}
 use Rattle.index.specs.Steps.{byRecord, accepted}
 use Rattle.salvage.specs.Pieces.{pieceEnd}

@@ -1,7 +1,7 @@
--- What a step that gives no record is refused with.
-use Prim.Native.Nat.{ℕ, _+_, _-_, _<_, _≤_}
+-- A step before the end that gives no record is refused, and with what.
+use Prim.Native.Nat.{ℕ, _-_, _<_, _≤_}
 use native.Mathlib.Omega.{arith}
-use mathlib.Core.Path.{_≡_, refl, sym, subst, _∙_}
+use mathlib.Core.Path.{_≡_, refl, sym, subst}
 use mathlib.Core.Bool.{Bool, true, false}
 use mathlib.Core.List.{List}
 use lib.Dec.{ltb, leb}
@@ -12,12 +12,11 @@ use Rattle.le.proofs.Laws.{not-both}
 use Rattle.refusal.specs.Refusal.{limit, figuresOf}
 use Rattle.refusal.specs.Ends.{endsIn, byChecked}
 use Rattle.refusal.specs.declared.Refusal.{Refusal}
-use Rattle.refusal.specs.declared.Refusal.the-variants.{TooShort, EntryLengthMismatch, TooLarge}
+use Rattle.refusal.specs.declared.Refusal.the-variants.{TooShort, EntryLengthMismatch}
 use Rattle.refusal.specs.declared.Checked.{Checked}
 use Rattle.refusal.specs.declared.Checked.the-variants as checks
 use Rattle.refusal.proofs.EndsMeant.{ends-meant}
 use Rattle.entry.specs.Entry.{claimAt, claimed}
-use Rattle.entry.specs.Walk.{stands}
 use Rattle.entry.specs.declared.Claimed.{Claimed}
 use Rattle.entry.specs.declared.Met.{Met}
 use Rattle.entry.specs.declared.Met.the-variants as met
@@ -26,10 +25,12 @@ use Rattle.symbol.specs.declared.SymbolAnswer.{SymbolAnswer}
 use Rattle.symbol.specs.declared.SymbolAnswer.the-variants as answer
 use Rattle.symbol.specs.declared.SymbolRead.{SymbolRead}
 use Rattle.walk.specs.Walk.{symbolStep, stepIs}
+use Rattle.walk.specs.declared.Step.{Step}
+use Rattle.walk.specs.declared.Step.the-variants as step
 use Rattle.index.specs.Steps.{byRecord, accepted}
 use Rattle.index.proofs.Laws.{endsOf}
-use Rattle.salvage.specs.Pieces.{refusedWith, droppedWith}
-use Rattle.salvage.specs.Meaning.{Reason, too-short, mismatch, zero-claim, end-byte}
+use Rattle.salvage.specs.Pieces.{refusedWith}
+use Rattle.salvage.specs.Meaning.{Reason, too-short, mismatch, end-byte}
 
 -- the end bytes refuse only in the checked mode, and with 16
 ends-reason : (mode : Bool) (e places : List ℕ) (why : Refusal) → endsIn mode e places ≡ checks.Refused why → Reason mode (figuresOf why .number)
@@ -57,7 +58,7 @@ module _ (mode : Bool) (e : List ℕ) where
   unfolding symbolEntry symbolPresent read
   entry-reason h = entry-by (ltb (length e) 30) (ltb (length e) (stringsEnd e)) (endsOf mode e) refl h
 
--- a step before the end of an upload within the limit is not finished, and its own refusals are 2 and 3
+-- a step before the end of an upload is not finished, and its own refusals within the limit are 2 and 3
 module _ (x y z w u : ℕ) (at n c : ℕ) (large : Refusal) where
   abbrev by : Bool → Bool → Bool → Bool → Claimed
   by p q r t = if p then claimed met.Finished at else if q then claimed (met.Refused large) n else if r then claimed (met.Refused (TooShort x y)) n else if t then claimed (met.Refused (EntryLengthMismatch z w)) n else claimed (met.Entry c) u
@@ -76,17 +77,37 @@ module _ (x y z w u : ℕ) (at n c : ℕ) (large : Refusal) where
   refused-by mode false false false true why e h = let s : EntryLengthMismatch z w ≡ why = cc in subst (λ (v : Refusal). Reason mode (figuresOf v .number)) s mismatch
   refused-by mode false false false false why e h = absurd (let o : _≡_ {A = ℕ} 0 1 = cc in omega arith)
 
+no-end : (t : SymbolAnswer) → stepIs t ≡ step.Finished → ⊥
+no-end (answer.Record info) h = let z : _≡_ {A = ℕ} 0 1 = cc in omega arith
+no-end (answer.Refused why) h = let z : _≡_ {A = ℕ} 0 1 = cc in omega arith
+
+refused-no-end : (why : Refusal) → step.Refused why ≡ step.Finished → ⊥
+refused-no-end why h = let z : _≡_ {A = ℕ} 0 1 = cc in omega arith
+
+-- what is known of a step that gives no record
+pub record Stopped (mode : Bool) (s : List ℕ) (at : ℕ) : Type 0 where
+  pub why : Refusal
+  pub step : symbolStep mode s at .step ≡ step.Refused why
+  pub reason : Reason mode (figuresOf why .number)
+
 module _ (mode : Bool) (s : List ℕ) (at : ℕ) (small : length s ≤ limit) (h : at < length s) (no : accepted mode s at ≡ false) where
-  step-by : (m : Met) → claimAt s at .met ≡ m → Reason mode (refusedWith (symbolStep mode s at .step))
+  goes-on : (m : Met) → claimAt s at .met ≡ m → symbolStep mode s at .step ≡ step.Finished → ⊥
+  unfolding symbolStep claimAt
+  goes-on met.Finished e f = not-finished _ _ _ _ _ at (length s) (le4 s at) _ (leb (length s) at) (ltb limit (length s)) (ltb (length s - at) 4) (ltb (length s - at) (le4 s at)) (lt-leb (length s) at h) e
+  goes-on (met.Refused why) e f = refused-no-end why (simp e at f)
+  goes-on (met.Entry size) e f = no-end (symbolEntry mode (part s at size) .answer) (simp e at f)
+
+  reason-by : (m : Met) → claimAt s at .met ≡ m → Reason mode (refusedWith (symbolStep mode s at .step))
   unfolding accepted symbolStep claimAt
-  step-by met.Finished e = absurd (not-finished _ _ _ _ _ at (length s) (le4 s at) _ (leb (length s) at) (ltb limit (length s)) (ltb (length s - at) 4) (ltb (length s - at) (le4 s at)) (lt-leb (length s) at h) e)
-  step-by (met.Refused why) e = simp e (refused-by _ _ _ _ _ at (length s) (le4 s at) _ mode (leb (length s) at) (ltb limit (length s)) (ltb (length s - at) 4) (ltb (length s - at) (le4 s at)) why (le-ltb limit (length s) small) e)
-  step-by (met.Entry size) e = simp e (entry-reason mode (part s at size) (simp e at no))
+  reason-by met.Finished e = absurd (not-finished _ _ _ _ _ at (length s) (le4 s at) _ (leb (length s) at) (ltb limit (length s)) (ltb (length s - at) 4) (ltb (length s - at) (le4 s at)) (lt-leb (length s) at h) e)
+  reason-by (met.Refused why) e = simp e (refused-by _ _ _ _ _ at (length s) (le4 s at) _ mode (leb (length s) at) (ltb limit (length s)) (ltb (length s - at) 4) (ltb (length s - at) (le4 s at)) why (le-ltb limit (length s) small) e)
+  reason-by (met.Entry size) e = simp e (entry-reason mode (part s at size) (simp e at no))
 
-  dropped-by : (stand : Bool) → Reason mode (if stand then 10 else refusedWith (symbolStep mode s at .step))
-  dropped-by true = zero-claim
-  dropped-by false = step-by (claimAt s at .met) refl
+  stopped-by : (t : Step) → symbolStep mode s at .step ≡ t → Stopped mode s at
+  unfolding accepted
+  stopped-by step.Finished e = absurd (goes-on (claimAt s at .met) refl e)
+  stopped-by (step.Record info) e = absurd (not-both (simp e) no)
+  stopped-by (step.Refused why) e = record { why = why; step = e; reason = simp e at (reason-by (claimAt s at .met) refl) }
 
-  pub reason : Reason mode (droppedWith mode s at)
-  unfolding droppedWith
-  reason = dropped-by (stands s at)
+  pub stopped : Stopped mode s at
+  stopped = stopped-by (symbolStep mode s at .step) refl
