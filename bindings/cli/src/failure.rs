@@ -7,6 +7,8 @@ use std::process::ExitCode;
 pub enum Failure {
     /// Refused or not found: 1.
     Refused(String),
+    /// A file was written, and something is not in it: 1, whether or not somebody reads what is printed.
+    Dropped(String),
     /// The arguments: 2.
     Usage(String),
     /// The file: 2.
@@ -16,10 +18,15 @@ pub enum Failure {
 }
 
 impl Failure {
+    /// That the reader of standard output has gone.
+    pub fn is_unread(&self) -> bool {
+        matches!(self, Self::Output(why) if why.kind() == ErrorKind::BrokenPipe)
+    }
+
     /// Says it on standard error; the status.
     pub fn tell(self) -> ExitCode {
         match self {
-            Self::Refused(why) => {
+            Self::Refused(why) | Self::Dropped(why) => {
                 eprintln!("vindaskot: {why}.");
                 ExitCode::from(1)
             }
@@ -31,7 +38,7 @@ impl Failure {
                 eprintln!("vindaskot: {why}.");
                 ExitCode::from(2)
             }
-            Self::Output(why) if why.kind() == ErrorKind::BrokenPipe => ExitCode::SUCCESS,
+            gone if gone.is_unread() => ExitCode::SUCCESS,
             Self::Output(why) => {
                 let why = in_words(&why);
                 eprintln!("vindaskot: standard output can't be written: {why}.");

@@ -27,11 +27,20 @@ use failure::Failure;
 fn main() -> ExitCode {
     let mut out = BufWriter::new(io::stdout().lock());
     let end = run(&mut out);
-    // What was printed before a refusal belongs to it; that it can't be written goes before.
-    match out.flush().map_err(Failure::Output).and(end) {
+    let printed = out.flush().map_err(Failure::Output);
+    match ended(end, printed) {
         Ok(true) => ExitCode::SUCCESS,
         Ok(false) => ExitCode::from(1),
         Err(failure) => failure.tell(),
+    }
+}
+
+/// What was printed before a refusal belongs to it; that it can't be written goes before. But what is said of a file that
+/// was written does not depend on whether anybody reads it.
+fn ended(end: Result<bool, Failure>, printed: Result<(), Failure>) -> Result<bool, Failure> {
+    match (end, printed) {
+        (Err(dropped @ Failure::Dropped(_)), Err(gone)) if gone.is_unread() => Err(dropped),
+        (end, printed) => printed.and(end),
     }
 }
 

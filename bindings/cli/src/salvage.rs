@@ -3,7 +3,7 @@
 use std::ffi::OsStr;
 use std::io::Write;
 
-use vindaskot::{Run, salvage_to_vec_in};
+use vindaskot::{Refusal, Run, Salvaged, salvage_to_vec_in};
 
 use crate::entries::entries;
 use crate::failure::Failure;
@@ -14,25 +14,53 @@ use crate::written;
 
 const HEADINGS: [&str; 3] = ["place", "length", "why"];
 
-/// The file is there before anything is said of it. Whether nothing was dropped.
+/// The file is there before anything is said of it. What was dropped is the status, also where the reader of the table has
+/// gone.
 pub fn salvage(upload: &Upload, to: &OsStr, out: &mut impl Write) -> Result<bool, Failure> {
     let salvaged = salvage_to_vec_in(&upload.bytes, upload.mode)
         .map_err(|why| upload.refused(words::refusal(&why)))?;
     written::write(to, &salvaged.upload)?;
+    match print(upload, &salvaged, to, out) {
+        Err(why) if !why.is_unread() => return Err(why),
+        _ => {}
+    }
+    if salvaged.runs.is_empty() {
+        return Ok(true);
+    }
+    Err(Failure::Dropped(format!(
+        "{}: {}; the rest is in {}",
+        upload.told(),
+        dropped(upload, &salvaged),
+        to.to_string_lossy()
+    )))
+}
+
+fn dropped(upload: &Upload, salvaged: &Salvaged) -> String {
+    let bytes = upload.bytes.len() - salvaged.upload.len();
+    format!(
+        "dropped: {}, {}",
+        many(salvaged.runs.len(), "run", "runs"),
+        many(bytes, "byte", "bytes")
+    )
+}
+
+fn print(
+    upload: &Upload,
+    salvaged: &Salvaged,
+    to: &OsStr,
+    out: &mut impl Write,
+) -> Result<(), Failure> {
     writeln!(out, "{}", upload.told())?;
     let kept = table(upload, &salvaged.runs, out)?;
-    let length = salvaged.upload.len();
-    let dropped = upload.bytes.len() - length;
     writeln!(
         out,
-        "kept: {}, {}, in {}; dropped: {}, {}",
+        "kept: {}, {}, in {}; {}",
         many(kept, "entry", "entries"),
-        many(length, "byte", "bytes"),
+        many(salvaged.upload.len(), "byte", "bytes"),
         to.to_string_lossy(),
-        many(salvaged.runs.len(), "run", "runs"),
-        many(dropped, "byte", "bytes")
+        dropped(upload, salvaged)
     )?;
-    Ok(salvaged.runs.is_empty())
+    Ok(())
 }
 
 /// A line a run, and none where nothing was dropped; how many entries were kept. A run is a refused step of the walk and
@@ -44,21 +72,28 @@ fn table(upload: &Upload, runs: &[Run], out: &mut impl Write) -> Result<usize, F
     if !runs.is_empty() {
         writeln!(out, "{place:>first$}  {length:>second$}  {why}")?;
     }
-    let mut runs = runs.iter();
+    let mut left = runs.iter();
     let mut kept = 0;
-    for (_, entry) in entries(upload) {
+    for (at, entry) in entries(upload) {
         match entry {
             Ok(_) => kept += 1,
             Err(why) => {
-                let Some(Run { start, length, .. }) = runs.next() else {
-                    break;
-                };
+                let run = left.next().filter(|run| is_of(run, at, &why));
+                let Run { start, length, .. } = run.expect(AGREE);
                 let why = words::refusal(&why);
                 writeln!(out, "{start:>first$}  {length:>second$}  {why}")?;
             }
         }
     }
+    assert!(left.next().is_none(), "{AGREE}");
     Ok(kept)
+}
+
+/// What is proved of the archive. A table that is not of the file would be worse than none.
+const AGREE: &str = "the dropped runs are the refused steps, one for each and in order";
+
+fn is_of(run: &Run, at: usize, why: &Refusal) -> bool {
+    (run.start, run.number) == (at, why.number)
 }
 
 fn widest(heading: &str, numbers: impl Iterator<Item = usize>) -> usize {

@@ -3,8 +3,10 @@
 mod common;
 
 use std::fs::{self, OpenOptions, Permissions};
-use std::io::Write;
+use std::io::{BufRead, BufReader, Read, Write};
+use std::os::fd::OwnedFd;
 use std::os::unix::fs::{PermissionsExt, symlink};
+use std::os::unix::net::UnixStream;
 use std::os::unix::process::CommandExt;
 use std::path::{Path, PathBuf};
 use std::process::{Command, Output, Stdio};
@@ -375,6 +377,112 @@ fn a_table_that_can_not_be_printed() {
     assert_eq!(output.status.code(), Some(2));
     assert_eq!(desk.get("out.bin"), sample());
     desk.hold("salvage-full.txt");
+}
+
+/// The status and the message are about the file, so they are the same where nobody reads the table: one that has gone
+/// before the program begins, and one that goes when it has read a line of a table that no pipe holds. Of an upload that
+/// is kept whole the status is 0 there, too.
+#[test]
+fn a_table_that_nobody_reads() {
+    let desk = Desk::new("unread");
+    desk.put("few.bin", &[sample(), short(29)].concat());
+    desk.put("many.bin", &short(4).repeat(50_000));
+    desk.put("sound.bin", &sample());
+    let kept = [sample(), vec![], sample()];
+    let dropped = [
+        Some("1 run, 29 bytes"),
+        Some("50,000 runs, 200,000 bytes"),
+        None,
+    ];
+    for (number, name) in ["few.bin", "many.bin", "sound.bin"].iter().enumerate() {
+        for first_line in [false, true] {
+            let out = format!("out-{first_line}-{name}");
+            let (status, said) = read_by(first_line, &desk.folder, &["salvage", name, &out]);
+            assert_eq!(desk.get(&out), kept[number]);
+            let expected = dropped[number].map_or(String::new(), |dropped| {
+                let length = grouped(fs::metadata(desk.folder.join(name)).unwrap().len());
+                format!("vindaskot: {name} (binary, {length} bytes): dropped: {dropped}; the rest is in {out}.\n")
+            });
+            let what = (status, said.as_str());
+            assert_eq!(
+                what,
+                (Some(i32::from(dropped[number].is_some())), &expected[..])
+            );
+        }
+    }
+    fs::remove_dir_all(&desk.folder).unwrap();
+}
+
+/// The status and what is said on standard error, where the first line of standard output is read, or nothing.
+fn read_by(first_line: bool, folder: &Path, words: &[&str]) -> (Option<i32>, String) {
+    let (reader, writer) = UnixStream::pair().unwrap();
+    let reader = first_line.then(move || BufReader::new(reader));
+    let mut command = program(folder, words);
+    command.stdout(OwnedFd::from(writer)).stderr(Stdio::piped());
+    let mut child = command.spawn().unwrap();
+    // It holds an end of the pair for as long as it lives.
+    drop(command);
+    if let Some(mut reader) = reader {
+        let mut line = String::new();
+        reader.read_line(&mut line).unwrap();
+        assert!(line.contains(" (binary, "), "{line}");
+    }
+    let mut stderr = child.stderr.take().unwrap();
+    let mut said = String::new();
+    stderr.read_to_string(&mut said).unwrap();
+    (child.wait().unwrap().code(), said)
+}
+
+fn grouped(number: u64) -> String {
+    match number {
+        0..1000 => number.to_string(),
+        _ => format!("{},{:03}", number / 1000, number % 1000),
+    }
+}
+
+/// Thousands of runs, some side by side and of each number: no line is left out, and each is made here.
+#[test]
+fn thousands_of_runs() {
+    let sound = symbol(b"MAIN.a", b"LREAL", 0, &[]);
+    let (mut damaged, mut kept) = (Vec::new(), Vec::new());
+    let mut lines = vec![" place  length  why".to_string()];
+    let mut drop = |damaged: &mut Vec<u8>, piece: &[u8], why: String| {
+        let (place, length) = (damaged.len(), piece.len());
+        lines.push(format!("{place:>6}  {length:>6}  refusal {why}"));
+        damaged.extend(piece);
+    };
+    for number in 0..4000 {
+        let claim = 4 + number % 26;
+        let short = short(claim);
+        let why = format!("2, too short: 30 bytes needed, {claim} there");
+        drop(&mut damaged, &short, why);
+        let why = "3, entry length mismatch: 238 bytes claimed or needed, 44 there";
+        drop(&mut damaged, &long(b"MAIN.b"), why.into());
+        if number % 3 == 0 {
+            damaged.extend(&sound);
+            kept.extend(&sound);
+            let why = "16, end byte: byte 36 of the entry is 0x58 and not 0";
+            drop(&mut damaged, &cut(b"MAIN.c"), why.into());
+        }
+    }
+    let why = "10, zero entry length: 1 byte at least, 0 claimed, so no later entry is reached";
+    drop(&mut damaged, &[&short(0)[..], &sound].concat(), why.into());
+    let desk = Desk::new("thousands");
+    desk.put("damaged.bin", &damaged);
+    let words = ["salvage", "--checked", "damaged.bin", "kept.bin"];
+    let output = fed(program(&desk.folder, &words), b"");
+    assert_eq!(output.status.code(), Some(1));
+    assert_eq!(desk.get("kept.bin"), kept);
+    let text = String::from_utf8(output.stdout).unwrap();
+    let printed: Vec<&str> = text.lines().collect();
+    let last = 2 + 9335;
+    assert_eq!(printed.len(), last + 1);
+    assert_eq!(printed[1..last], lines);
+    assert_eq!(
+        printed[last],
+        "kept: 1,334 entries, 58,696 bytes, in kept.bin; dropped: 9,335 runs, 300,700 bytes"
+    );
+    fs::remove_dir_all(&desk.folder).unwrap();
 }
 
 /// A rig of 9,000 symbols, one in a hundred of them damaged: every line is made here from what was done to it.
