@@ -15,11 +15,14 @@ pub fn repository() -> PathBuf {
     Path::new(env!("CARGO_MANIFEST_DIR")).join("../..")
 }
 
-/// A folder of a test's own, empty at first, which others may read.
+/// A folder of a test's own, empty at first, which others may read. A run that failed leaves its folder, and a later one may
+/// have its process number: so the first name that is free is taken.
 pub fn folder(name: &str) -> PathBuf {
-    let folder = std::env::temp_dir().join(format!("vindaskot-{}-{name}", std::process::id()));
-    fs::create_dir_all(&folder).expect("the folder for temporary files can be written");
-    folder
+    let own = format!("vindaskot-{}-{name}", std::process::id());
+    let mut folders = (0..1000).map(|number| std::env::temp_dir().join(format!("{own}-{number}")));
+    folders
+        .find(|folder| fs::create_dir(folder).is_ok())
+        .expect("the folder for temporary files can be written")
 }
 
 /// The program with nothing of the caller's environment that it heeds.
