@@ -18,9 +18,10 @@ pub enum Failure {
 }
 
 impl Failure {
-    /// That the reader of standard output has gone.
+    /// That the reader of standard output has gone: of a pipe, or of a socket in which it left something unread.
     pub fn is_unread(&self) -> bool {
-        matches!(self, Self::Output(why) if why.kind() == ErrorKind::BrokenPipe)
+        use ErrorKind::{BrokenPipe, ConnectionReset};
+        matches!(self, Self::Output(why) if matches!(why.kind(), BrokenPipe | ConnectionReset))
     }
 
     /// Says it on standard error; the status.
@@ -55,13 +56,19 @@ impl From<io::Error> for Failure {
     }
 }
 
-/// An error of the system, with no number.
+/// An error of the system, with no number: it says nothing to a reader, and a refusal has one of its own.
 pub fn in_words(why: &io::Error) -> String {
     match why.kind() {
         ErrorKind::NotFound => "there is no such file".into(),
         ErrorKind::PermissionDenied => "there is no permission to read it".into(),
         ErrorKind::IsADirectory => "it is a directory".into(),
         ErrorKind::StorageFull => "no space is left".into(),
-        _ => why.to_string(),
+        _ => {
+            let told = why.to_string();
+            let (words, _) = told.split_once(" (os error ").unwrap_or((&told, ""));
+            let mut letters = words.chars();
+            let first = letters.next().map(|letter| letter.to_ascii_lowercase());
+            first.into_iter().chain(letters).collect()
+        }
     }
 }

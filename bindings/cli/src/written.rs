@@ -53,7 +53,8 @@ fn unwritable(path: &OsStr, why: &io::Error) -> Failure {
     Failure::File(format!("{path} can't be written: {why}"))
 }
 
-/// A file without its name as yet, which goes when it is dropped.
+/// A file without its name as yet, which goes when it is dropped. A run that is killed leaves it behind; help.txt says by
+/// which name.
 struct Unnamed {
     path: PathBuf,
     file: File,
@@ -87,10 +88,10 @@ impl Unnamed {
     }
 
     /// A second name is refused where anything has it, and the file is whole by then: so its reader never sees a part.
-    fn name(mut self, path: &Path, bytes: &[u8]) -> io::Result<()> {
+    fn name(mut self, path: &Path, bytes: &[u8], link: Link) -> io::Result<()> {
         self.file.write_all(bytes)?;
         self.file.sync_all()?;
-        fs::hard_link(&self.path, path).map_err(|why| match why.kind() {
+        link(&self.path, path).map_err(|why| match why.kind() {
             // There was permission for the first name.
             ErrorKind::PermissionDenied => ErrorKind::Unsupported.into(),
             _ => why,
@@ -98,12 +99,52 @@ impl Unnamed {
     }
 }
 
+/// Gives a file a second name.
+type Link = fn(&Path, &Path) -> io::Result<()>;
+
 /// Writes a new file.
 pub fn write(path: &OsStr, bytes: &[u8]) -> Result<(), Failure> {
+    write_by(|from, to| fs::hard_link(from, to), path, bytes)
+}
+
+fn write_by(link: Link, path: &OsStr, bytes: &[u8]) -> Result<(), Failure> {
     let to = Path::new(path);
-    let written = Unnamed::beside(to).and_then(|file| file.name(to, bytes));
+    let written = Unnamed::beside(to).and_then(|file| file.name(to, bytes, link));
     written.map_err(|why| match why.kind() {
         ErrorKind::AlreadyExists => taken(path, "it is there already"),
         _ => unwritable(path, &why),
     })
+}
+
+#[cfg(test)]
+mod tests {
+    use super::*;
+
+    /// Linux says EPERM (1) of a file system that has no hard links, as FAT, and some say that there is no such call (38).
+    /// Nobody but root can mount one, so the system's answer is made up here; all else is the program's.
+    #[test]
+    fn a_file_system_without_hard_links() {
+        let own = |n| std::env::temp_dir().join(format!("vindaskot-{}-links-{n}", process::id()));
+        let mut free = (0..1000)
+            .map(own)
+            .filter(|folder| fs::create_dir(folder).is_ok());
+        let folder = free.next().unwrap();
+        let out = folder.join("out.bin");
+        let answers: [Link; 2] = [
+            |_, _| Err(io::Error::from_raw_os_error(1)),
+            |_, _| Err(io::Error::from_raw_os_error(38)),
+        ];
+        for link in answers {
+            let Err(Failure::File(said)) = write_by(link, out.as_os_str(), b"whole") else {
+                panic!("it is written, or refused for the input");
+            };
+            let why = "can't be written: its file system has no hard links, by which a file gets its name once it is whole";
+            assert_eq!(said, format!("{} {why}", out.display()));
+            assert_eq!(fs::read_dir(&folder).unwrap().count(), 0);
+        }
+        assert!(write(out.as_os_str(), b"whole").is_ok());
+        assert_eq!(fs::read(&out).unwrap(), b"whole");
+        assert_eq!(fs::read_dir(&folder).unwrap().count(), 1);
+        fs::remove_dir_all(folder).unwrap();
+    }
 }

@@ -7,7 +7,7 @@ use std::io::{BufRead, BufReader, Read, Write};
 use std::os::fd::OwnedFd;
 use std::os::unix::fs::{PermissionsExt, symlink};
 use std::os::unix::net::UnixStream;
-use std::os::unix::process::CommandExt;
+use std::os::unix::process::{CommandExt, ExitStatusExt};
 use std::path::{Path, PathBuf};
 use std::process::{Command, Output, Stdio};
 
@@ -295,7 +295,33 @@ fn a_file_that_was_left_behind() {
     fs::remove_dir_all(&desk.folder).unwrap();
 }
 
-/// No folder, no permission, no room: nothing is left behind.
+/// A run that is killed while it writes, after each of some numbers of bytes, none and all but one among them: the name is
+/// not there, and what is left behind has another. The system kills it, at the first byte above what a file may have.
+#[test]
+fn a_run_that_is_killed() {
+    const KIB: usize = 64;
+    let upload = grown(symbol(b"MAIN.a", b"LREAL", 0, &[]), 1024 * KIB + 1 - 44);
+    assert_eq!(upload.len(), 1024 * KIB + 1);
+    let desk = Desk::new("killed");
+    desk.put("rig.bin", &upload);
+    for limit in [0, 1, KIB / 4, KIB / 2, KIB - 1, KIB] {
+        let mut command = Command::new("env");
+        let script = "ulimit -c 0 && ulimit -f \"$1\" && exec \"$0\" salvage rig.bin out.bin";
+        command.args(["--default-signal=XFSZ", "bash", "-c", script, PROGRAM]);
+        command.arg(limit.to_string()).current_dir(&desk.folder);
+        let output = fed(command, b"");
+        const XFSZ: i32 = 25;
+        assert_eq!(output.status.signal(), Some(XFSZ), "{limit}: {output:?}");
+        let names = desk.names();
+        assert_eq!((names.len(), &names[1][..]), (2, "rig.bin"), "{names:?}");
+        assert!(names[0].starts_with(".vindaskot-"), "{names:?}");
+        assert_eq!(desk.get(&names[0]), upload[..1024 * limit]);
+        fs::remove_file(desk.folder.join(&names[0])).unwrap();
+    }
+    fs::remove_dir_all(&desk.folder).unwrap();
+}
+
+/// No folder, no permission, no room, no such name: nothing is left behind.
 #[test]
 fn what_can_not_be_written() {
     let mut desk = Desk::new("unwritable");
@@ -304,6 +330,7 @@ fn what_can_not_be_written() {
     desk.refused(&["salvage", "rig.bin", "rig.bin/out.bin"], 2);
     desk.refused(&["salvage", "rig.bin", "out/"], 2);
     desk.refused(&["salvage", "rig.bin", "-"], 2);
+    desk.refused(&["salvage", "rig.bin", &"o".repeat(256)], 2);
     let words = ["salvage", "rig.bin", "closed/out.bin"];
     let closed = without_permission(&desk.folder, &words);
     desk.session.note(&words, &closed);
