@@ -159,3 +159,32 @@ fn salvaged_whole_or_not_at_all() {
     assert_eq!(salvage_to_vec(&large), Err(why));
     assert_eq!(salvage_to_vec_in(&large, Mode::Checked), Err(why));
 }
+
+/// Uploads as long as there may be: an entry that is all of it, and one with a run behind it. What follows the header is
+/// unread, each byte by its place.
+#[test]
+fn salvaged_at_the_limit() {
+    for (claim, runs) in [(LIMIT, vec![]), (LIMIT - 5, vec![last(5)])] {
+        let mut data = vec![0; LIMIT];
+        for (at, byte) in data.iter_mut().enumerate().skip(33) {
+            *byte = (at % 251) as u8;
+        }
+        data[..4].copy_from_slice(&(claim as u32).to_le_bytes());
+        data[claim..].fill(0);
+        let upload = data[..claim].to_vec();
+        let salvaged = Salvaged { upload, runs };
+        let checked = salvage_to_vec_in(&data, Mode::Checked);
+        // An assertion about equality would print all of it.
+        assert!(salvage_to_vec(&data).as_ref() == Ok(&salvaged), "{claim}");
+        assert!(checked == Ok(salvaged), "{claim}");
+    }
+}
+
+/// The last bytes of an upload at the limit, which are zeros.
+fn last(length: usize) -> Run {
+    Run {
+        start: LIMIT - length,
+        length,
+        number: 10,
+    }
+}

@@ -328,12 +328,36 @@ fn runs_in_words() {
         format!("{salvaged:?}"),
         format!("Salvage {{ upload: [], runs: [{first:?}, {told}] }}")
     );
-    assert_eq!(
-        Run {
-            number: 15,
-            ..first
-        }
-        .kind(),
-        None
-    );
+}
+
+/// Of real runs under each number that there is, and of every other kind of number.
+#[test]
+fn kinds_of_runs() {
+    let sound = PlainSymbol::named(b"MAIN.fZoom").bytes();
+    let mut wrong = sound.clone();
+    wrong[40] = b'X';
+    let mut long = sound.clone();
+    long[24] = 200;
+    let data = [&[4, 0, 0, 0], &long[..], &sound, &wrong, &[0; 9]].concat();
+    let runs = hold_in(&data, Mode::Checked);
+    let met: Vec<_> = runs.iter().map(|run| (run.number, run.kind())).collect();
+    use RefusalKind as K;
+    let expected = [
+        (2, Some(K::TooShort)),
+        (3, Some(K::EntryLengthMismatch)),
+        (16, Some(K::EndByte)),
+        (10, Some(K::ZeroEntryLength)),
+    ];
+    assert_eq!(met, expected);
+    // No run has another number, but anyone can make one.
+    for (number, kind) in [
+        (0, None),
+        (1, Some(K::UnexpectedLength)),
+        (5, Some(K::TooLarge)),
+        (15, None),
+        (17, None),
+        (u32::MAX, None),
+    ] {
+        assert_eq!(Run { number, ..runs[0] }.kind(), kind, "{number}");
+    }
 }
