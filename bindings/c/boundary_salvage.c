@@ -582,14 +582,32 @@ static struct room zeros_of(size_t len)
     return (struct room){at, len};
 }
 
-/* As many entries as there can be, of 33 bytes, and zeros behind them. */
+/* An upload whose first 64 bytes are zeros. No other byte is, and each goes by its place: so a copy that is zeros, is
+ * of another place or was not made is seen. */
+static struct room filled_of(size_t len)
+{
+    enum { WORD = 4, FIRST = 64 };
+    uint8_t *at = area(UPLOAD, len);
+    memset(at, 0, FIRST);
+    memset(at + len - WORD, 0xA5, WORD);
+    for (size_t i = FIRST; i + WORD <= len; i += WORD) {
+        uint32_t word = (uint32_t)i * 0x9E3779B1u | 0x01010101u;
+        memcpy(at + i, &word, WORD);
+    }
+    return (struct room){at, len};
+}
+
+/* As many entries as there can be, of 33 bytes, each with its number in it, and zeros behind them. */
 static void limit_entries(size_t len)
 {
     struct room made = zeros_of(len);
     uint32_t last[RUN];
     size_t count = len / LEAST;
-    for (size_t i = 0; i < count; i++)
+    for (size_t i = 0; i < count; i++) {
+        uint32_t number = (uint32_t)i;
         made.at[LEAST * i] = LEAST;
+        memcpy(made.at + LEAST * i + 4, &number, sizeof number);
+    }
     struct bytes b = {made.at, len};
     set_run(last, LEAST * count, len - LEAST * count, 10);
     if (len > VINDASKOT_LIMIT)
@@ -619,11 +637,12 @@ static void limit_runs(void)
     CHECK(LIMITS, bad == 0, "%zu of %zu runs are others", bad, count);
 }
 
-/* One entry and what is left of the upload: all zeros; kept whole, all but a byte and its least; refused. */
+/* One entry and what is left of the upload: dropped as a whole for its zero claim; kept whole, all but a byte and its
+ * least; refused. */
 static void limit_entry(size_t len)
 {
     static struct buffer claimed;
-    struct room made = zeros_of(len);
+    struct room made = filled_of(len);
     struct bytes b = {made.at, len};
     uint32_t last[RUN];
     const size_t claims[] = {0, len, len - 1, LEAST, len + 1, HEADER - 1};

@@ -192,7 +192,7 @@ uint32_t __real_vindaskot_salvage(DAMAGED, LENT);
 uint32_t __real_vindaskot_salvage_in(DAMAGED, bool checked, LENT);
 #endif
 
-#if FAULT == 0 || (FAULT > 90 && FAULT < 118)
+#if FAULT == 0 || (FAULT > 90 && FAULT < 118) || FAULT == 132
 /* What is made of an upload: bytes and slots so far, and where the last run ends. */
 struct making {
     uint8_t *out;
@@ -242,6 +242,8 @@ static void keep(struct making *to, const uint8_t *from, size_t len, size_t unre
     if (to->out != NULL) {
         memcpy(to->out + to->bytes, from, len);
         memset(to->out + to->bytes + len - unread, 0, FAULT == 107 ? unread : 0);
+        if (FAULT == 132 && len > 4096)
+            memset(to->out + to->bytes + 4096, 0, len - 4096);
     }
     to->bytes += len;
 }
@@ -1512,9 +1514,12 @@ uint32_t __wrap_vindaskot_salvage(DAMAGED, LENT)
     return status;
 }
 
+#elif FAULT == 132 /* of an entry the bytes behind its first 4,096 are kept as zeros */
+SALVAGES(vindaskot_salvage_in)
+
 #elif FAULT == 0
 /* No fault but a control: the search that 23 to 33, 38 and 39 share, with the right comparison, and the salvage that 91
- * to 117 share. */
+ * to 117 and 132 share. */
 SAME_WHERE(small(x) == small(y))
 SEARCHES(vindaskot_find)
 SEARCHES(vindaskot_find_indexed)
