@@ -353,7 +353,8 @@ enum {
  * answer: bytes written to out, and slots written to runs; what stands behind these is as it was. The entries copied
  * and the runs make up the damaged upload, each of its bytes once. A second salvage of what was copied copies all of
  * it.
- * A run is one refused step of the walk, so two refused entries side by side are two runs. Its number is the step's:
+ * A run is one refused step of the walk, so two refused entries side by side are two runs. Its number is the step's,
+ * save at a claim of 0, which a step refuses with 2 and vindaskot_walk with 10:
  *   2   a claim below 30, and the run is as long as that claim; or under 4 bytes left, and it goes to the end
  *   3   strings that leave the entry, and the run is as long as the claim; or a claim beyond the upload, and it goes to
  *       the end
