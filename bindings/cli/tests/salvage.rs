@@ -10,6 +10,8 @@ use std::os::unix::net::UnixStream;
 use std::os::unix::process::{CommandExt, ExitStatusExt};
 use std::path::{Path, PathBuf};
 use std::process::{Command, Output, Stdio};
+use std::thread;
+use std::time::Duration;
 
 use common::{PROGRAM, Session, fed, folder, grown, hexadecimal, program, sample, symbol};
 
@@ -453,6 +455,8 @@ fn read_by(first_line: bool, folder: &Path, words: &[&str]) -> (Option<i32>, Str
         let mut line = String::new();
         reader.read_line(&mut line).unwrap();
         assert!(line.contains(" (binary, "), "{line}");
+        // By then the program waits for room, and is told that its connection was reset.
+        thread::sleep(Duration::from_millis(100));
     }
     let mut stderr = child.stderr.take().unwrap();
     let mut said = String::new();
