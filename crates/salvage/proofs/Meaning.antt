@@ -6,7 +6,7 @@ use mathlib.Core.Bool.{Bool, true, false}
 use mathlib.Core.List.{List, [], _∷_, _++_, map}
 use lib.Dec.{ltb, leb}
 use lib.ListN.{length, take, drop, length-append, length-take, drop-of-length-le}
-use lib.Seq.{take-at}
+use lib.Seq.{take-at, drop-at}
 use borrow.Author.Tests.{leb-true, leb-false, ltb-false, le-ltb, eqb-true}
 use Rattle.le.specs.Le.{if_then_else_, part}
 use Rattle.le.proofs.Laws.{not-both, drop-part}
@@ -27,7 +27,7 @@ use Rattle.index.specs.Steps.{accepted, those}
 use Rattle.index.specs.Index.{starts}
 use Rattle.salvage.specs.declared.Salvaged.{Salvaged}
 use Rattle.salvage.specs.declared.Salvaged.the-variants as salvaged
-use Rattle.salvage.specs.Both.{Both, Refuse, WritesBoth}
+use Rattle.salvage.specs.Both.{Writings, Both, Refuse, WritesBoth}
 use Rattle.salvage.specs.Pieces.{Piece, Kept, Dropped, pieceEnd, refusedWith, droppedWith, pieceAt, pieces, entriesOf, runsOf}
 use Rattle.salvage.specs.Salvage.{kept, dropped, salvaging}
 use Rattle.salvage.specs.Meaning.{toldAt, Cover, done, entry, run, zero-claim, relaid, Salvages, SalvageMeant}
@@ -205,15 +205,46 @@ fits true u x y n m e = absurd (let z : _≡_ {A = ℕ} 0 1 = cc in omega arith)
 fits false true x y n m e = absurd (let z : _≡_ {A = ℕ} 0 1 = cc in omega arith)
 fits false false x y n m e = (refl, refl, cc, cc)
 
+record Listed (old new bs : List ℕ) (n : ℕ) : Type 0 where
+  there : n ≤ length new
+  is : take n new ≡ bs
+  behind : drop n new ≡ drop n old
+
+listed : (old new bs : List ℕ) {n : ℕ} → new ≡ bs ++ drop (length bs) old → length bs ≡ n → Listed old new bs n
+listed old new bs {n} e l =
+    let k = ap length e ∙ length-append bs (drop (length bs) old) in
+    record {
+      there = omega (arith, k, l);
+      is = ap (take n) e ∙ take-at bs (drop (length bs) old) n l;
+      behind = ap (drop n) e ∙ drop-at bs (drop (length bs) old) n l ∙ ap (λ (m : ℕ). drop m old) l;
+    }
+
 module _ {out runs out' runs' : List ℕ} {bytes slots : ℕ} where
-  wrote-both : (bs ns : List ℕ) → WritesBoth (Both bs ns) out runs out' runs' (salvaged.Done bytes slots) → (take bytes out' ≡ bs) × (take slots runs' ≡ ns)
+  wrote-both : (bs ns : List ℕ) → WritesBoth (Both bs ns) out runs out' runs' (salvaged.Done bytes slots) → Listed out out' bs bytes × Listed runs runs' ns slots
   wrote-both bs ns w =
       let f = fits (ltb (length out) (length bs)) (ltb (length runs) (length ns)) _ _ (length bs) (length ns) (w .said) in
-      (ap (take bytes) (w .left-bytes ∙ simp (f .0, f .1)) ∙ take-at bs (drop (length bs) out) bytes (f .2), ap (take slots) (w .left-slots ∙ simp (f .0, f .1)) ∙ take-at ns (drop (length ns) runs) slots (f .3))
+      (listed out out' bs (w .left-bytes ∙ simp (f .0, f .1)) (f .2), listed runs runs' ns (w .left-slots ∙ simp (f .0, f .1)) (f .3))
 
-  wrote-by : (large : Bool) (why : Refusal) (bs ns : List ℕ) → WritesBoth (if large then Refuse why else Both bs ns) out runs out' runs' (salvaged.Done bytes slots) → (large ≡ false) × ((take bytes out' ≡ bs) × (take slots runs' ≡ ns))
+  wrote-by : (large : Bool) (why : Refusal) (bs ns : List ℕ) → WritesBoth (if large then Refuse why else Both bs ns) out runs out' runs' (salvaged.Done bytes slots)
+      → (large ≡ false) × (Listed out out' bs bytes × Listed runs runs' ns slots)
   wrote-by true why bs ns w = absurd (let z : _≡_ {A = ℕ} 0 1 = cc (w .said) in omega arith)
   wrote-by false why bs ns w = (refl, wrote-both bs ns w)
+
+-- and where it was refused
+abbrev eitherOf : Bool → Bool → List ℕ × List ℕ → List ℕ × List ℕ → List ℕ × List ℕ
+eitherOf t u old new = if t then old else if u then old else new
+
+module _ {out runs out' runs' : List ℕ} {why : Refusal} where
+  untouched-by : (new : List ℕ × List ℕ) (t u : Bool) (x y : Refusal) (n m : ℕ)
+      → salvaged.Refused why ≡ (if t then salvaged.Refused x else if u then salvaged.Refused y else salvaged.Done n m)
+      → out' ≡ eitherOf t u (out, runs) new .0 → runs' ≡ eitherOf t u (out, runs) new .1 → (out' ≡ out) × (runs' ≡ runs)
+  untouched-by new true u x y n m e f g = (f, g)
+  untouched-by new false true x y n m e f g = (f, g)
+  untouched-by new false false x y n m e f g = absurd (let z : _≡_ {A = ℕ} 0 1 = cc in omega arith)
+
+  untouched : (w : Writings) → WritesBoth w out runs out' runs' (salvaged.Refused why) → (out' ≡ out) × (runs' ≡ runs)
+  untouched (Both bs ns) w = untouched-by (bs ++ drop (length bs) out, ns ++ drop (length ns) runs) (ltb (length out) (length bs)) (ltb (length runs) (length ns)) _ _ _ _ (w .said) (w .left-bytes) (w .left-slots)
+  untouched (Refuse x) w = (w .left-bytes, w .left-slots)
 
 -- of an upload within the limit
 module _ (mode : Bool) (s : List ℕ) (small : length s ≤ limit) where
@@ -260,6 +291,11 @@ salvage-meant mode s out runs out' runs' r w =
     record {
       wrote = λ bytes slots e.
           let d = wrote-by (ltb limit (length s)) _ (kept mode s) (dropped mode s) (subst (WritesBoth (salvaging mode s) out runs out' runs') e w) in
-          subst (λ (n : List ℕ). Salvages mode s n (take slots runs')) (sym (d .1 .0)) (subst (Salvages mode s (kept mode s)) (sym (d .1 .1)) (salvages mode s (ltb-false limit (length s) (d .0))));
+          record {
+            there = (d .1 .0 .there, d .1 .1 .there);
+            salvages = subst (λ (n : List ℕ). Salvages mode s n (take slots runs')) (sym (d .1 .0 .is)) (subst (Salvages mode s (kept mode s)) (sym (d .1 .1 .is)) (salvages mode s (ltb-false limit (length s) (d .0))));
+            behind = (d .1 .0 .behind, d .1 .1 .behind);
+          };
+      refused = λ why e. untouched (salvaging mode s) (subst (WritesBoth (salvaging mode s) out runs out' runs') e w);
       done = λ small h k. (length (kept mode s), (length (dropped mode s), wrote-done mode s small h k w));
     }

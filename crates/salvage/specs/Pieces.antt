@@ -21,7 +21,7 @@ pub data Piece : Type 0 where
 unfoldable pub pieceEnd : List ℕ → ℕ → ℕ
 pieceEnd s at = if stands s at then length s else claimAt s at .next
 
--- the number that a step is refused with
+-- the number that a step is refused with, 0 where it is not
 abbrev pub refusedWith : Step → ℕ
 refusedWith t = byStep t 0 (λ info. 0) (λ why. figuresOf why .number)
 
