@@ -7,7 +7,7 @@ use refusal::Refusal;
 ghost use mathlib.Core.Path.{_≡_};
 ghost use Prim.Native.Nat.{_≤_};
 ghost use lib.ListN.{length};
-ghost use Rattle.le.specs.Le.{le2, le4};
+ghost use Rattle.le.specs.Le.{le2};
 ghost use Rattle.refusal.specs.Ends.{endsIn, byChecked};
 ghost use Rattle.refusal.specs.declared.Checked.«the-variants» as checks;
 ghost use Rattle.entry.specs.Entry.{stringEnds};

@@ -22,6 +22,7 @@ unfoldable pub endsMet : List ℕ → List ℕ → Checked
 endsMet s [] = Passed
 endsMet s (at ∷ more) = if eqb (getD s at 0) 0 then endsMet s more else Refused (EndByte at (getD s at 0))
 
+-- the same in a mode: the present one looks at none
 unfoldable pub endsIn : Bool → List ℕ → List ℕ → Checked
 endsIn mode s ends = if mode then endsMet s ends else Passed
 
