@@ -15,7 +15,8 @@ use Rattle.refusal.specs.declared.Refusal.the-variants.{TooLarge, ZeroEntryLeng
 use Rattle.refusal.proofs.Laws.{passed}
 use Rattle.refusal.proofs.DoneBy.{done-by}
 use Rattle.refusal.specs.declared.Written.the-variants.{Done, Refused}
-use Rattle.entry.specs.Entry.{claimed, claimAt}
+use Rattle.entry.specs.Entry.{claimAt}
+use Rattle.entry.specs.declared.Claimed.{Claimed}
 use Rattle.entry.specs.declared.Met.the-variants as met
 use Rattle.entry.specs.Walk.{stands, stepsFrom, steps, any}
 use Rattle.symbol.specs.declared.AdsSymbolInfo.{AdsSymbolInfo}
@@ -28,23 +29,19 @@ use Rattle.index.specs.Index.{starts, indexing, firstOf, find, findIndex
 use Rattle.index.specs.declared.FindAnswer.{FindAnswer}
 use Rattle.index.specs.declared.FindAnswer.the-variants.{Found}
 use Rattle.le.proofs.Laws.{not-both}
+use Rattle.entry.proofs.Claims.{Claims, claims, ended, large, short, beyond, entry}
 use Rattle.index.proofs.Laws.{same-steps}
 
 -- a step that does not move, before the end, is a claim of 0
-module _ (x y z : Refusal) (at n c : ℕ) (h : at < n) where
-  zero-by : (p q r t : Bool) → p ≡ false
-      → (if p then claimed met.Finished at else if q then claimed (met.Refused x) n else if r then claimed (met.Refused y) n else if t then claimed (met.Refused z) n else claimed (met.Entry c) (at + c)) .next ≡ at
-      → (if p then claimed met.Finished at else if q then claimed (met.Refused x) n else if r then claimed (met.Refused y) n else if t then claimed (met.Refused z) n else claimed (met.Entry c) (at + c)) .met ≡ met.Entry 0
-  zero-by true q r t p e = absurd (not-both refl p)
-  zero-by false true r t p e = absurd (omega arith)
-  zero-by false false true t p e = absurd (omega arith)
-  zero-by false false false true p e = absurd (omega arith)
-  zero-by false false false false p e = ap met.Entry (omega arith)
-
 pub zero-claim : (s : List ℕ) (at : ℕ) → at < length s → stands s at ≡ true → claimAt s at .met ≡ met.Entry 0
-unfolding claimAt
-zero-claim s at h e =
-    zero-by _ _ _ at (length s) (le4 s at) h (leb (length s) at) (ltb limit (length s)) (ltb (length s - at) 4) (ltb (length s - at) (le4 s at)) (lt-leb (length s) at h) (eqb-true (claimAt s at .next) at e)
+zero-claim s at h e = by (claimAt s at) (claims s at) (eqb-true (claimAt s at .next) at e)
+  where
+    by : (c : Claimed) → Claims s at c → c .next ≡ at → c .met ≡ met.Entry 0
+    by c (ended a) f = absurd (omega arith)
+    by c (large a b) f = absurd (omega arith)
+    by c (short a b d) f = absurd (omega arith)
+    by c (beyond a b d g) f = absurd (omega arith)
+    by c (entry a b d g) f = ap met.Entry (omega arith)
 
 -- a walk allowed more steps than the upload has bytes is the whole walk
 pub steps-enough : (s : List ℕ) (n : ℕ) → length s ≤ n → stepsFrom s 0 n ≡ steps s

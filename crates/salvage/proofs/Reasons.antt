@@ -1,5 +1,5 @@
 -- A step before the end that gives no record is refused, and with what.
-use Prim.Native.Nat.{ℕ, _-_, _<_, _≤_}
+use Prim.Native.Nat.{ℕ, _+_, _-_, _<_, _≤_}
 use native.Mathlib.Omega.{arith}
 use mathlib.Core.Path.{_≡_, refl, sym, subst}
 use mathlib.Core.Bool.{Bool, true, false}
@@ -16,10 +16,11 @@ use Rattle.refusal.specs.declared.Refusal.the-variants.{TooShort, EntryLengthMi
 use Rattle.refusal.specs.declared.Checked.{Checked}
 use Rattle.refusal.specs.declared.Checked.the-variants as checks
 use Rattle.refusal.proofs.EndsMeant.{ends-meant}
-use Rattle.entry.specs.Entry.{claimAt, claimed}
+use Rattle.entry.specs.Entry.{claimAt}
 use Rattle.entry.specs.declared.Claimed.{Claimed}
 use Rattle.entry.specs.declared.Met.{Met}
 use Rattle.entry.specs.declared.Met.the-variants as met
+use Rattle.entry.proofs.Claims.{Claims, claims, ended, large, short, beyond, entry}
 use Rattle.symbol.specs.Symbol.{symbolPresent, bySymbol, symbolEntry, symbolEnds, sectionsOf, infoOf, infoRecord, stringsEnd, refused}
 use Rattle.symbol.specs.declared.SymbolAnswer.{SymbolAnswer}
 use Rattle.symbol.specs.declared.SymbolAnswer.the-variants as answer
@@ -58,25 +59,6 @@ module _ (mode : Bool) (e : List ℕ) where
   unfolding symbolEntry symbolPresent read
   entry-reason h = entry-by (ltb (length e) 30) (ltb (length e) (stringsEnd e)) (endsOf mode e) refl h
 
--- a step before the end of an upload is not finished, and its own refusals within the limit are 2 and 3
-module _ (x y z w u : ℕ) (at n c : ℕ) (large : Refusal) where
-  abbrev by : Bool → Bool → Bool → Bool → Claimed
-  by p q r t = if p then claimed met.Finished at else if q then claimed (met.Refused large) n else if r then claimed (met.Refused (TooShort x y)) n else if t then claimed (met.Refused (EntryLengthMismatch z w)) n else claimed (met.Entry c) u
-
-  not-finished : (p q r t : Bool) → p ≡ false → by p q r t .met ≡ met.Finished → ⊥
-  not-finished true q r t e h = not-both refl e
-  not-finished false true r t e h = let o : _≡_ {A = ℕ} 0 1 = cc in omega arith
-  not-finished false false true t e h = let o : _≡_ {A = ℕ} 0 1 = cc in omega arith
-  not-finished false false false true e h = let o : _≡_ {A = ℕ} 0 1 = cc in omega arith
-  not-finished false false false false e h = let o : _≡_ {A = ℕ} 0 1 = cc in omega arith
-
-  refused-by : (mode p q r t : Bool) (why : Refusal) → q ≡ false → by p q r t .met ≡ met.Refused why → Reason mode (figuresOf why .number)
-  refused-by mode true q r t why e h = absurd (let o : _≡_ {A = ℕ} 0 1 = cc in omega arith)
-  refused-by mode false true r t why e h = absurd (not-both refl e)
-  refused-by mode false false true t why e h = let s : TooShort x y ≡ why = cc in subst (λ (v : Refusal). Reason mode (figuresOf v .number)) s too-short
-  refused-by mode false false false true why e h = let s : EntryLengthMismatch z w ≡ why = cc in subst (λ (v : Refusal). Reason mode (figuresOf v .number)) s mismatch
-  refused-by mode false false false false why e h = absurd (let o : _≡_ {A = ℕ} 0 1 = cc in omega arith)
-
 no-end : (t : SymbolAnswer) → stepIs t ≡ step.Finished → ⊥
 no-end (answer.Record info) h = let z : _≡_ {A = ℕ} 0 1 = cc in omega arith
 no-end (answer.Refused why) h = let z : _≡_ {A = ℕ} 0 1 = cc in omega arith
@@ -91,16 +73,27 @@ pub record Stopped (mode : Bool) (s : List ℕ) (at : ℕ) : Type 0 where
   pub reason : Reason mode (figuresOf why .number)
 
 module _ (mode : Bool) (s : List ℕ) (at : ℕ) (small : length s ≤ limit) (h : at < length s) (no : accepted mode s at ≡ false) where
+  -- its own refusals are 2 and 3
+  met-by : (c : Claimed) → Claims s at c → (c .met ≡ met.Finished → ⊥) × ((why : Refusal) → c .met ≡ met.Refused why → Reason mode (figuresOf why .number))
+  met-by c (ended a) = absurd (omega arith)
+  met-by c (large a b) = absurd (omega arith)
+  met-by c (short a b d) = (λ z. let o : _≡_ {A = ℕ} 0 1 = cc in omega arith, λ why e. let y : TooShort (at + 4) (length s) ≡ why = cc in subst (λ (v : Refusal). Reason mode (figuresOf v .number)) y too-short)
+  met-by c (beyond a b d g) = (λ z. let o : _≡_ {A = ℕ} 0 1 = cc in omega arith, λ why e. let y : EntryLengthMismatch (le4 s at) (length s - at) ≡ why = cc in subst (λ (v : Refusal). Reason mode (figuresOf v .number)) y mismatch)
+  met-by c (entry a b d g) = (λ z. let o : _≡_ {A = ℕ} 0 1 = cc in omega arith, λ why e. let o : _≡_ {A = ℕ} 0 1 = cc in absurd (omega arith))
+
+  own-refusals : (claimAt s at .met ≡ met.Finished → ⊥) × ((why : Refusal) → claimAt s at .met ≡ met.Refused why → Reason mode (figuresOf why .number))
+  own-refusals = met-by (claimAt s at) (claims s at)
+
   goes-on : (m : Met) → claimAt s at .met ≡ m → symbolStep mode s at .step ≡ step.Finished → ⊥
-  unfolding symbolStep claimAt
-  goes-on met.Finished e f = not-finished _ _ _ _ _ at (length s) (le4 s at) _ (leb (length s) at) (ltb limit (length s)) (ltb (length s - at) 4) (ltb (length s - at) (le4 s at)) (lt-leb (length s) at h) e
+  unfolding symbolStep
+  goes-on met.Finished e f = own-refusals .0 e
   goes-on (met.Refused why) e f = refused-no-end why (simp e at f)
   goes-on (met.Entry size) e f = no-end (symbolEntry mode (part s at size) .answer) (simp e at f)
 
   reason-by : (m : Met) → claimAt s at .met ≡ m → Reason mode (refusedWith (symbolStep mode s at .step))
-  unfolding accepted symbolStep claimAt
-  reason-by met.Finished e = absurd (not-finished _ _ _ _ _ at (length s) (le4 s at) _ (leb (length s) at) (ltb limit (length s)) (ltb (length s - at) 4) (ltb (length s - at) (le4 s at)) (lt-leb (length s) at h) e)
-  reason-by (met.Refused why) e = simp e (refused-by _ _ _ _ _ at (length s) (le4 s at) _ mode (leb (length s) at) (ltb limit (length s)) (ltb (length s - at) 4) (ltb (length s - at) (le4 s at)) why (le-ltb limit (length s) small) e)
+  unfolding accepted symbolStep
+  reason-by met.Finished e = absurd (own-refusals .0 e)
+  reason-by (met.Refused why) e = simp e (own-refusals .1 why e)
   reason-by (met.Entry size) e = simp e (entry-reason mode (part s at size) (simp e at no))
 
   stopped-by : (t : Step) → symbolStep mode s at .step ≡ t → Stopped mode s at
