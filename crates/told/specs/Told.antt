@@ -13,6 +13,8 @@ use Rattle.salvage.specs.declared.Salvaged.{Salvaged}
 use Rattle.salvage.specs.declared.Salvaged.the-variants as salvaged
 use Rattle.salvage.specs.Both.{Writings}
 use Rattle.salvage.specs.Both as both
+use Rattle.room.specs.declared.RoomAnswer.{RoomAnswer}
+use Rattle.room.specs.declared.RoomAnswer.the-variants as room
 use Rattle.attr.specs.declared.AttributeAnswer.{AttributeAnswer}
 use Rattle.attr.specs.declared.AttributeAnswer.the-variants as attribute
 use Rattle.refactor.specs.declared.RefactorAnswer.{RefactorAnswer}
@@ -69,6 +71,11 @@ pub record WritesBothTold (w : Writings) (out runs out' runs' : List ℕ) (statu
   pub tells : Tells (salvagedTold (both.answer w (length out) (length runs))) status answer
   pub left-bytes : out' ≡ both.leaves w out runs .0
   pub left-slots : runs' ≡ both.leaves w out runs .1
+
+-- how many slots to set aside
+abbrev pub roomTold : RoomAnswer → Figures
+roomTold (room.Slots slots) = done slots 0
+roomTold (room.Refused why) = figuresOf why
 
 -- where it starts
 abbrev pub foundTold : FindAnswer → Figures

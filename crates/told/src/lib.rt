@@ -13,6 +13,7 @@ use refactor::ChainAnswer;
 use refactor::RefactorAnswer;
 use refusal::Refusal;
 use refusal::Written;
+use room::RoomAnswer;
 use salvage::Salvaged;
 use symbol::AdsSymbolInfo;
 use symbol::SymbolAnswer;
@@ -22,7 +23,7 @@ ghost use Prim.Native.Nat.{_+_};
 ghost use Rattle.refusal.specs.Refusal.{numbered, figuresOf};
 ghost use Rattle.walk.specs.Walk as walks;
 ghost use Rattle.field_walk.specs.Walk as «field-walks»;
-ghost use Rattle.told.specs.Told.{Tells, done, writtenTold, salvagedTold, foundTold, chainTold, symbolFlagsTold, symbol2FlagsTold, typeFlagsTold, endTold, attributeTold, refactorTold, symbolTold, fieldTold};
+ghost use Rattle.told.specs.Told.{Tells, done, writtenTold, salvagedTold, roomTold, foundTold, chainTold, symbolFlagsTold, symbol2FlagsTold, typeFlagsTold, endTold, attributeTold, refactorTold, symbolTold, fieldTold};
 ghost use Rattle.told.specs.Slots.{symbolSlots, fieldSlots, symbolSlotsAfter, fieldSlotsAfter, symbolGuidAfter, fieldGuidAfter, attributeSlotsAfter, refactorSlotsAfter};
 
 // Statuses: 0 where the call did what it is for, a refusal's number, and two ways for a walk to end.
@@ -63,6 +64,15 @@ pub fn salvaged(s: Salvaged, answer: &mut [u64; 2]) -> u32
     match s {
         Salvaged::Done { bytes, slots } => tell(DONE, bytes, slots, answer),
         Salvaged::Refused(why) => refused(why, answer),
+    }
+}
+
+pub fn room(a: RoomAnswer, answer: &mut [u64; 2]) -> u32
+    ensures { λ r. ⌜ Tells (roomTold a) r (now (answer .exit)) ⌝ }
+{
+    match a {
+        RoomAnswer::Slots(slots) => tell(DONE, slots, 0, answer),
+        RoomAnswer::Refused(why) => refused(why, answer),
     }
 }
 

@@ -29,9 +29,10 @@ ghost use Rattle.field_walk.specs.Walk as fields;
 ghost use Rattle.symbol_writer.specs.Writing.{symbolWriting, partsOf};
 ghost use Rattle.field_writer.specs.Writing.{fieldWriting};
 ghost use Rattle.index.specs.Index.{indexing, find, findIndexed};
+ghost use Rattle.room.specs.Room.{roomFor};
 ghost use Rattle.salvage.specs.Salvage.{salvaging};
 ghost use Rattle.text.specs.Text.{decodeWriting, encodeWriting};
-ghost use Rattle.told.specs.Told.{Tells, WritesTold, WritesBothTold, foundTold, chainTold, symbolFlagsTold, symbol2FlagsTold, typeFlagsTold, endTold, attributeTold, refactorTold, symbolTold, fieldTold};
+ghost use Rattle.told.specs.Told.{Tells, WritesTold, WritesBothTold, roomTold, foundTold, chainTold, symbolFlagsTold, symbol2FlagsTold, typeFlagsTold, endTold, attributeTold, refactorTold, symbolTold, fieldTold};
 ghost use Rattle.told.specs.Slots.{symbolSlotsAfter, fieldSlotsAfter, symbolGuidAfter, fieldGuidAfter, attributeSlotsAfter, refactorSlotsAfter};
 ghost use Rattle.vindaskot.specs.Lent.{guidChecked, lentGuid, symbolNumbers, fieldNumbers};
 
@@ -451,6 +452,13 @@ pub extern "C" fn vindaskot_field_write(
         numbers.to_vec(sixteen, name, type_name, comment, count, block, out),
         answer,
     )
+}
+
+#[no_mangle]
+pub extern "C" fn vindaskot_room(length: usize, answer: &mut [u64; 2]) -> u32
+    ensures { λ r. ⌜ Tells (roomTold (roomFor length)) r (now (answer .exit)) ⌝ }
+{
+    told::room(room::room(length), answer)
 }
 
 #[no_mangle]

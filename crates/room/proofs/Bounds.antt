@@ -1,0 +1,111 @@
+-- Every step of a walk before the end moves by a byte at least or is the last, and one that gives a record by 33.
+use Prim.Native.Nat.{ℕ, zero, suc, _+_, _-_, _*_, _/_, _<_, _≤_}
+use native.Mathlib.Omega.{arith}
+use mathlib.Core.Path.{_≡_, refl, sym, ap, _∙_}
+use mathlib.Core.Bool.{Bool, true, false}
+use mathlib.Core.List.{List, [], _∷_, _++_, map}
+use lib.Dec.{leb}
+use lib.ListN.{length}
+use borrow.Author.Tests.{leb-true, leb-false, eqb-false}
+use Rattle.le.specs.Le.{if_then_else_}
+use Rattle.entry.specs.Entry.{claimAt}
+use Rattle.entry.specs.Walk.{stands, stepsFrom, steps, cursorAfter, walk, boundedWalk}
+use Rattle.entry.proofs.Whole.{claim-end}
+use Rattle.entry.proofs.Claims.{moves-on, moves-within}
+use Rattle.entry.proofs.Demand3.{moves}
+use Rattle.walk.specs.Walk.{symbolStep}
+use Rattle.walk.specs.Told.{cursorOf}
+use Rattle.walk.specs.declared.Step.{Step}
+use Rattle.walk.specs.declared.Step.the-variants as step
+use Rattle.walk.specs.declared.Stepped.{Stepped}
+use Rattle.walk.proofs.Kind.{kind, one-symbol-walk}
+use Rattle.walk.proofs.Whole.{steps-long}
+use Rattle.index.specs.Steps.{byRecord, accepted, those}
+use Rattle.index.specs.Index.{starts}
+use Rattle.room.specs.Room.{least}
+use Rattle.room.specs.Meaning.{records, Bounds}
+
+module _ (s : List ℕ) where
+  made-turn : (at left : ℕ) → ((at : ℕ) → length (stepsFrom s at left) ≤ length s - at)
+      → (end stand : Bool) → leb (length s) at ≡ end → stands s at ≡ stand
+      → length (if end then [] else at ∷ (if stand then [] else stepsFrom s (claimAt s at .next) left)) ≤ length s - at
+  made-turn at left on true stand e f = omega arith
+  made-turn at left on false true e f = omega (arith, leb-false (length s) at e)
+  made-turn at left on false false e f =
+      let before : at < length s = leb-false (length s) at e in
+      omega (arith, before, on (claimAt s at .next), moves-on s at before, moves-within s at before, eqb-false (claimAt s at .next) at f)
+
+  made : (at left : ℕ) → length (stepsFrom s at left) ≤ length s - at
+  unfolding stepsFrom
+  made at zero = omega arith
+  made at (suc left) = made-turn at left (λ at. made at left) (leb (length s) at) (stands s at) refl refl
+
+module _ (mode : Bool) (s : List ℕ) where
+  abbrev cursor : ℕ → ℕ
+  cursor at = symbolStep mode s at .cursor .at
+
+  cursor-is : (at : ℕ) → cursor at ≡ claimAt s at .next
+  cursor-is at = moves (kind mode) s at
+
+  records-turn : (at : ℕ) (more : List Stepped) → records more * 33 ≤ length s - cursor at → (end : Bool) → leb (length s) at ≡ end → (t : Step) → symbolStep mode s at .step ≡ t
+      → byRecord t (λ info. suc (records (if end then [] else more))) (records (if end then [] else more)) * 33 ≤ length s - at
+  unfolding records
+  records-turn at more on true e (step.Record info) f =
+      let stays : claimAt s at .next ≡ at = ap (λ c. c .next) (claim-end s at (leb-true (length s) at e)) in
+      absurd (omega (arith, steps-long mode s at info f, cursor-is at, stays))
+  records-turn at more on true e step.Finished f = omega arith
+  records-turn at more on true e (step.Refused why) f = omega arith
+  records-turn at more on false e (step.Record info) f =
+      let before : at < length s = leb-false (length s) at e in
+      omega (arith, on, steps-long mode s at info f, cursor-is at, moves-within s at before)
+  records-turn at more on false e step.Finished f = omega (arith, on, cursor-is at, moves-on s at (leb-false (length s) at e))
+  records-turn at more on false e (step.Refused why) f = omega (arith, on, cursor-is at, moves-on s at (leb-false (length s) at e))
+
+  records-room : (at left : ℕ) → records (walk (symbolStep mode) cursorOf s at left) * 33 ≤ length s - at
+  unfolding walk records
+  records-room at zero = omega arith
+  records-room at (suc left) = records-turn at (walk (symbolStep mode) cursorOf s (cursor at) left) (records-room (cursor at) left) (leb (length s) at) refl (symbolStep mode s at .step) refl
+
+  pub bounds : (allowed : ℕ) → Bounds mode s allowed
+  unfolding boundedWalk
+  bounds allowed =
+      record {
+        steps = omega (arith, made s 0 allowed);
+        accepts = omega (arith, records-room 0 allowed);
+      }
+
+  -- the starts that an index stores are the records of the walk
+  those-turn : (at : ℕ) (more : List ℕ) (n : ℕ) → length more ≡ n → (t : Step) → length (if byRecord t (λ info. true) false then at ∷ more else more) ≡ byRecord t (λ info. suc n) n
+  those-turn at more n h step.Finished = h
+  those-turn at more n h (step.Record info) = ap suc h
+  those-turn at more n h (step.Refused why) = h
+
+  pub those-records : (l : List ℕ) → length (those (accepted mode s) l) ≡ records (map (symbolStep mode s) l)
+  unfolding those accepted records
+  those-records [] = refl
+  those-records (at ∷ l) = those-turn at (those (accepted mode s) l) (records (map (symbolStep mode s) l)) (those-records l) (symbolStep mode s at .step)
+
+first-turn : (n m : ℕ) → n ≤ m → (t : Step) → byRecord t (λ info. suc n) n ≤ byRecord t (λ info. suc m) m
+first-turn n m h step.Finished = h
+first-turn n m h (step.Record info) = omega (arith, h)
+first-turn n m h (step.Refused why) = h
+
+records-first : (a b : List Stepped) → records a ≤ records (a ++ b)
+unfolding records
+records-first [] b = omega arith
+records-first (t ∷ a) b = first-turn (records a) (records (a ++ b)) (records-first a b) (t .step)
+
+-- as many answers as the walk has steps, and the end, have them all
+pub starts-records : (mode : Bool) (s : List ℕ) → length (starts mode s) ≤ records (walk (symbolStep mode) cursorOf s 0 (suc (length (steps s))))
+unfolding starts steps
+starts-records mode s =
+    let w = ap records (one-symbol-walk mode s 0 (length s)) in
+    omega (
+      arith,
+      those-records mode s (stepsFrom s 0 (length s)),
+      w,
+      records-first (map (symbolStep mode s) (stepsFrom s 0 (length s))) (symbolStep mode s (cursorAfter s 0 (stepsFrom s 0 (length s))) ∷ []),
+    )
+
+pub starts-room : (mode : Bool) (s : List ℕ) → length (starts mode s) ≤ length s / least
+starts-room mode s = omega (arith, starts-records mode s, bounds mode s (suc (length (steps s))) .accepts)

@@ -1,0 +1,3 @@
+pub mod Bounds
+pub mod Smallest
+pub mod Meaning
