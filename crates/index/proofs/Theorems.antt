@@ -1,13 +1,13 @@
 -- What holds of the index and of finding besides the contracts. Assumes nothing.
-use Prim.Native.Nat.{ℕ, suc, _+_, _-_, _<_, _≤_}
+use Prim.Native.Nat.{ℕ, suc, _-_, _<_, _≤_}
 use native.Mathlib.Omega.{arith}
 use mathlib.Core.Path.{_≡_, refl, sym, ap, _∙_}
 use mathlib.Core.Bool.{Bool, true, false}
 use mathlib.Core.List.{List, [], _∷_}
-use lib.Dec.{ltb, leb}
-use borrow.Author.Tests.{eqb-true, lt-leb}
+use lib.Dec.{ltb}
+use borrow.Author.Tests.{eqb-true}
 use lib.ListN.{length, take, length-take}
-use Rattle.le.specs.Le.{if_then_else_, le4, part}
+use Rattle.le.specs.Le.{if_then_else_, part}
 use Rattle.refusal.specs.Refusal.{limit}
 use Rattle.refusal.specs.Writing.{Bytes, Refuse, Writes}
 use Rattle.refusal.specs.declared.Refusal.{Refusal}

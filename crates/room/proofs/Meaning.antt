@@ -1,16 +1,15 @@
 -- Room means what it is for.
-use Prim.Native.Nat.{ℕ, suc, _+_, _*_, _/_, _%_, _<_, _≤_}
+use Prim.Native.Nat.{ℕ, suc, _/_, _%_, _<_, _≤_}
 use native.Mathlib.Omega.{arith}
-use native.Mathlib.Nat.{sub-zero}
 use mathlib.Core.Path.{_≡_, refl, sym, ap, subst, _∙_}
 use mathlib.Core.Bool.{Bool, true, false}
 use mathlib.Core.List.{List, []}
 use lib.Dec.{ltb, leb}
 use lib.ListN.{length}
-use borrow.Author.Tests.{ltb-true, ltb-false, le-ltb}
+use borrow.Author.Tests.{ltb-true, ltb-false, lt-ltb, le-ltb}
 use Rattle.le.specs.Le.{if_then_else_}
 use Rattle.refusal.specs.Refusal.{limit}
-use Rattle.refusal.specs.Writing.{Writing, Bytes, Refuse, answer, Writes}
+use Rattle.refusal.specs.Writing.{Bytes, Refuse, answer, Writes}
 use Rattle.refusal.specs.declared.Refusal.{Refusal}
 use Rattle.refusal.specs.declared.Refusal.the-variants.{TooLarge, ZeroEntryLength}
 use Rattle.refusal.specs.declared.Written.{Written}
@@ -21,33 +20,38 @@ use Rattle.entry.proofs.AllSteps.{all-steps}
 use Rattle.walk.specs.Walk.{symbolStep}
 use Rattle.walk.specs.Told.{cursorOf}
 use Rattle.index.specs.Index.{starts, indexing}
-use Rattle.index.proofs.Laws.{rest, whole}
+use Rattle.index.proofs.Laws.{whole}
 use Rattle.room.specs.declared.RoomAnswer.the-variants.{Slots, Refused}
 use Rattle.room.specs.Room.{least, roomFor}
-use Rattle.room.specs.Meaning.{records, Bounds, Unhindered, too-large, zero-claim, done, Needs, RoomMeant}
+use Rattle.room.specs.Meaning.{records, Unhindered, too-large, zero-claim, done, Needs, Meant}
+use Rattle.room.proofs.Laws.{room-large, room-within}
 use Rattle.room.proofs.Bounds.{bounds, starts-records, starts-room}
 use Rattle.room.proofs.Smallest.{upload, length-upload, upload-bytes, Gives, gives}
 
--- what a length is answered
-answered : (n slots : ℕ) → roomFor n ≡ Slots slots → (n ≤ limit) × (slots ≡ n / least)
-unfolding roomFor
-answered n slots h = by (ltb limit n) refl h
-  where
-    by : (p : Bool) → ltb limit n ≡ p → (if p then Refused (TooLarge n) else Slots (n / least)) ≡ Slots slots → (n ≤ limit) × (slots ≡ n / least)
-    by true e k = absurd (let z : _≡_ {A = ℕ} 0 1 = cc in omega arith)
-    by false e k = (ltb-false limit n e, let z : n / least ≡ slots = cc in sym z)
+-- within the limit or above it
+pub data Size (n : ℕ) : Type 0 where
+  within : n ≤ limit → Size n
+  above : limit < n → Size n
 
-refused-by : (n : ℕ) (why : Refusal) → roomFor n ≡ Refused why → (ltb limit n ≡ true) × (why ≡ TooLarge n)
-unfolding roomFor
-refused-by n why h = by (ltb limit n) refl h
+pub size-of : (n : ℕ) → Size n
+size-of n = by (ltb limit n) refl
   where
-    by : (p : Bool) → ltb limit n ≡ p → (if p then Refused (TooLarge n) else Slots (n / least)) ≡ Refused why → (ltb limit n ≡ true) × (why ≡ TooLarge n)
-    by true e k = (e, let z : TooLarge n ≡ why = cc in sym z)
-    by false e k = absurd (let z : _≡_ {A = ℕ} 0 1 = cc in omega arith)
+    by : (p : Bool) → ltb limit n ≡ p → Size n
+    by true e = above (ltb-true limit n e)
+    by false e = within (ltb-false limit n e)
+
+answered : (n slots : ℕ) → roomFor n ≡ Slots slots → Size n → (n ≤ limit) × (n / least ≡ slots)
+answered n slots h (within l) = let e = room-within n l in (l, cc)
+answered n slots h (above l) = let e = room-large n l in absurd (let z : _≡_ {A = ℕ} 0 1 = cc in omega arith)
+
+not-answered : (n : ℕ) (why : Refusal) → roomFor n ≡ Refused why → Size n → (limit < n) × (TooLarge n ≡ why)
+not-answered n why h (within l) = let e = room-within n l in absurd (let z : _≡_ {A = ℕ} 0 1 = cc in omega arith)
+not-answered n why h (above l) = let e = room-large n l in (l, cc)
 
 module _ (mode : Bool) (s old new : List ℕ) (r : Written) (w : Writes (indexing mode s) old new r) where
-  unhindered : ((slots : ℕ) → roomFor (length s) ≡ Slots slots → slots ≤ length old) → Unhindered mode s r
-  unfolding indexing roomFor
+  -- with as many slots as entries of the least length have room
+  unhindered : (length s ≤ limit → length s / least ≤ length old) → Unhindered mode s r
+  unfolding indexing
   unhindered room = by (ltb limit (length s)) (any (stands s) (steps s)) refl refl (w .said)
     where
       by : (p q : Bool) → ltb limit (length s) ≡ p → any (stands s) (steps s) ≡ q
@@ -55,12 +59,13 @@ module _ (mode : Bool) (s old new : List ℕ) (r : Written) (w : Writes (indexin
       by true q e f h = subst (λ (r : Written). Unhindered mode s r) (sym h) (too-large (ltb-true limit (length s) e))
       by false true e f h = subst (λ (r : Written). Unhindered mode s r) (sym h) (zero-claim (ltb-false limit (length s) e) f)
       by false false e f h =
-          let fits : ltb (length old) (length (starts mode s)) ≡ false = le-ltb (length old) (length (starts mode s)) (omega (arith, starts-room mode s, room (length s / least) (simp e))) in
+          let fits : ltb (length old) (length (starts mode s)) ≡ false = le-ltb (length old) (length (starts mode s)) (omega (arith, starts-room mode s, room (ltb-false limit (length s) e))) in
           subst (λ (r : Written). Unhindered mode s r) (sym (h ∙ simp fits)) (done (ltb-false limit (length s) e) f)
 
-  refused-alike : (why : Refusal) → roomFor (length s) ≡ Refused why → r ≡ written.Refused why
+  -- an upload above the limit
+  pub large : limit < length s → r ≡ written.Refused (TooLarge (length s))
   unfolding indexing
-  refused-alike why h = let x = refused-by (length s) why h in w .said ∙ simp (x .0, x .1)
+  large h = w .said ∙ simp (lt-ltb limit (length s) h)
 
 -- a walk that meets no zero claim ends finished
 ends : (s : List ℕ) → any (stands s) (steps s) ≡ false → endAfter s 0 (steps s) ≡ end.Finished
@@ -89,7 +94,7 @@ module _ (n : ℕ) (small : n ≤ limit) where
   unfolding starts
   stored mode = rw (whole s) (given mode .records)
 
-  needs : Needs n (n / least)
+  pub needs : Needs n (n / least)
   unfolding boundedWalk indexing steps
   needs =
       record {
@@ -101,11 +106,10 @@ module _ (n : ℕ) (small : n ≤ limit) where
         answers = λ mode old new r w. w .said ∙ simp (le-ltb limit (length s) (omega (arith, long)), none-stands, stored mode);
       }
 
-pub room-meant : RoomMeant
-room-meant =
+pub meant : Meant roomFor
+meant =
     record {
-      bounds = bounds;
-      enough = λ mode s old new r room w. unhindered mode s old new r w room;
-      tight = λ n slots h. let a = answered n slots h in subst (Needs n) (sym (a .1)) (needs n (a .0));
-      refused = λ mode s old new r why h w. refused-alike mode s old new r w why h;
+      enough = λ mode s old new r room w. unhindered mode s old new r w (λ h. omega (arith, room (length s / least) (room-within (length s) h)));
+      tight = λ n slots h. let a = answered n slots h (size-of n) in subst (Needs n) (omega (arith, a .1)) (needs n (a .0));
+      refused = λ mode s old new r why h w. let a = not-answered (length s) why h (size-of (length s)) in large mode s old new r w (a .0) ∙ ap written.Refused (a .1);
     }

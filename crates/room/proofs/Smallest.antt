@@ -2,14 +2,14 @@
 use Prim.Native.Nat.{ℕ, zero, suc, _+_, _-_, _*_, _<_, _≤_}
 use native.Mathlib.Omega.{arith}
 use native.Mathlib.Nat.{add-zero}
-use mathlib.Core.Path.{_≡_, refl, sym, ap, _∙_}
+use mathlib.Core.Path.{_≡_, refl, ap, _∙_}
 use mathlib.Core.Bool.{Bool, true, false}
 use mathlib.Core.List.{List, [], _∷_, _++_, append-assoc, append-nil}
 use lib.Dec.{leb}
 use lib.ListN.{length, getD, length-append}
 use lib.Seq.{getD-append-add}
 use borrow.Author.Tests.{ne-eqb}
-use Rattle.le.specs.Le.{if_then_else_, le2, le4, part}
+use Rattle.le.specs.Le.{if_then_else_, le2, le4}
 use Rattle.le.proofs.Inside.{part-whole}
 use Rattle.refusal.specs.Refusal.{limit}
 use Rattle.refusal.specs.Ends.{endsIn, endsMet}
@@ -48,7 +48,7 @@ unfoldable pub upload : ℕ → ℕ → List ℕ
 upload zero r = behind r
 upload (suc k) r = smallest ++ upload k r
 
-length-behind : (r : ℕ) → length (behind r) ≡ r
+pub length-behind : (r : ℕ) → length (behind r) ≡ r
 unfolding behind
 length-behind zero = refl
 length-behind (suc r) = ap suc (length-behind r)

@@ -19,6 +19,7 @@ use Rattle.walk.specs.Told.{cursorOf}
 use Rattle.walk.specs.declared.Stepped.{Stepped}
 use Rattle.index.specs.Steps.{byRecord}
 use Rattle.index.specs.Index.{starts, indexing}
+use Rattle.room.specs.declared.RoomAnswer.{RoomAnswer}
 use Rattle.room.specs.declared.RoomAnswer.the-variants.{Slots, Refused}
 use Rattle.room.specs.Room.{least, roomFor}
 
@@ -39,7 +40,7 @@ pub data Unhindered (mode : Bool) (s : List ℕ) : Written → Type 0 where
   zero-claim : length s ≤ limit → any (stands s) (steps s) ≡ true → Unhindered mode s (written.Refused ZeroEntryLength)
   done : length s ≤ limit → any (stands s) (steps s) ≡ false → Unhindered mode s (written.Done (length (starts mode s)))
 
--- an upload of so many bytes whose walk ends finished and whose index needs so many slots: with fewer it is refused by 6
+-- an upload of so many bytes (none of its numbers is above 255) whose walk ends finished and whose index needs so many slots: with fewer it is refused by 6
 pub record Needs (n slots : ℕ) : Type 0 where
   pub upload : List ℕ
   pub long : length upload ≡ n
@@ -49,11 +50,17 @@ pub record Needs (n slots : ℕ) : Type 0 where
   pub answers : (mode : Bool) (old new : List ℕ) (r : Written) → Writes (indexing mode upload) old new r
       → r ≡ (if ltb (length old) slots then written.Refused (OutputTooSmall slots (length old)) else written.Done slots)
 
+-- what an operation that answers a length has to meet
+pub record Meant (room : ℕ → RoomAnswer) : Type 0 where
+  -- an index that is lent as many slots as are answered for the length of its upload, or more, is never refused by 6; nor is one of a length that gets no answer
+  pub enough : (mode : Bool) (s old new : List ℕ) (r : Written) → ((slots : ℕ) → room (length s) ≡ Slots slots → slots ≤ length old) → Writes (indexing mode s) old new r → Unhindered mode s r
+  -- no fewer are enough: of every length that is answered there is an upload that needs them all
+  pub tight : (n slots : ℕ) → room n ≡ Slots slots → Needs n slots
+  -- where a length is refused, every index of an upload of that length is refused alike
+  pub refused : (mode : Bool) (s old new : List ℕ) (r : Written) (why : Refusal) → room (length s) ≡ Refused why → Writes (indexing mode s) old new r → r ≡ written.Refused why
+
+-- the bounds of every walk; the operation meets what is asked of it, and no other does
 pub record RoomMeant : Type 0 where
   pub bounds : (mode : Bool) (s : List ℕ) (allowed : ℕ) → Bounds mode s allowed
-  -- an index that is lent as many slots as are answered for the length of its upload, or more, is never refused by 6; nor is one of a length that gets no answer
-  pub enough : (mode : Bool) (s old new : List ℕ) (r : Written) → ((slots : ℕ) → roomFor (length s) ≡ Slots slots → slots ≤ length old) → Writes (indexing mode s) old new r → Unhindered mode s r
-  -- no fewer are enough: of every length that is answered there is an upload that needs them all
-  pub tight : (n slots : ℕ) → roomFor n ≡ Slots slots → Needs n slots
-  -- where a length is refused, every index of an upload of that length is refused alike
-  pub refused : (mode : Bool) (s old new : List ℕ) (r : Written) (why : Refusal) → roomFor (length s) ≡ Refused why → Writes (indexing mode s) old new r → r ≡ written.Refused why
+  pub meant : Meant roomFor
+  pub only : (room : ℕ → RoomAnswer) → Meant room → (n : ℕ) → room n ≡ roomFor n

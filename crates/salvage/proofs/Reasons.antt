@@ -4,9 +4,8 @@ use native.Mathlib.Omega.{arith}
 use mathlib.Core.Path.{_≡_, refl, sym, subst}
 use mathlib.Core.Bool.{Bool, true, false}
 use mathlib.Core.List.{List}
-use lib.Dec.{ltb, leb}
+use lib.Dec.{ltb}
 use lib.ListN.{length}
-use borrow.Author.Tests.{lt-leb, le-ltb}
 use Rattle.le.specs.Le.{if_then_else_, le2, le4, part}
 use Rattle.le.proofs.Laws.{not-both}
 use Rattle.refusal.specs.Refusal.{limit, figuresOf}
