@@ -1,8 +1,9 @@
 #!/usr/bin/env python3
 """Makes crates/index_rig/stdout: run at the project's root, `tools/index_rig.py > crates/index_rig/stdout`.
 
-An upload like the program's is laid out, walked and searched here by 01's and W-201's text alone (Walking, the symbol
-layout, the refusal numbers, names in capitals), without a look at the proved code. rt check runs the program and compares.
+An upload like the program's is laid out, walked and searched here by 01's, W-201's and W-206's text alone (Walking, the
+symbol layout, the refusal numbers, names in capitals, room), without a look at the proved code. rt check runs the program
+and compares.
 """
 import struct
 
@@ -78,12 +79,30 @@ def survey(data, slots):
         print(asked.decode(), find(data, asked), find_indexed(data, used, asked))
 
 
+LIMIT = 16777216
+
+
+def room(length):
+    """the ends of entries of 33 bytes one after another, as many as there are within the length"""
+    return f"refused 5 {LIMIT} {length}" if length > LIMIT else str(len(range(33, length + 1, 33)))
+
+
+def rooms():
+    for length in 0, 32, 33, 65, 66, LIMIT, LIMIT + 1:
+        print("room for", length, room(length))
+    smallest = struct.pack("<I29x", 33) * 48 + b"\xff" * 16
+    needed = int(room(len(smallest)))
+    for lent in needed, needed - 1:
+        print(build(smallest, lent)[0])
+
+
 def main():
     data = b"".join(entry(i) for i in range(40))
     survey(data, [0] * 8)
     slots = [0] * 40
     survey(data, slots)
     survey(data[:840] + b"\0" + data[841:], slots)
+    rooms()
 
 
 main()

@@ -1,8 +1,10 @@
-// Builds an index over a sample rig, finds every name of it both ways, and prints what was answered.
+// Builds an index over a sample rig, finds every name of it both ways, and prints what was answered; then the room for
+// uploads of some lengths, and the index of one that needs all of it.
 // tools/index_rig.py makes the expected output, crates/index_rig/stdout, by a walk of its own.
 use index::FindAnswer;
 use refusal::Refusal;
 use refusal::Written;
+use room::RoomAnswer;
 ghost use Prim.Native.Nat.{_<_};
 
 fn text(bytes: &[u8]) {
@@ -113,6 +115,63 @@ fn survey(rig: &[u8; 1600], slots: &mut [u32]) {
     }
 }
 
+fn room_for(length: usize) {
+    text(b"room for ");
+    number(length);
+    text(b" ");
+    match room::room(length) {
+        RoomAnswer::Slots(n) => number(n),
+        RoomAnswer::Refused(why) => refusal(why),
+    }
+    text(b"\n");
+}
+
+fn rooms() {
+    room_for(0);
+    room_for(32);
+    room_for(33);
+    room_for(65);
+    room_for(66);
+    room_for(refusal::LIMIT);
+    room_for(refusal::LIMIT + 1);
+}
+
+// Claims that lead beyond the end, but for entries of 33 bytes, as many as there is room for.
+fn put_smallest(rig: &mut [u8; 1600]) {
+    *rig = [255u8; 1600];
+    let mut at = 0;
+    while at < 1584 {
+        rig[at] = if at % 33 == 0 { 33 } else { 0 };
+        at += 1;
+    }
+}
+
+fn build(rig: &[u8], slots: &mut [u32]) {
+    match index::build(rig, refusal::PRESENT, slots) {
+        Written::Done(n) => {
+            text(b"index ");
+            number(n);
+        }
+        Written::Refused(why) => refusal(why),
+    }
+    text(b"\n");
+}
+
+// With as many slots as are set aside, and with one fewer.
+fn build_tight(rig: &[u8; 1600], slots: &mut [u32]) {
+    match room::room(rig.len()) {
+        RoomAnswer::Slots(n) => {
+            if 0 < n {
+                if n <= slots.len() {
+                    build(rig, &mut slots[0..n]);
+                    build(rig, &mut slots[0..n - 1]);
+                }
+            }
+        }
+        RoomAnswer::Refused(why) => refusal(why),
+    }
+}
+
 fn main() {
     let mut rig = [0u8; 1600];
     let mut i = 0;
@@ -126,4 +185,8 @@ fn main() {
     survey(&rig, &mut slots);
     rig[840] = 0;
     survey(&rig, &mut slots);
+    rooms();
+    put_smallest(&mut rig);
+    let mut most = [0u32; 64];
+    build_tight(&rig, &mut most);
 }

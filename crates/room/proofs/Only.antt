@@ -49,12 +49,12 @@ module _ (room : ℕ → RoomAnswer) (m : Meant room) (n : ℕ) where
   not-fewer : (k : ℕ) → room n ≡ Slots k → n ≤ limit → n / least ≤ k
   not-fewer k e l = by (ltb k (n / least)) refl
     where
-      lent : (slots : ℕ) → room (length (needs n l .upload)) ≡ Slots slots → slots ≤ length (behind k)
-      lent slots h = let x : Slots k ≡ Slots slots = sym e ∙ ap room (sym (needs n l .long)) ∙ h in let y : k ≡ slots = cc in omega (arith, y, length-behind k)
+      asked : (slots : ℕ) → room (length (needs n l .upload)) ≡ Slots slots → k ≡ slots
+      asked slots h = let x : Slots k ≡ Slots slots = sym e ∙ ap room (sym (needs n l .long)) ∙ h in cc
 
       by : (t : Bool) → ltb k (n / least) ≡ t → n / least ≤ k
       by true f =
-          absurd (never-six false (needs n l .upload) (says (needs n l .upload) k) (n / least) (length (behind k)) (m .enough false (needs n l .upload) (behind k) _ _ lent (index-of (needs n l .upload) k)) (needs n l .answers false (behind k) _ _ (index-of (needs n l .upload) k) ∙ simp (length-behind k, f)))
+          absurd (never-six false (needs n l .upload) (says (needs n l .upload) k) (n / least) (length (behind k)) (m .enough false (needs n l .upload) (behind k) _ _ (λ slots h. omega (arith, asked slots h, length-behind k)) (index-of (needs n l .upload) k)) (needs n l .answers false (behind k) _ _ (index-of (needs n l .upload) k) ∙ simp (length-behind k, f)))
       by false f = ltb-false k (n / least) f
 
   only-by : (a : RoomAnswer) → room n ≡ a → Size n → a ≡ roomFor n
