@@ -9,71 +9,54 @@ Inv-loop rig₀ i₀ rig i = i ≤ 40
 abbrev μ-loop : tie.MeasureT-loop
 μ-loop rig₀ i₀ rig i = 40 - i
 
--- src/main.rt:178:5
 loop-holds : tie.Need-loop-holds Inv-loop μ-loop
 loop-holds c = search needs
 
--- src/main.rt:179:9
 put-entry-requires : tie.Need-put-entry-requires Inv-loop μ-loop
 put-entry-requires c κs = search needs
 
--- src/main.rt:180:9
 add-i : tie.Need-add-i Inv-loop μ-loop
 add-i c = search needs
 
--- src/main.rt:178:5
 loop-less : tie.Need-loop-less Inv-loop μ-loop
 loop-less c = search needs
 
--- src/main.rt:178:5
 loop-again : tie.Need-loop-again Inv-loop μ-loop
 loop-again c = search needs
 
--- src/main.rt:183:18
 slice-aggregate-survey : tie.Need-slice-aggregate-survey Inv-loop μ-loop
 slice-aggregate-survey c = search needs
 
--- src/main.rt:183:5
 survey-requires : tie.Need-survey-requires Inv-loop μ-loop
 survey-requires c κs = search needs
 
--- src/main.rt:185:18
 slice-aggregate-survey-2 : tie.Need-slice-aggregate-survey-2 Inv-loop μ-loop
 slice-aggregate-survey-2 c = search needs
 
--- src/main.rt:185:5
 survey-requires-2 : tie.Need-survey-requires-2 Inv-loop μ-loop
 survey-requires-2 c κs = search needs
 
--- src/main.rt:186:5
 array-write-rig : tie.Need-array-write-rig Inv-loop μ-loop
 array-write-rig c = search needs
 
--- src/main.rt:187:18
 slice-aggregate-survey-3 : tie.Need-slice-aggregate-survey-3 Inv-loop μ-loop
 slice-aggregate-survey-3 c = search needs
 
--- src/main.rt:187:5
 survey-requires-3 : tie.Need-survey-requires-3 Inv-loop μ-loop
 survey-requires-3 c κs = search needs
 
--- src/main.rt:188:5
 rooms-requires : tie.Need-rooms-requires Inv-loop μ-loop
 rooms-requires c κs = search needs
 
--- src/main.rt:189:5
 put-smallest-requires : tie.Need-put-smallest-requires Inv-loop μ-loop
 put-smallest-requires c κs = search needs
 
--- src/main.rt:191:23
 slice-aggregate-build-tight : tie.Need-slice-aggregate-build-tight Inv-loop μ-loop
 slice-aggregate-build-tight c = search needs
 
--- src/main.rt:191:5
 build-tight-requires : tie.Need-build-tight-requires Inv-loop μ-loop
 build-tight-requires c κs = search needs
 
--- src/main.rt:175:1
 returns : tie.Need-returns Inv-loop μ-loop
 returns c = search needs
 
