@@ -127,10 +127,10 @@ module _ (mode : Bool) where
         let n : length p + size g - length p ≡ size g = omega arith in
         sym (ap (part (p ++ (g .bytes ++ q)) (length p)) n ∙ part-whole p (g .bytes) q)
 
-    pub kept-there : keptFrom mode (p ++ (g .bytes ++ q)) (length p) ≡ g .bytes ++ keptFrom mode (p ++ (g .bytes ++ q)) (length p + size g)
+    kept-there : keptFrom mode (p ++ (g .bytes ++ q)) (length p) ≡ g .bytes ++ keptFrom mode (p ++ (g .bytes ++ q)) (length p + size g)
     kept-there = kept-entry mode (p ++ (g .bytes ++ q)) (length p) before (length p + size g) ends-there accepted-there (g .bytes) own-there
 
-    pub dropped-there : droppedFrom mode (p ++ (g .bytes ++ q)) (length p) ≡ droppedFrom mode (p ++ (g .bytes ++ q)) (length p + size g)
+    dropped-there : droppedFrom mode (p ++ (g .bytes ++ q)) (length p) ≡ droppedFrom mode (p ++ (g .bytes ++ q)) (length p + size g)
     dropped-there = dropped-entry mode (p ++ (g .bytes ++ q)) (length p) before (length p + size g) ends-there accepted-there
 
   -- a salvage of nothing but accepted entries keeps all of them and drops nothing

@@ -1,5 +1,5 @@
-// The readers in a mode (W-212): each is its namesake of the crate's root with one argument more, by which an end byte that is not 0 refuses. Where that
-// is false, it answers as its namesake does.
+// The calls in a mode (W-212), readers and all that stands on one: each is its namesake of the crate's root with one argument more, by which an end byte
+// that is not 0 refuses. Where that is false, it answers as its namesake does.
 ghost use mathlib.Core.Path.{_≡_};
 ghost use Rattle.attr.specs.Attribute.{attributeRead};
 ghost use Rattle.refactor.specs.Refactor.{refactorRead, chainRead, chainNth};
