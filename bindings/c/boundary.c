@@ -75,6 +75,12 @@ static const char *const groups[GROUPS] = {
     [RUNS_ZERO] = "a dropped run, claiming nothing and going to the end",
     [RUNS_ENDS] = "a dropped run, an end byte that is not 0",
     [RUNS_ADJACENT] = "a dropped run right behind another",
+    [ROOM_LENGTHS] = "the room of a length",
+    [ROOM_ABOVE] = "the room of a length above the limit",
+    [ROOM_STEPS] = "no more steps than bytes, and no more entries than a 33rd of them",
+    [ROOM_ENOUGH] = "an index lent the room of its upload",
+    [ROOM_FULL] = "an index that needs all of the room of its upload",
+    [ROOM_STOPPED] = "an index lent the room of its upload, stopped by a zero claim",
     [TEXTS] = "text there and back",
 };
 

@@ -11,6 +11,7 @@
  *   boundary_ends.c    end bytes, which the checked mode looks at
  *   boundary_kinds.c   which of the end bytes an answer is about, so that each kind is counted
  *   boundary_salvage.c what is kept of a damaged upload, and what is dropped
+ *   boundary_room.c    slots that are set aside by an upload's length
  *   boundary_random.c  random cases
  */
 #ifndef BOUNDARY_H
@@ -80,6 +81,12 @@ enum group {
     RUNS_ZERO,
     RUNS_ENDS,
     RUNS_ADJACENT,
+    ROOM_LENGTHS,
+    ROOM_ABOVE,
+    ROOM_STEPS,
+    ROOM_ENOUGH,
+    ROOM_FULL,
+    ROOM_STOPPED,
     TEXTS,
     GROUPS
 };
@@ -170,6 +177,7 @@ enum function {
     REFACTOR_BLOCK_WRITE,
     SYMBOL_WRITE,
     FIELD_WRITE,
+    INDEX_ROOM,
     INDEX_BUILD,
     FIND,
     FIND_INDEXED,
@@ -254,6 +262,7 @@ struct told call_refactor_write(uint32_t count, bool has_next, struct bytes name
 struct told call_refactor_block_write(size_t count, struct bytes block, struct room out);
 struct told call_symbol_write(const struct parts *parts, struct room out);
 struct told call_field_write(const struct parts *parts, struct room out);
+struct told call_room(size_t length);
 struct told call_index_build(struct bytes bytes, struct room slots);
 struct told call_find(struct bytes bytes, struct bytes name);
 struct told call_find_indexed(struct bytes bytes, struct bytes slots, struct bytes name);
@@ -299,6 +308,7 @@ struct told model_flags_read(struct bytes bytes, size_t width);
 struct told model_block_write(size_t count, struct bytes block, size_t lent);
 struct told model_symbol_write(const struct parts *parts, size_t lent);
 struct told model_field_write(const struct parts *parts, size_t lent);
+struct told model_room(size_t length);
 struct told model_find(struct bytes bytes, struct bytes name);
 struct told model_find_indexed(struct bytes bytes, struct bytes slots, struct bytes name);
 
@@ -361,6 +371,7 @@ void make_upload(struct buffer *to);
 void make_family(struct buffer *to);
 void make_wrong(struct buffer *to);
 void make_damaged(struct buffer *to);
+void make_narrow(struct buffer *to);
 void make_text(struct buffer *to);
 void damage(struct buffer *to, size_t header);
 
@@ -377,6 +388,10 @@ void try_ends(void);
 void try_salvages(void);
 void try_salvage(struct bytes bytes);
 void try_salvage_limit(size_t len);
+void try_rooms(void);
+void try_room(struct bytes bytes);
+void try_room_lengths(void);
+void try_room_limit(size_t len);
 void try_limits(void);
 void try_random(uint64_t from, uint64_t cases, uint64_t seed_number);
 

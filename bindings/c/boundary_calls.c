@@ -56,6 +56,7 @@ static const struct {
                       DONE | NUMBER(1) | NUMBER(7) | NUMBER(9) | NUMBER(8) | NUMBER(5) | NUMBER(6)},
     [FIELD_WRITE] = {"vindaskot_field_write", 0, false, false, false,
                      DONE | NUMBER(1) | NUMBER(7) | NUMBER(9) | NUMBER(5) | NUMBER(6)},
+    [INDEX_ROOM] = {"vindaskot_room", 0, false, false, false, DONE | NUMBER(5)},
     [INDEX_BUILD] = {"vindaskot_index_build", 0, false, false, false, DONE | NUMBER(5) | NUMBER(10) | NUMBER(6)},
     [FIND] = {"vindaskot_find", 0, false, false, false, DONE | NUMBER(5) | NUMBER(10) | NUMBER(13)},
     [FIND_INDEXED] = {"vindaskot_find_indexed", 0, false, false, false, DONE | NUMBER(5) | NUMBER(13)},
@@ -387,6 +388,12 @@ struct told call_field_write(const struct parts *p, struct room out)
                               p->name.len, p->type_name.at, p->type_name.len, p->comment.at, p->comment.len, p->count,
                               p->block.at, p->block.len, out.at, out.len, f->answer);
     return finish_out(FIELD_WRITE, status, out, 1);
+}
+
+struct told call_room(size_t length)
+{
+    struct frame *f = begin(INDEX_ROOM, 0);
+    return finish(INDEX_ROOM, vindaskot_room(length, f->answer));
 }
 
 struct told call_index_build(struct bytes b, struct room slots)

@@ -719,6 +719,7 @@ static void try_mode(void)
     try_highs();
     try_ends();
     try_salvages();
+    try_rooms();
     refused_symbols();
     refused_fields();
     other_statuses();
@@ -727,6 +728,7 @@ static void try_mode(void)
 void try_edges(void)
 {
     draft_rich();
+    try_room_lengths();
     for (side = 0; side < SIDES; side++) {
         for (mode = 0; mode < MODES; mode++)
             try_mode();
@@ -943,6 +945,7 @@ void try_limits(void)
                 limit_finds(len);
                 limit_ends(len);
                 try_salvage_limit(len);
+                try_room_limit(len);
             }
             mode = PRESENT;
             limit_texts(len);

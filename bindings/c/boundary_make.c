@@ -916,3 +916,37 @@ void make_damaged(struct buffer *to)
     else if (end == 2)
         put_zeros(to, 1 + below(40));
 }
+
+/* ---- Uploads that need much of their room ---- */
+
+/* A symbol of 33 bytes is made longer, cut with its claim, or gets an end byte that is not 0. */
+static void widen(struct buffer *to, size_t start)
+{
+    switch (below(3)) {
+    case 0: put_any(to, 1 + below(8)); break;
+    case 1: to->len -= 1 + below(29); break;
+    default: to->at[to->len - 1 - below(3)] = no_zero();
+    }
+    set_claim(to, start, to->len - start);
+}
+
+/* Up to forty symbols without strings, in half of the uploads one in six of them another, and often bytes behind the
+ * last: too few for an entry, or a claim of zero. */
+void make_narrow(struct buffer *to)
+{
+    bool others = one_in(2);
+    size_t end = below(4);
+    for (size_t left = below(41); left > 0; left--) {
+        size_t start = to->len;
+        put_zeros(to, 4);
+        put_any(to, 20);
+        put_zeros(to, 9);
+        set_claim(to, start, 33);
+        if (others && one_in(6))
+            widen(to, start);
+    }
+    size_t behind = 1 + below(32);
+    put_zeros(to, end < 2 ? behind : 0);
+    if (end == 0)
+        memset(to->at + to->len - behind, 0xFF, behind);
+}

@@ -1,7 +1,7 @@
-/* What document 01, for finding request W-201, for salvage request W-203, for bytes 22 and 23 request W-205 and for end
- * bytes request W-212 say the answer is, worked out from the bytes in plain C, in the mode that is being tried. It
- * shares no code with the library. Where 01 leaves a choice it follows docs/DECISIONS.md. Slots and flags go by the
- * header's names, so that a header that gives one of them another number is found. */
+/* What document 01, for finding request W-201, for salvage request W-203, for bytes 22 and 23 request W-205, for room
+ * request W-206 and for end bytes request W-212 say the answer is, worked out from the bytes in plain C, in the mode
+ * that is being tried. It shares no code with the library. Where 01 leaves a choice it follows docs/DECISIONS.md. Slots
+ * and flags go by the header's names, so that a header that gives one of them another number is found. */
 #include "boundary.h"
 
 const size_t symbol_numbers[4] = {VINDASKOT_SYMBOL_INDEX_GROUP, VINDASKOT_SYMBOL_INDEX_OFFSET, VINDASKOT_SYMBOL_SIZE,
@@ -468,6 +468,18 @@ struct told model_walk(struct bytes b, size_t allowed, size_t cursor)
 }
 
 /* ---- Index and finding ---- */
+
+/* W-206: "at most n / 33 entries, rounded down": the least entry, a header and three end bytes, taken away as often as
+ * it is there. */
+struct told model_room(size_t length)
+{
+    uint64_t entries = 0;
+    if (length > VINDASKOT_LIMIT)
+        return refused_size(length);
+    for (; length >= 30 + 3; length -= 30 + 3)
+        entries++;
+    return done(entries, 0);
+}
 
 struct told model_index(struct bytes b, uint32_t *starts)
 {

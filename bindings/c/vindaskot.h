@@ -320,8 +320,17 @@ uint32_t vindaskot_field_write(uint32_t version, uint32_t hash_value, uint32_t t
 
 /* ---- Index and finding ---- */
 
-/* The start of every accepted symbol of an upload, in order, from slots[0] on. answer[0]: how many. A slot for every 33
- * bytes is always enough. Refusals: 5, 10, 6. */
+/* How many slots the index of an upload of that length can need, so that they can be set aside before it is read.
+ * answer[0]: a slot for every 33 bytes, rounded down, since an accepted symbol has at least 33. Lent that many slots or
+ * more, vindaskot_index_build and vindaskot_index_build_in are never refused with 6, in either mode and whatever the
+ * bytes are; 5 and 10 stay. No smaller number will do: some upload of that length needs all of them. Refusal: 5. */
+uint32_t vindaskot_room(size_t length, uint64_t answer[VINDASKOT_AT_LEAST 2]);
+
+/* The room of the largest upload, for slots that are set aside once for all uploads. */
+#define VINDASKOT_ROOM_MOST 508400u
+
+/* The start of every accepted symbol of an upload, in order, from slots[0] on. answer[0]: how many.
+ * vindaskot_room tells how many slots are always enough. Refusals: 5, 10, 6. */
 uint32_t vindaskot_index_build(const uint8_t *bytes, size_t bytes_len, uint32_t *slots,
                                size_t slots_len, uint64_t answer[VINDASKOT_AT_LEAST 2]);
 
@@ -437,8 +446,9 @@ uint32_t vindaskot_chain_record_in(const uint8_t *bytes, size_t bytes_len, bool 
                                    uint64_t answer[VINDASKOT_AT_LEAST 2]);
 
 /* The index, and finding without it and through it: in the checked mode a symbol is accepted where
- * vindaskot_symbol_step_in accepts it, and one that is refused with 16 is passed over. Slots that were filled in one
- * mode may be asked in the other. Refusals: 5, 10, 6; 5, 10, 13; 5, 13. */
+ * vindaskot_symbol_step_in accepts it, and one that is refused with 16 is passed over. vindaskot_room tells how many
+ * slots are always enough, in either mode. Slots that were filled in one mode may be asked in the other. Refusals: 5,
+ * 10, 6; 5, 10, 13; 5, 13. */
 uint32_t vindaskot_index_build_in(const uint8_t *bytes, size_t bytes_len, bool checked, uint32_t *slots,
                                   size_t slots_len, uint64_t answer[VINDASKOT_AT_LEAST 2]);
 uint32_t vindaskot_find_in(const uint8_t *bytes, size_t bytes_len, bool checked, const uint8_t *name,
