@@ -333,6 +333,12 @@ static uint32_t salvage(const uint8_t *bytes, size_t bytes_len, bool checked, ui
     }
 #endif
 
+#if FAULT > 132
+/* What room takes, and the right one. */
+#define LENGTH size_t length, uint64_t *answer
+uint32_t __real_vindaskot_room(LENGTH);
+#endif
+
 #if FAULT == 1 /* a writer changes the byte after what it wrote */
 uint32_t __real_vindaskot_attribute_write(const uint8_t *, size_t, const uint8_t *, size_t, uint8_t *, size_t,
                                           uint64_t *);
@@ -1516,6 +1522,312 @@ uint32_t __wrap_vindaskot_salvage(DAMAGED, LENT)
 
 #elif FAULT == 132 /* of an entry the bytes behind its first 4,096 are kept as zeros */
 SALVAGES(vindaskot_salvage_in)
+
+#elif FAULT == 133 /* a slot for every 30 bytes, the header alone */
+uint32_t __wrap_vindaskot_room(LENGTH)
+{
+    uint32_t status = __real_vindaskot_room(length, answer);
+    if (status == VINDASKOT_DONE)
+        answer[0] = length / 30;
+    return status;
+}
+
+#elif FAULT == 134 /* a room is rounded up */
+uint32_t __wrap_vindaskot_room(LENGTH)
+{
+    uint32_t status = __real_vindaskot_room(length, answer);
+    if (status == VINDASKOT_DONE)
+        answer[0] = (length + 32) / 33;
+    return status;
+}
+
+#elif FAULT == 135 /* a room is a slot too few */
+uint32_t __wrap_vindaskot_room(LENGTH)
+{
+    uint32_t status = __real_vindaskot_room(length, answer);
+    if (status == VINDASKOT_DONE)
+        answer[0] = length < 33 ? 0 : length / 33 - 1;
+    return status;
+}
+
+#elif FAULT == 136 /* a room is a slot too many */
+uint32_t __wrap_vindaskot_room(LENGTH)
+{
+    uint32_t status = __real_vindaskot_room(length, answer);
+    if (status == VINDASKOT_DONE)
+        answer[0] = length / 33 + 1;
+    return status;
+}
+
+#elif FAULT == 137 /* 16,777,216 bytes have no room */
+uint32_t __wrap_vindaskot_room(LENGTH)
+{
+    uint32_t status = __real_vindaskot_room(length, answer);
+    if (length != VINDASKOT_LIMIT)
+        return status;
+    answer[0] = VINDASKOT_LIMIT;
+    answer[1] = length;
+    return 5;
+}
+
+#elif FAULT == 138 /* no length is above the limit */
+uint32_t __wrap_vindaskot_room(LENGTH)
+{
+    answer[0] = length / 33;
+    answer[1] = 0;
+    return VINDASKOT_DONE;
+}
+
+#elif FAULT == 139 /* 16,777,217 bytes have a room */
+uint32_t __wrap_vindaskot_room(LENGTH)
+{
+    uint32_t status = __real_vindaskot_room(length, answer);
+    if (length != VINDASKOT_LIMIT + 1)
+        return status;
+    answer[0] = length / 33;
+    answer[1] = 0;
+    return VINDASKOT_DONE;
+}
+
+#elif FAULT == 140 /* the figures of a length above the limit are exchanged */
+uint32_t __wrap_vindaskot_room(LENGTH)
+{
+    uint32_t status = __real_vindaskot_room(length, answer);
+    if (status == 5) {
+        answer[0] = length;
+        answer[1] = VINDASKOT_LIMIT;
+    }
+    return status;
+}
+
+#elif FAULT == 141 /* a length is cut to 32 bits */
+uint32_t __wrap_vindaskot_room(LENGTH)
+{
+    return __real_vindaskot_room((uint32_t)length, answer);
+}
+
+#elif FAULT == 142 /* the second number of a room is left unset */
+uint32_t __wrap_vindaskot_room(LENGTH)
+{
+    uint64_t before = answer[1];
+    uint32_t status = __real_vindaskot_room(length, answer);
+    if (status == VINDASKOT_DONE)
+        answer[1] = before;
+    return status;
+}
+
+#elif FAULT == 143 /* the second number of a room is what its entries leave */
+uint32_t __wrap_vindaskot_room(LENGTH)
+{
+    uint32_t status = __real_vindaskot_room(length, answer);
+    if (status == VINDASKOT_DONE)
+        answer[1] = length % 33;
+    return status;
+}
+
+#elif FAULT == 144 /* a room by a shift that is right up to 986,896 bytes */
+uint32_t __wrap_vindaskot_room(LENGTH)
+{
+    uint32_t status = __real_vindaskot_room(length, answer);
+    if (status == VINDASKOT_DONE)
+        answer[0] = (uint64_t)length * 508401 >> 24;
+    return status;
+}
+
+#elif FAULT == 145 /* a room by a float that is right up to 16,252,927 bytes */
+uint32_t __wrap_vindaskot_room(LENGTH)
+{
+    uint32_t status = __real_vindaskot_room(length, answer);
+    if (status == VINDASKOT_DONE)
+        answer[0] = (uint64_t)((float)length * (1.0f / 33.0f));
+    return status;
+}
+
+#elif FAULT == 146 /* a room by a shift that is wrong for whole entries alone */
+uint32_t __wrap_vindaskot_room(LENGTH)
+{
+    uint32_t status = __real_vindaskot_room(length, answer);
+    if (status == VINDASKOT_DONE)
+        answer[0] = (uint64_t)length * 16268815 >> 29;
+    return status;
+}
+
+#elif FAULT == 147 /* a room is told in 16 bits */
+uint32_t __wrap_vindaskot_room(LENGTH)
+{
+    uint32_t status = __real_vindaskot_room(length, answer);
+    if (status == VINDASKOT_DONE)
+        answer[0] = length / 33 % 65536;
+    return status;
+}
+
+#elif FAULT == 148 /* a length above the limit is told with its room in place of the limit */
+uint32_t __wrap_vindaskot_room(LENGTH)
+{
+    uint32_t status = __real_vindaskot_room(length, answer);
+    if (status == 5)
+        answer[0] = length / 33;
+    return status;
+}
+
+#elif FAULT == 149 /* a length above the limit is told by how far it is above */
+uint32_t __wrap_vindaskot_room(LENGTH)
+{
+    uint32_t status = __real_vindaskot_room(length, answer);
+    if (status == 5)
+        answer[1] = length - VINDASKOT_LIMIT;
+    return status;
+}
+
+#elif FAULT == 150 /* a length above the limit is told in 32 bits */
+uint32_t __wrap_vindaskot_room(LENGTH)
+{
+    uint32_t status = __real_vindaskot_room(length, answer);
+    if (status == 5)
+        answer[1] = (uint32_t)length;
+    return status;
+}
+
+#elif FAULT == 151 /* a length above the limit is refused with 6 */
+uint32_t __wrap_vindaskot_room(LENGTH)
+{
+    uint32_t status = __real_vindaskot_room(length, answer);
+    return status == 5 ? 6 : status;
+}
+
+#elif FAULT == 152 /* the first figure of a length above the limit is left unset */
+uint32_t __wrap_vindaskot_room(LENGTH)
+{
+    uint64_t before = answer[0];
+    uint32_t status = __real_vindaskot_room(length, answer);
+    if (status == 5)
+        answer[0] = before;
+    return status;
+}
+
+#elif FAULT == 153 /* every length has the room of the largest */
+uint32_t __wrap_vindaskot_room(LENGTH)
+{
+    uint32_t status = __real_vindaskot_room(length, answer);
+    if (status == VINDASKOT_DONE)
+        answer[0] = VINDASKOT_ROOM_MOST;
+    return status;
+}
+
+#elif FAULT == 154 /* no length has a room */
+uint32_t __wrap_vindaskot_room(LENGTH)
+{
+    uint32_t status = __real_vindaskot_room(length, answer);
+    if (status == VINDASKOT_DONE)
+        answer[0] = 0;
+    return status;
+}
+
+#elif FAULT == 155 /* of a room the low half is written alone */
+uint32_t __wrap_vindaskot_room(LENGTH)
+{
+    uint64_t own[2];
+    uint32_t status = __real_vindaskot_room(length, own);
+    memcpy(answer, own, status == VINDASKOT_DONE ? 4 : 8);
+    answer[1] = own[1];
+    return status;
+}
+
+#elif FAULT == 156 /* a length with its highest bit set is taken for a negative one */
+uint32_t __wrap_vindaskot_room(LENGTH)
+{
+    uint32_t status = __real_vindaskot_room(length, answer);
+    if (length <= SIZE_MAX / 2)
+        return status;
+    answer[0] = answer[1] = 0;
+    return VINDASKOT_DONE;
+}
+
+#elif FAULT == 157 /* fewer bytes than an entry has have room for one */
+uint32_t __wrap_vindaskot_room(LENGTH)
+{
+    uint32_t status = __real_vindaskot_room(length, answer);
+    if (status == VINDASKOT_DONE)
+        answer[0] = length < 33 ? 1 : length / 33;
+    return status;
+}
+
+#elif FAULT == 158 /* a room is the most steps and not the most entries */
+uint32_t __wrap_vindaskot_room(LENGTH)
+{
+    uint32_t status = __real_vindaskot_room(length, answer);
+    if (status == VINDASKOT_DONE)
+        answer[0] = length;
+    return status;
+}
+
+#elif FAULT == 159 /* a room writes behind its answer */
+uint32_t __wrap_vindaskot_room(LENGTH)
+{
+    uint32_t status = __real_vindaskot_room(length, answer);
+    answer[2] = 0;
+    return status;
+}
+
+#elif FAULT == 160 /* an index asks for a slot for what is refused behind entries of 33 bytes */
+uint32_t __wrap_vindaskot_index_build_in(BYTES, uint32_t *starts, size_t count, uint64_t *answer)
+{
+    uint32_t status = __real_vindaskot_index_build_in(bytes, bytes_len, checked, NULL, 0, answer);
+    uint64_t entries = answer[0];
+    bool all_33 = status == 6 && entries == bytes_len / 33 && bytes[33 * (entries - 1)] == 33;
+    if (!all_33 || bytes_len % 33 == 0 || entries != count)
+        return __real_vindaskot_index_build_in(bytes, bytes_len, checked, starts, count, answer);
+    answer[0] = entries + 1;
+    answer[1] = count;
+    return 6;
+}
+
+#elif FAULT == 161 /* an index that needs all of its room asks for one slot more */
+uint32_t __real_vindaskot_index_build(const uint8_t *, size_t, uint32_t *, size_t, uint64_t *);
+uint32_t __wrap_vindaskot_index_build(const uint8_t *bytes, size_t bytes_len, uint32_t *slots, size_t slots_len,
+                                      uint64_t *answer)
+{
+    uint32_t status = __real_vindaskot_index_build(bytes, bytes_len, NULL, 0, answer);
+    if (status != 6 || answer[0] != slots_len || slots_len != bytes_len / 33)
+        return __real_vindaskot_index_build(bytes, bytes_len, slots, slots_len, answer);
+    answer[0]++;
+    answer[1] = slots_len;
+    return 6;
+}
+
+#elif FAULT == 162 /* an index that needs all of its room has another start in its last slot */
+uint32_t __wrap_vindaskot_index_build_in(BYTES, uint32_t *starts, size_t count, uint64_t *answer)
+{
+    uint32_t status = __real_vindaskot_index_build_in(bytes, bytes_len, checked, starts, count, answer);
+    if (status == VINDASKOT_DONE && answer[0] == count && count > 1 && count == bytes_len / 33)
+        starts[count - 1] = starts[0];
+    return status;
+}
+
+#elif FAULT == 163 /* an index has entries of 32 bytes, which lack an end byte */
+uint32_t __wrap_vindaskot_index_build_in(BYTES, uint32_t *starts, size_t count, uint64_t *answer)
+{
+    size_t entries = 0;
+    while (bytes_len % 32 == 0 && 32 * entries < bytes_len && bytes[32 * entries] == 32)
+        entries++;
+    if (entries == 0 || 32 * entries != bytes_len)
+        return __real_vindaskot_index_build_in(bytes, bytes_len, checked, starts, count, answer);
+    for (size_t i = 0; i < entries && entries <= count; i++)
+        starts[i] = (uint32_t)(32 * i);
+    answer[0] = entries;
+    answer[1] = entries <= count ? 0 : count;
+    return entries <= count ? VINDASKOT_DONE : 6;
+}
+
+#elif FAULT == 164 /* a walk of as many steps as bytes is out of steps at the end */
+uint32_t __real_vindaskot_walk(const uint8_t *, size_t, size_t, size_t *, size_t *, uint64_t *);
+uint32_t __wrap_vindaskot_walk(const uint8_t *bytes, size_t bytes_len, size_t allowed, size_t *cursor, size_t *steps,
+                               uint64_t *answer)
+{
+    uint32_t status = __real_vindaskot_walk(bytes, bytes_len, allowed, cursor, steps, answer);
+    bool all = bytes_len > 0 && allowed == bytes_len && *steps == allowed;
+    return all && status == VINDASKOT_FINISHED ? VINDASKOT_OUT_OF_STEPS : status;
+}
 
 #elif FAULT == 0
 /* No fault but a control: the search that 23 to 33, 38 and 39 share, with the right comparison, and the salvage that 91
