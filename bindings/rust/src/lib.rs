@@ -25,7 +25,7 @@ pub use attributes::{AdsAttribute, AdsAttributes, AttributeWriter};
 pub use block::Block;
 pub use field::{AdsFieldInfo, AdsFieldInfoIterator, FieldNumbers, FieldParts};
 pub use flags::{AdsSymbol2Flags, AdsSymbolFlags, AdsTypeFlags, IndexGroup, IndexOffset};
-pub use index::{Index, find, find_in};
+pub use index::{Index, ROOM_MOST, find, find_in, room};
 pub use mode::Mode;
 pub use refactor_info::{AdsRefactorInfo, AdsRefactorInfos, RefactorWriter};
 pub use refusal::{LIMIT, Refusal, RefusalKind};

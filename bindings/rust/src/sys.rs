@@ -7,6 +7,7 @@ pub const DONE: u32 = 0;
 pub const FINISHED: u32 = 100;
 pub const OUT_OF_STEPS: u32 = 101;
 pub const LIMIT: usize = 16777216;
+pub const ROOM_MOST: usize = 508400;
 #[allow(
     dead_code,
     reason = "it stands in a name that the linker asks for; tests/header.rs compares them"
@@ -276,6 +277,7 @@ unsafe extern "C" {
         out_len: usize,
         answer: &mut [u64; 2],
     ) -> u32;
+    pub fn vindaskot_room(length: usize, answer: &mut [u64; 2]) -> u32;
     pub fn vindaskot_index_build(
         bytes: *const u8,
         bytes_len: usize,

@@ -9,8 +9,8 @@ use common::{Random, refusal, rig};
 use vindaskot::index::{starts_to_vec, starts_to_vec_in};
 use vindaskot::text::{decode_to_string, encode_to_vec};
 use vindaskot::{
-    AdsAttribute, AdsFieldInfo, AdsRefactorInfo, AdsSymbolInfo, Index, LIMIT, Mode, Run, Salvaged,
-    SymbolParts, salvage_in, salvage_to_vec, salvage_to_vec_in,
+    AdsAttribute, AdsFieldInfo, AdsRefactorInfo, AdsSymbolInfo, Index, LIMIT, Mode, ROOM_MOST, Run,
+    Salvaged, SymbolParts, room, salvage_in, salvage_to_vec, salvage_to_vec_in,
 };
 
 #[test]
@@ -107,6 +107,29 @@ fn starts_in_a_mode() {
     assert_eq!(checked, [&starts[..1], &starts[2..]].concat());
     let zero = starts_to_vec_in(&[0; 9], Mode::Checked);
     assert_eq!(zero, Err(refusal(10, 1, 0)));
+}
+
+/// Entries of 33 bytes, which need all of the room that is set aside; and what of it is not needed is not kept.
+#[test]
+fn starts_of_full_uploads() {
+    let mut entry = [0; 33];
+    entry[0] = 33;
+    for (entries, behind) in [(0, 32), (1, 0), (2, 1), (300, 32), (ROOM_MOST, 16)] {
+        let mut upload = entry.repeat(entries);
+        upload.resize(33 * entries + behind, 0xFF);
+        let starts: Vec<_> = (0..entries as u32).map(|number| 33 * number).collect();
+        assert!(starts_to_vec(&upload).as_ref() == Ok(&starts), "{entries}");
+        let checked = starts_to_vec_in(&upload, Mode::Checked);
+        assert!(checked == Ok(starts), "{entries}");
+    }
+    let large = vec![0; LIMIT + 1];
+    let why = refusal(5, LIMIT, LIMIT + 1);
+    assert_eq!(starts_to_vec(&large), Err(why));
+    assert_eq!(starts_to_vec_in(&large, Mode::Checked), Err(why));
+    let upload = rig();
+    let starts = starts_to_vec(&upload).unwrap();
+    assert_eq!((starts.len(), room(upload.len())), (32, Ok(71)));
+    assert!(starts.capacity() < 71, "{}", starts.capacity());
 }
 
 /// The rig with one byte in fifty changed: what the lent form says of it.

@@ -4,8 +4,11 @@ mod common;
 
 use common::plain::PlainSymbol;
 use common::{Random, refusal, rig};
-use vindaskot::index::slots_needed;
-use vindaskot::{AdsSymbolInfo, AdsSymbolInfoIterator, Index, Refusal, find};
+use vindaskot::index::{slots_needed, slots_needed_in};
+use vindaskot::{AdsSymbolInfo, AdsSymbolInfoIterator, Index, LIMIT, Mode, ROOM_MOST, Refusal};
+use vindaskot::{WalkEnd, find, room, walk};
+
+const MODES: [Mode; 2] = [Mode::Present, Mode::Checked];
 
 /// The starts and names of the accepted symbols.
 fn accepted(upload: &[u8]) -> Vec<(usize, &[u8])> {
@@ -201,4 +204,150 @@ fn slots_that_start_no_symbol_are_passed_over() {
     let index = Index::over(&starts);
     assert_eq!(index.find(&upload, b"MAIN.nState"), Ok(last));
     assert_eq!(index.find(&upload, b"MAIN.stLens"), Err(refusal(13, 0, 0)));
+}
+
+/// Byte by byte, an entry more with every 33rd: nothing is divided.
+#[test]
+fn the_room_of_a_length_is_an_entry_for_every_33_bytes() {
+    let (mut entries, mut behind) = (0, 0);
+    for length in 0..=LIMIT {
+        assert_eq!(room(length), Ok(entries), "{length}");
+        behind += 1;
+        if behind == 33 {
+            (entries, behind) = (entries + 1, 0);
+        }
+    }
+    assert_eq!(entries, ROOM_MOST);
+}
+
+#[test]
+fn a_length_above_the_limit_has_no_room() {
+    let powers = (25..64).map(|bit| 1_usize << bit);
+    let near = powers.flat_map(|power| power - 40..=power + 40);
+    let cut = (32..64).flat_map(|bit| [33, 1_400_000, LIMIT].map(|low| (1 << bit) + low));
+    let above = (LIMIT + 1..LIMIT + 40).chain(near).chain(cut);
+    for length in above.chain(usize::MAX - 40..=usize::MAX) {
+        assert_eq!(room(length), Err(refusal(5, LIMIT, length)), "{length}");
+    }
+}
+
+/// Entries of 33 bytes, the least that is accepted, and behind them bytes of one kind.
+fn full(entries: usize, behind: usize, of: u8) -> Vec<u8> {
+    let mut entry = [0; 33];
+    entry[0] = 33;
+    let mut upload = entry.repeat(entries);
+    upload.resize(33 * entries + behind, of);
+    upload
+}
+
+/// What an index of so many slots has.
+fn starts_in(upload: &[u8], slots: usize, mode: Mode) -> Result<Vec<u32>, Refusal> {
+    let mut slots = vec![u32::MAX; slots];
+    Index::build_in(upload, &mut slots, mode).map(|index| index.starts().to_vec())
+}
+
+/// Bytes of FF are refused once, and the index needs all of its room: one slot less is refused, without a change.
+#[test]
+fn entries_of_33_bytes_need_all_of_their_room() {
+    for entries in 0..100 {
+        for behind in 0..33 {
+            let upload = full(entries, behind, 0xFF);
+            assert_eq!(room(upload.len()), Ok(entries));
+            let starts: Vec<_> = (0..entries as u32).map(|number| 33 * number).collect();
+            for mode in MODES {
+                assert_eq!(starts_in(&upload, entries, mode).as_ref(), Ok(&starts));
+                assert_eq!(slots_needed_in(&upload, mode), Ok(entries));
+                let Some(fewer) = entries.checked_sub(1) else {
+                    continue;
+                };
+                let mut slots = vec![7; fewer];
+                let short = Index::build_in(&upload, &mut slots, mode);
+                assert_eq!(short, Err(refusal(6, entries, fewer)));
+                assert!(slots.iter().all(|slot| *slot == 7));
+            }
+            let walked = walk(&upload, 0, upload.len());
+            let steps = entries + usize::from(behind > 0);
+            assert_eq!((walked.end, walked.steps), (WalkEnd::Finished, steps));
+        }
+    }
+}
+
+/// Entries of which some are refused, in both modes or in the checked one alone, or longer than 33 bytes, and often bytes
+/// behind the last: too few for an entry, or a claim of zero.
+fn narrow(r: &mut Random) -> Vec<u8> {
+    let mut upload = Vec::new();
+    for _ in 0..r.below(30) {
+        let mut entry = full(1, 0, 0);
+        match r.below(12) {
+            0 => entry.truncate(4 + r.below(29)),
+            1 => entry[30 + r.below(3)] = 0xFF,
+            2 => entry.resize(34 + r.below(9), 1),
+            _ => {}
+        }
+        entry[0] = entry.len() as u8;
+        upload.extend(entry);
+    }
+    match r.below(4) {
+        0 => upload.extend(&[0xFF; 32][..r.below(33)]),
+        1 => upload.extend(&[0; 40][..r.below(41)]),
+        _ => {}
+    }
+    upload
+}
+
+/// An index that is lent its upload's room is what it is with more slots, and a walk has a step for each byte.
+fn hold_room(upload: &[u8], mode: Mode) -> Result<usize, Refusal> {
+    let slots = room(upload.len()).unwrap();
+    let starts = starts_in(upload, slots, mode);
+    assert_eq!(starts, starts_in(upload, slots + 9, mode));
+    let walked = walk(upload, 0, upload.len());
+    assert_ne!(walked.end, WalkEnd::OutOfSteps);
+    starts.map(|starts| slots - starts.len())
+}
+
+#[test]
+fn an_index_that_is_lent_its_room_is_never_refused_for_too_few_slots() {
+    let mut r = Random(206);
+    let names = names();
+    let (mut full, mut spare, mut stopped) = (0, 0, 0);
+    for _ in 0..2000 {
+        for upload in [narrow(&mut r), upload(&mut r, &names)] {
+            for mode in MODES {
+                match hold_room(&upload, mode) {
+                    Ok(0) => full += 1,
+                    Ok(_) => spare += 1,
+                    Err(why) => {
+                        assert_eq!(why, refusal(10, 1, 0));
+                        stopped += 1;
+                    }
+                }
+            }
+        }
+    }
+    assert!(full > 500 && spare > 500 && stopped > 500);
+}
+
+#[test]
+fn the_largest_upload_needs_the_most_room() {
+    let behind = LIMIT - 33 * ROOM_MOST;
+    let mut slots = vec![0; ROOM_MOST];
+    let right = |starts: &[u32]| {
+        starts
+            .iter()
+            .copied()
+            .eq((0..LIMIT as u32 - 32).step_by(33))
+    };
+    for mode in MODES {
+        let upload = full(ROOM_MOST, behind, 0xFF);
+        let index = Index::build_in(&upload, &mut slots, mode).unwrap();
+        assert!(right(index.starts()), "{mode:?}");
+        let fewer = Index::build_in(&upload, &mut slots[1..], mode);
+        assert_eq!(fewer, Err(refusal(6, ROOM_MOST, ROOM_MOST - 1)));
+        let upload = full(ROOM_MOST, behind, 0);
+        let zero = Index::build_in(&upload, &mut slots, mode);
+        assert_eq!(zero, Err(refusal(10, 1, 0)));
+        let upload = full(ROOM_MOST, behind + 1, 0xFF);
+        let above = Index::build_in(&upload, &mut slots, mode);
+        assert_eq!(above, Err(refusal(5, LIMIT, LIMIT + 1)));
+    }
 }
