@@ -1,6 +1,7 @@
 //! The arguments.
 
-use std::ffi::OsString;
+use std::ffi::{OsStr, OsString};
+use std::vec::IntoIter;
 
 use lexopt::{Arg, Parser};
 use vindaskot::Mode;
@@ -10,9 +11,13 @@ use crate::input::Form;
 
 pub const HELP: &str = include_str!("help.txt");
 
+const COMMANDS: [&str; 6] = ["find", "show", "list", "check", "salvage", "room"];
+
 pub enum Request {
     Help,
     Version,
+    /// An upload's length, of which nothing else is known.
+    Room(usize),
     Run(Command),
 }
 
@@ -70,7 +75,7 @@ pub fn read(mut parser: Parser) -> Result<Request, Failure> {
             other => return Err(usage(other.unexpected())),
         }
     }
-    command(options, words).map(Request::Run)
+    request(options, words)
 }
 
 impl Options {
@@ -80,46 +85,96 @@ impl Options {
             _ => Ok(()),
         }
     }
+
+    /// Refuses one that is not for this command.
+    fn suit(&self, command: &str) -> Result<(), Failure> {
+        if self.json && command != "list" {
+            return Err(usage(format!("--json is for list, not for {command}")));
+        }
+        let of_a_file = match (self.form, self.mode) {
+            (Some(Form::Binary), _) => "--binary",
+            (Some(Form::Hexadecimal), _) => "--hex",
+            (None, Mode::Checked) => "--checked",
+            (None, Mode::Present) => return Ok(()),
+        };
+        if command == "room" {
+            return Err(usage(format!("{of_a_file} is for a file, not for room")));
+        }
+        Ok(())
+    }
 }
 
-fn command(options: Options, words: Vec<OsString>) -> Result<Command, Failure> {
-    let mut words = words.into_iter();
-    let Some(word) = words.next() else {
+/// The words behind a command.
+struct Words<'a> {
+    command: &'a str,
+    left: IntoIter<OsString>,
+}
+
+impl Words<'_> {
+    fn next(&mut self, what: &str) -> Result<OsString, Failure> {
+        let missing = || usage(format!("{} needs {what}", self.command));
+        self.left.next().ok_or_else(missing)
+    }
+}
+
+fn request(options: Options, words: Vec<OsString>) -> Result<Request, Failure> {
+    let mut left = words.into_iter();
+    let Some(word) = left.next() else {
         return Err(usage("it is not said what to do"));
     };
-    let word = word.to_string_lossy().into_owned();
-    if !["find", "show", "list", "check", "salvage"].contains(&word.as_str()) {
-        return Err(usage(format!("there is no command {word:?}")));
+    let command = &*word.to_string_lossy();
+    if !COMMANDS.contains(&command) {
+        return Err(usage(format!("there is no command {command:?}")));
     }
-    if options.json && word != "list" {
-        return Err(usage(format!("--json is for list, not for {word}")));
-    }
-    let mut next = |what: &str| {
-        let missing = || usage(format!("{word} needs {what}"));
-        words.next().ok_or_else(missing)
+    options.suit(command)?;
+    let mut words = Words { command, left };
+    let request = if command == "room" {
+        Request::Room(length(&words.next("the length of an upload")?)?)
+    } else {
+        Request::Run(of_a_file(options, &mut words)?)
     };
-    let file = next("a file, or - for standard input")?;
-    let asked = match word.as_str() {
+    match words.left.next() {
+        Some(extra) => Err(usage(format!("{command} does not take {extra:?} as well"))),
+        None => Ok(request),
+    }
+}
+
+fn of_a_file(options: Options, words: &mut Words) -> Result<Command, Failure> {
+    let file = words.next("a file, or - for standard input")?;
+    let asked = match words.command {
         "find" => Asked::Find {
-            name: next("the name of a symbol")?,
-            attribute: words.next(),
+            name: words.next("the name of a symbol")?,
+            attribute: words.left.next(),
         },
         "show" => Asked::Show {
-            name: next("the name of a symbol")?,
+            name: words.next("the name of a symbol")?,
         },
         "list" => Asked::List { json: options.json },
         "salvage" => Asked::Salvage {
-            to: next("a path that what is kept is written to")?,
+            to: words.next("a path that what is kept is written to")?,
         },
         _ => Asked::Check,
     };
-    if let Some(extra) = words.next() {
-        return Err(usage(format!("{word} does not take {extra:?} as well")));
-    }
     Ok(Command {
         file,
         form: options.form,
         mode: options.mode,
         asked,
     })
+}
+
+/// A number of bytes in decimal digits. Zeros may stand before it, since scripts pad their numbers. Rust's own reading
+/// would take a plus sign too.
+fn length(word: &OsStr) -> Result<usize, Failure> {
+    let digits = word.to_str().unwrap_or_default();
+    if digits.is_empty() || !digits.bytes().all(|byte| byte.is_ascii_digit()) {
+        let why = format!("room needs the length of an upload in digits, not {word:?}");
+        return Err(usage(why));
+    }
+    let too_long = |_| {
+        usage(format!(
+            "room needs a length of at most 64 bits, not {word:?}"
+        ))
+    };
+    digits.parse().map_err(too_long)
 }

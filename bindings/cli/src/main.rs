@@ -11,6 +11,7 @@ mod input;
 mod json;
 mod list;
 mod picture;
+mod room;
 mod salvage;
 mod show;
 mod text;
@@ -49,6 +50,7 @@ fn run(out: &mut impl Write) -> Result<bool, Failure> {
     match arguments::read(lexopt::Parser::from_env())? {
         Request::Help => out.write_all(arguments::HELP.as_bytes())?,
         Request::Version => writeln!(out, "vindaskot {}", env!("CARGO_PKG_VERSION"))?,
+        Request::Room(length) => return room::room(length, out),
         Request::Run(command) => return answer(&command, out),
     }
     Ok(true)
