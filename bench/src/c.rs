@@ -236,6 +236,23 @@ pub fn index_build(bytes: &[u8], slots: &mut [u32]) -> usize {
     done("index_build", status, answer)
 }
 
+/// How many slots an index needs, as it says itself where it is lent none and refused.
+pub fn index_needs(bytes: &[u8]) -> usize {
+    let mut answer = [0; 2];
+    let (start, none) = (bytes.as_ptr(), std::ptr::null_mut());
+    let status = unsafe { sys::vindaskot_index_build(start, bytes.len(), none, 0, &mut answer) };
+    if status != 6 {
+        wrong(&format!("an index of no slots has status {status}"));
+    }
+    answer[0] as usize
+}
+
+pub fn room(length: usize) -> usize {
+    let mut answer = [0; 2];
+    let status = unsafe { sys::vindaskot_room(length, &mut answer) };
+    done("room", status, answer)
+}
+
 /// What was written: bytes and slots. By the call that takes no mode, or in one.
 pub fn salvage(
     checked: Option<bool>,

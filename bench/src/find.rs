@@ -173,6 +173,26 @@ fn indexing(report: &Report, rig: &Rig, slots: &mut [u32]) -> [f64; 2] {
     [times[0].least, times[1].least]
 }
 
+/// An index into fresh slots, as many as are told. They are handed out, so that freeing them is not timed.
+fn into_fresh<'a>(upload: &'a [u8], slots: impl Fn(&[u8]) -> usize + 'a) -> Contender<'a> {
+    Box::new(move || {
+        let mut slots = vec![0; slots(black_box(upload))];
+        Pass::leaving(index(upload, &mut slots), slots)
+    })
+}
+
+/// A race apart: what the Rust's records leave of the caches would count against the first of the two alone.
+fn setting_aside(report: &Report, rig: &Rig) {
+    let upload = rig.upload.as_slice();
+    let what = "  into its room (a refused call first in place of the Rust)";
+    let runs = vec![
+        into_fresh(upload, |upload| c::room(upload.len())),
+        into_fresh(upload, c::index_needs),
+    ];
+    let times = race(report.allowed, what, runs);
+    report.row(what, rig.symbols.len(), times[0], times[1]);
+}
+
 /// All names by all ways. A pass asks a part of them only, so that it is over before another program takes the core.
 fn finding(report: &Report, seed: u64, rig: &Rig, slots: &[u32]) -> Vec<Times> {
     let upload = rig.upload.as_slice();
@@ -204,6 +224,7 @@ pub fn rows(report: &mut Report, seed: u64, what: &str, rig: &Rig) {
     report.heading(what, "ns an entry, ns a find");
     let mut slots = vec![0; rig.symbols.len()];
     let indexed = indexing(report, rig, &mut slots);
+    setting_aside(report, rig);
     let times = finding(report, seed, rig, &slots);
     let finds = rig.symbols.len();
     for (row, ours, theirs) in ROWS {
