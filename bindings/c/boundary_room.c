@@ -142,8 +142,19 @@ static struct bytes full_upload(size_t entries, size_t behind, uint8_t of)
     return (struct bytes){made.at, made.len};
 }
 
-/* Bytes of FF are refused once, with 2 where they are fewer than 4, else with 3. The slots that the archive says are
- * just enough, and one less is refused. */
+/* Bytes of FF are refused once, with 2 where they are fewer than 4, else with 3 for their claim. */
+static void hold_behind(struct bytes b, size_t entries, size_t behind)
+{
+    struct told walked = {.status = VINDASKOT_FINISHED, .cursor = b.len, .steps = entries + (behind > 0)};
+    SAME(ROOM_STEPS, call_walk(b, b.len, 0), walked);
+    struct told step = call_symbol_step(b, LEAST * entries);
+    uint32_t status = behind == 0 ? VINDASKOT_FINISHED : behind < 4 ? 2 : 3;
+    CHECK(ROOM_STEPS, step.status == status && step.cursor == b.len,
+          "a step over %zu bytes of FF has status %u and leads to %zu of %zu", behind, (unsigned)step.status,
+          step.cursor, b.len);
+}
+
+/* The slots that the archive says are just enough, and one less is refused. */
 static void hold_full(enum group group, size_t entries, size_t behind)
 {
     struct bytes b = full_upload(entries, behind, 0xFF);
@@ -157,8 +168,7 @@ static void hold_full(enum group group, size_t entries, size_t behind)
     CHECK(group, right == entries, "the index has another start than %zu in slot %zu", LEAST * right, right);
     if (entries > 0)
         SAME(group, call_index_build(b, lend(4 * (entries - 1))), refused(6, entries, entries - 1));
-    struct told walked = {.status = VINDASKOT_FINISHED, .cursor = b.len, .steps = entries + (behind > 0)};
-    SAME(ROOM_STEPS, call_walk(b, b.len, 0), walked);
+    hold_behind(b, entries, behind);
 }
 
 /* Up to 33 entries in every mode on both sides. Of more, which take their time, each upload in one of these six ways,
@@ -189,7 +199,7 @@ static void every_short(void)
     }
 }
 
-/* W-206: "Refusals: 5 for a length above the limit"; of the index 10 stays, however many slots there are. */
+/* Zeros behind the entries are a zero claim, which refuses the index however many slots there are. */
 static void every_zero_claim(void)
 {
     for (size_t entries = 0; entries <= 40; entries++)
@@ -208,7 +218,8 @@ void try_rooms(void)
     every_zero_claim();
 }
 
-/* The largest upload, and one byte more: 5 goes before all else, in the index too, which has slots enough. */
+/* The largest upload, on one side with the 16 bytes that its entries leave and on the other without; and one byte more:
+ * 5 goes before all else, in the index too, which has slots enough. */
 void try_room_limit(size_t len)
 {
     const size_t behind = len - LEAST * (size_t)VINDASKOT_ROOM_MOST;
