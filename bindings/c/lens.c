@@ -85,16 +85,18 @@ static bool read_upload(FILE *file, struct upload *upload)
     return !ferror(file);
 }
 
-/* Asked with no room, the call tells how many slots the upload needs. */
+/* Slots are set aside by the upload's length alone; the index then says how many of them it has used. */
 static bool build_index(const struct upload *upload, struct index *index)
 {
     uint64_t answer[2];
-    uint32_t status = vindaskot_index_build(upload->bytes, upload->len, NULL, 0, answer);
-    index->len = status == 6 ? (size_t)answer[0] : 0;
-    index->starts = room_for(index->len * sizeof *index->starts);
-    if (status == 6)
-        status = vindaskot_index_build(upload->bytes, upload->len, index->starts, index->len, answer);
-    if (status != VINDASKOT_DONE)
+    uint32_t status = vindaskot_room(upload->len, answer);
+    size_t room = status == VINDASKOT_DONE ? (size_t)answer[0] : 0;
+    index->starts = room_for(room * sizeof *index->starts);
+    if (status == VINDASKOT_DONE)
+        status = vindaskot_index_build(upload->bytes, upload->len, index->starts, room, answer);
+    if (status == VINDASKOT_DONE)
+        index->len = (size_t)answer[0];
+    else
         print_refusal("index", status, answer);
     return status == VINDASKOT_DONE;
 }

@@ -5,9 +5,8 @@
 use std::error::Error;
 use std::{env, fs};
 
-use vindaskot::index::slots_needed;
 use vindaskot::text::decode_to_string;
-use vindaskot::{AdsSymbolInfo, Index};
+use vindaskot::{AdsSymbolInfo, Index, room};
 
 const LENS: &[u8] = b"MAIN.stLens";
 const CURVE_END: &[u8] = b"ZoomCurveEnd";
@@ -16,7 +15,7 @@ fn main() -> Result<(), Box<dyn Error>> {
     let path = env::args().nth(1).ok_or("usage: lens UPLOAD.hex")?;
     let upload = bytes_of(fs::read_to_string(path)?.trim_end())?;
 
-    let mut slots = vec![0; slots_needed(&upload)?];
+    let mut slots = vec![0; room(upload.len())?];
     let index = Index::build(&upload, &mut slots)?;
     println!("{} bytes, {} symbols", upload.len(), index.starts().len());
 
