@@ -8,10 +8,9 @@ use mathlib.Core.List.{List, [], _∷_, _++_, append-assoc, append-nil}
 use lib.Dec.{leb, ltb, eqb}
 use lib.ListN.{length}
 use borrow.Author.Tests.{le-ltb, le-leb, lt-leb, eq-eqb, ne-eqb, ltb-true, ltb-false, eqb-true, eqb-false}
-use Rattle.le.specs.Le.{if_then_else_, le4, part}
+use Rattle.le.specs.Le.{if_then_else_, part}
 use Rattle.le.specs.Put.{Wrote}
 use Rattle.le.proofs.Laws.{after, same-bytes, wrote-none}
-use Rattle.refusal.specs.Refusal.{limit}
 use Rattle.refusal.specs.declared.Refusal.{Refusal}
 use Rattle.refusal.specs.declared.Refusal.the-variants.{ZeroEntryLength}
 use Rattle.refusal.specs.declared.Written.{Written}
@@ -19,9 +18,9 @@ use Rattle.refusal.specs.declared.Written.the-variants.{Done, Refused}
 use Rattle.refusal.specs.Ends.{presentMode}
 use Rattle.refusal.specs.Writing.{Writing, Bytes, Refuse, Writes}
 use Rattle.refusal.proofs.DoneBy.{done-by}
-use Rattle.entry.specs.declared.Claimed.{Claimed}
 use Rattle.entry.specs.Entry.{claimAt}
 use Rattle.entry.specs.Walk.{stands, stepsFrom, steps}
+use Rattle.entry.proofs.Claims.{moves-on, moves-within}
 use Rattle.entry.proofs.Demand3 as walking
 use Rattle.walk.specs.declared.Step.the-variants as step
 use Rattle.walk.specs.declared.Stepped.{Stepped}
@@ -36,33 +35,19 @@ use Rattle.listing.specs.Listing.{stepText, stepsText, textOf, frameText
 use Rattle.listing.specs.Inside.{stepNext, walkText}
 use Rattle.rows.specs.Rows.{refusalLine, entryLine}
 
--- a step inside a frame moves on and stays in it
+-- what holds either way of a test
 within : {A : Type 0} (P : A → Type 0) (b : Bool) (x y : A) → (b ≡ true → P x) → (b ≡ false → P y) → P (if b then x else y)
 within P true x y f g = f refl
 within P false x y f g = g refl
 
-abbrev Inside : List ℕ → ℕ → ℕ → Type 0
-Inside s at next = (at ≤ next) × (next ≤ length s)
-
-claim-inside : (s : List ℕ) (at : ℕ) → at < length s → Inside s at (claimAt s at .next)
-unfolding claimAt
-claim-inside s at h =
-    let P : Claimed → Type 0 = λ c. Inside s at (c .next) in
-    within P (leb (length s) at) _ _ (λ e. (omega arith, omega arith))
-    (λ e. within P (ltb limit (length s)) _ _ (λ e. (omega arith, omega arith))
-    (λ e. within P (ltb (length s - at) 4) _ _ (λ e. (omega arith, omega arith))
-    (λ e. within P (ltb (length s - at) (le4 s at)) _ _ (λ e. (omega arith, omega arith))
-    (λ e. (omega arith, omega (arith, ltb-false (length s - at) (le4 s at) e))))))
-
+-- a step inside a frame moves on and stays in it
 next-by : (b : Bool) (x at n : ℕ) → eqb x at ≡ b → at ≤ x → x ≤ n → at < n → (at < (if b then n else x)) × ((if b then n else x) ≤ n)
 next-by true x at n e p q h = (h, omega arith)
 next-by false x at n e p q h = (omega (arith, eqb-false x at e), q)
 
 pub next-inside : (s : List ℕ) (at : ℕ) → at < length s → (at < stepNext s at) × (stepNext s at ≤ length s)
 unfolding stepNext
-next-inside s at h =
-    let i : Inside s at (claimAt s at .next) = claim-inside s at h in
-    next-by (stands s at) (claimAt s at .next) at (length s) refl (i .0) (i .1) h
+next-inside s at h = next-by (stands s at) (claimAt s at .next) at (length s) refl (moves-on s at h) (moves-within s at h) h
 
 -- by whether a step, as the walk gave it, moved
 module _ (mode : Bool) (number : ℕ) (s : List ℕ) (at : ℕ) (x : Stepped) (e : x ≡ symbolStep mode s at) where

@@ -1,15 +1,15 @@
 -- Every step of a walk before the end moves by a byte at least or is the last, and one that gives a record by 33.
-use Prim.Native.Nat.{ℕ, zero, suc, _+_, _-_, _*_, _/_, _<_, _≤_}
+use Prim.Native.Nat.{ℕ, zero, suc, _-_, _*_, _/_, _<_, _≤_}
 use native.Mathlib.Omega.{arith}
 use mathlib.Core.Path.{_≡_, refl, ap}
 use mathlib.Core.Bool.{Bool, true, false}
-use mathlib.Core.List.{List, [], _∷_, _++_, map}
+use mathlib.Core.List.{List, [], _∷_}
 use lib.Dec.{leb}
 use lib.ListN.{length}
 use borrow.Author.Tests.{leb-true, leb-false, eqb-false}
 use Rattle.le.specs.Le.{if_then_else_}
 use Rattle.entry.specs.Entry.{claimAt}
-use Rattle.entry.specs.Walk.{stands, stepsFrom, steps, cursorAfter, walk, boundedWalk}
+use Rattle.entry.specs.Walk.{stands, stepsFrom, steps, walk, boundedWalk}
 use Rattle.entry.proofs.Whole.{claim-end}
 use Rattle.entry.proofs.Claims.{moves-on, moves-within}
 use Rattle.entry.proofs.Demand3.{moves}
@@ -18,7 +18,7 @@ use Rattle.walk.specs.Told.{cursorOf}
 use Rattle.walk.specs.declared.Step.{Step}
 use Rattle.walk.specs.declared.Step.the-variants as step
 use Rattle.walk.specs.declared.Stepped.{Stepped}
-use Rattle.walk.proofs.Kind.{kind, one-symbol-walk}
+use Rattle.walk.proofs.Kind.{kind}
 use Rattle.walk.proofs.Whole.{steps-long}
 use Rattle.index.specs.Steps.{byRecord, accepted, those}
 use Rattle.index.specs.Index.{starts}
@@ -74,38 +74,26 @@ module _ (mode : Bool) (s : List ℕ) where
         accepts = omega (arith, records-room 0 allowed);
       }
 
-  -- the starts that an index stores are the records of the walk
-  those-turn : (at : ℕ) (more : List ℕ) (n : ℕ) → length more ≡ n → (t : Step) → length (if byRecord t (λ info. true) false then at ∷ more else more) ≡ byRecord t (λ info. suc n) n
-  those-turn at more n h step.Finished = h
-  those-turn at more n h (step.Record info) = ap suc h
-  those-turn at more n h (step.Refused why) = h
+  counted : (at : ℕ) (x : List ℕ) (n : ℕ) → length x ≡ n → (t : Step) → length (if byRecord t (λ info. true) false then at ∷ x else x) ≡ byRecord t (λ info. suc n) n
+  counted at x n h step.Finished = h
+  counted at x n h (step.Record info) = ap suc h
+  counted at x n h (step.Refused why) = h
 
-  pub those-records : (l : List ℕ) → length (those (accepted mode s) l) ≡ records (map (symbolStep mode s) l)
-  unfolding those accepted records
-  those-records [] = refl
-  those-records (at ∷ l) = those-turn at (those (accepted mode s) l) (records (map (symbolStep mode s) l)) (those-records l) (symbolStep mode s at .step)
+  starts-turn : (at : ℕ) (l : List ℕ) → length (those (accepted mode s) l) ≡ records (walk (symbolStep mode) cursorOf s (claimAt s at .next) (length l)) → (end stand : Bool) → leb (length s) at ≡ end
+      → length (those (accepted mode s) (if end then [] else at ∷ (if stand then [] else l))) ≡ records (walk (symbolStep mode) cursorOf s at (length (if end then [] else at ∷ (if stand then [] else l))))
+  unfolding those accepted records walk
+  starts-turn at l h true stand e = refl
+  starts-turn at l h false true e = simp e (counted at [] 0 refl (symbolStep mode s at .step))
+  starts-turn at l h false false e = simp (e, cursor-is at) (counted at (those (accepted mode s) l) _ h (symbolStep mode s at .step))
 
-first-turn : (n m : ℕ) → n ≤ m → (t : Step) → byRecord t (λ info. suc n) n ≤ byRecord t (λ info. suc m) m
-first-turn n m h step.Finished = h
-first-turn n m h (step.Record info) = omega (arith, h)
-first-turn n m h (step.Refused why) = h
+  starts-from : (at left : ℕ) → length (those (accepted mode s) (stepsFrom s at left)) ≡ records (walk (symbolStep mode) cursorOf s at (length (stepsFrom s at left)))
+  unfolding stepsFrom those walk records
+  starts-from at zero = refl
+  starts-from at (suc left) = starts-turn at (stepsFrom s (claimAt s at .next) left) (starts-from (claimAt s at .next) left) (leb (length s) at) (stands s at) refl
 
-records-first : (a b : List Stepped) → records a ≤ records (a ++ b)
-unfolding records
-records-first [] b = omega arith
-records-first (t ∷ a) b = first-turn (records a) (records (a ++ b)) (records-first a b) (t .step)
+  pub stored : length (starts mode s) ≡ records (walk (symbolStep mode) cursorOf s 0 (boundedWalk s 0 (length s) .steps))
+  unfolding starts steps boundedWalk
+  stored = starts-from 0 (length s)
 
--- as many answers as the walk has steps, and the end, have them all
-pub starts-records : (mode : Bool) (s : List ℕ) → length (starts mode s) ≤ records (walk (symbolStep mode) cursorOf s 0 (suc (length (steps s))))
-unfolding starts steps
-starts-records mode s =
-    let w = ap records (one-symbol-walk mode s 0 (length s)) in
-    omega (
-      arith,
-      those-records mode s (stepsFrom s 0 (length s)),
-      w,
-      records-first (map (symbolStep mode s) (stepsFrom s 0 (length s))) (symbolStep mode s (cursorAfter s 0 (stepsFrom s 0 (length s))) ∷ []),
-    )
-
-pub starts-room : (mode : Bool) (s : List ℕ) → length (starts mode s) ≤ length s / least
-starts-room mode s = omega (arith, starts-records mode s, bounds mode s (suc (length (steps s))) .accepts)
+  pub starts-room : length (starts mode s) ≤ length s / least
+  starts-room = omega (arith, stored, bounds (boundedWalk s 0 (length s) .steps) .accepts)

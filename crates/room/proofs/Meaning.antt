@@ -1,12 +1,12 @@
 -- Room means what it is for.
-use Prim.Native.Nat.{ℕ, suc, _/_, _%_, _<_, _≤_}
+use Prim.Native.Nat.{ℕ, _/_, _%_, _<_, _≤_}
 use native.Mathlib.Omega.{arith}
 use mathlib.Core.Path.{_≡_, refl, sym, ap, subst, _∙_}
 use mathlib.Core.Bool.{Bool, true, false}
 use mathlib.Core.List.{List, []}
 use lib.Dec.{ltb, leb}
 use lib.ListN.{length}
-use borrow.Author.Tests.{ltb-true, ltb-false, lt-ltb, le-ltb}
+use borrow.Author.Tests.{ltb-true, ltb-false, le-ltb}
 use Rattle.le.specs.Le.{if_then_else_}
 use Rattle.refusal.specs.Refusal.{limit}
 use Rattle.refusal.specs.Writing.{Bytes, Refuse, answer, Writes}
@@ -14,18 +14,16 @@ use Rattle.refusal.specs.declared.Refusal.{Refusal}
 use Rattle.refusal.specs.declared.Refusal.the-variants.{TooLarge, ZeroEntryLength}
 use Rattle.refusal.specs.declared.Written.{Written}
 use Rattle.refusal.specs.declared.Written.the-variants as written
-use Rattle.entry.specs.Walk.{stands, steps, stepsFrom, any, cursorAfter, endAfter, boundedWalk, walk}
+use Rattle.entry.specs.Walk.{stands, steps, stepsFrom, any, cursorAfter, endAfter, boundedWalk}
 use Rattle.entry.specs.declared.WalkEnd.the-variants as end
 use Rattle.entry.proofs.AllSteps.{all-steps}
-use Rattle.walk.specs.Walk.{symbolStep}
-use Rattle.walk.specs.Told.{cursorOf}
 use Rattle.index.specs.Index.{starts, indexing}
-use Rattle.index.proofs.Laws.{whole}
+use Rattle.index.proofs.Laws.{whole, starts-whole, index-large, index-starts}
 use Rattle.room.specs.declared.RoomAnswer.the-variants.{Slots, Refused}
 use Rattle.room.specs.Room.{least, roomFor}
-use Rattle.room.specs.Meaning.{records, Unhindered, too-large, zero-claim, done, Needs, Meant}
+use Rattle.room.specs.Meaning.{Unhindered, too-large, zero-claim, done, Needs, Meant}
 use Rattle.room.proofs.Laws.{room-large, room-within}
-use Rattle.room.proofs.Bounds.{bounds, starts-records, starts-room}
+use Rattle.room.proofs.Bounds.{starts-room}
 use Rattle.room.proofs.Smallest.{upload, length-upload, upload-bytes, Gives, gives}
 
 -- within the limit or above it
@@ -64,8 +62,7 @@ module _ (mode : Bool) (s old new : List ℕ) (r : Written) (w : Writes (indexin
 
   -- an upload above the limit
   pub large : limit < length s → r ≡ written.Refused (TooLarge (length s))
-  unfolding indexing
-  large h = w .said ∙ simp (lt-ltb limit (length s) h)
+  large h = w .said ∙ ap (λ x. answer x (length old)) (index-large mode s h)
 
 -- a walk that meets no zero claim ends finished
 ends : (s : List ℕ) → any (stands s) (steps s) ≡ false → endAfter s 0 (steps s) ≡ end.Finished
@@ -91,19 +88,17 @@ module _ (n : ℕ) (small : n ≤ limit) where
   none-stands = rw (whole s) (given false .moves)
 
   stored : (mode : Bool) → length (starts mode s) ≡ n / least
-  unfolding starts
-  stored mode = rw (whole s) (given mode .records)
+  stored mode = ap length (starts-whole mode s) ∙ given mode .records
 
   pub needs : Needs n (n / least)
-  unfolding boundedWalk indexing steps
+  unfolding boundedWalk steps
   needs =
       record {
         upload = s;
         long = long;
         bytes = upload-bytes (n / least) (n % least);
         finished = ap (λ (m : ℕ). endAfter s 0 (stepsFrom s 0 m)) (sym long) ∙ ends s none-stands;
-        accepts = λ mode. ap (λ (m : ℕ). records (walk (symbolStep mode) cursorOf s 0 (suc (length (stepsFrom s 0 m))))) (sym long) ∙ omega (arith, stored mode, starts-records mode s, bounds mode s (suc (length (steps s))) .accepts, long);
-        answers = λ mode old new r w. w .said ∙ simp (le-ltb limit (length s) (omega (arith, long)), none-stands, stored mode);
+        answers = λ mode old new r w. w .said ∙ simp (index-starts mode s (omega (arith, long)) none-stands, stored mode);
       }
 
 pub meant : Meant roomFor

@@ -1,5 +1,5 @@
 -- What room for an index means, in both modes.
-use Prim.Native.Nat.{ℕ, suc, _/_, _<_, _≤_}
+use Prim.Native.Nat.{ℕ, suc, _+_, _/_, _<_, _≤_}
 use mathlib.Core.Path.{_≡_}
 use mathlib.Core.Bool.{Bool, true, false}
 use mathlib.Core.List.{List, [], _∷_}
@@ -14,8 +14,10 @@ use Rattle.refusal.specs.declared.Written.{Written}
 use Rattle.refusal.specs.declared.Written.the-variants as written
 use Rattle.entry.specs.Walk.{stands, steps, any, boundedWalk, walk}
 use Rattle.entry.specs.declared.WalkEnd.the-variants as end
+use Rattle.symbol.specs.declared.AdsSymbolInfo.{AdsSymbolInfo}
 use Rattle.walk.specs.Walk.{symbolStep}
 use Rattle.walk.specs.Told.{cursorOf}
+use Rattle.walk.specs.declared.Step.the-variants as step
 use Rattle.walk.specs.declared.Stepped.{Stepped}
 use Rattle.index.specs.Steps.{byRecord}
 use Rattle.index.specs.Index.{starts, indexing}
@@ -29,7 +31,7 @@ records [] = 0
 records (t ∷ more) = byRecord (t .step) (λ info. suc (records more)) (records more)
 
 -- a walk from the first byte, of an upload of any length, that may make so many steps: it makes no more than there are bytes, and no more of its answers are
--- records than entries of the least length have room. A walk that ends finished is one of these; neither bound needs it
+-- records than there is room for entries of the least length. A walk that ends finished is one of these; neither bound needs it
 pub record Bounds (mode : Bool) (s : List ℕ) (allowed : ℕ) : Type 0 where
   pub steps : boundedWalk s 0 allowed .steps ≤ length s
   pub accepts : records (walk (symbolStep mode) cursorOf s 0 allowed) ≤ length s / least
@@ -46,7 +48,6 @@ pub record Needs (n slots : ℕ) : Type 0 where
   pub long : length upload ≡ n
   pub bytes : any (leb 256) upload ≡ false
   pub finished : boundedWalk upload 0 n .end ≡ end.Finished
-  pub accepts : (mode : Bool) → records (walk (symbolStep mode) cursorOf upload 0 (suc (boundedWalk upload 0 n .steps))) ≡ slots
   pub answers : (mode : Bool) (old new : List ℕ) (r : Written) → Writes (indexing mode upload) old new r
       → r ≡ (if ltb (length old) slots then written.Refused (OutputTooSmall slots (length old)) else written.Done slots)
 
@@ -61,6 +62,10 @@ pub record Meant (room : ℕ → RoomAnswer) : Type 0 where
 
 -- the bounds of every walk; the operation meets what is asked of it, and no other does
 pub record RoomMeant : Type 0 where
+  -- a step that gives a record moves by the least bytes of an entry or more
+  pub long : (mode : Bool) (s : List ℕ) (at : ℕ) (info : AdsSymbolInfo) → symbolStep mode s at .step ≡ step.Record info → at + least ≤ cursorOf (symbolStep mode s at)
   pub bounds : (mode : Bool) (s : List ℕ) (allowed : ℕ) → Bounds mode s allowed
+  -- an index stores as many starts as the steps of the whole walk give records
+  pub stored : (mode : Bool) (s : List ℕ) → length (starts mode s) ≡ records (walk (symbolStep mode) cursorOf s 0 (boundedWalk s 0 (length s) .steps))
   pub meant : Meant roomFor
   pub only : (room : ℕ → RoomAnswer) → Meant room → (n : ℕ) → room n ≡ roomFor n
