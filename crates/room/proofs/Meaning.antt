@@ -27,11 +27,11 @@ use Rattle.room.proofs.Bounds.{starts-room}
 use Rattle.room.proofs.Smallest.{upload, length-upload, upload-bytes, Gives, gives}
 
 -- within the limit or above it
-pub data Size (n : ℕ) : Type 0 where
+data Size (n : ℕ) : Type 0 where
   within : n ≤ limit → Size n
   above : limit < n → Size n
 
-pub size-of : (n : ℕ) → Size n
+size-of : (n : ℕ) → Size n
 size-of n = by (ltb limit n) refl
   where
     by : (p : Bool) → ltb limit n ≡ p → Size n
@@ -47,7 +47,7 @@ not-answered n why h (within l) = let e = room-within n l in absurd (let z : _�
 not-answered n why h (above l) = let e = room-large n l in (l, cc)
 
 module _ (mode : Bool) (s old new : List ℕ) (r : Written) (w : Writes (indexing mode s) old new r) where
-  -- with as many slots as entries of the least length have room
+  -- with a slot for every entry of the least length that there is room for
   unhindered : (length s ≤ limit → length s / least ≤ length old) → Unhindered mode s r
   unfolding indexing
   unhindered room = by (ltb limit (length s)) (any (stands s) (steps s)) refl refl (w .said)
@@ -61,7 +61,7 @@ module _ (mode : Bool) (s old new : List ℕ) (r : Written) (w : Writes (indexin
           subst (λ (r : Written). Unhindered mode s r) (sym (h ∙ simp fits)) (done (ltb-false limit (length s) e) f)
 
   -- an upload above the limit
-  pub large : limit < length s → r ≡ written.Refused (TooLarge (length s))
+  large : limit < length s → r ≡ written.Refused (TooLarge (length s))
   large h = w .said ∙ ap (λ x. answer x (length old)) (index-large mode s h)
 
 -- a walk that meets no zero claim ends finished
@@ -90,7 +90,7 @@ module _ (n : ℕ) (small : n ≤ limit) where
   stored : (mode : Bool) → length (starts mode s) ≡ n / least
   stored mode = ap length (starts-whole mode s) ∙ given mode .records
 
-  pub needs : Needs n (n / least)
+  needs : Needs n (n / least)
   unfolding boundedWalk steps
   needs =
       record {
