@@ -48,12 +48,29 @@ static void every_count(void)
           VINDASKOT_ROOM_MOST);
 }
 
+/* Lengths of every remainder, all the way to the limit: what is wrong only between whole entries is seen too. */
+static void every_remainder(void)
+{
+    enum { STRIDE = 17 };
+    size_t entries = 0, behind = 0;
+    for (size_t length = 0; length <= VINDASKOT_LIMIT; length += STRIDE) {
+        hold_length(length, entries);
+        behind += STRIDE;
+        if (behind >= LEAST) {
+            entries++;
+            behind -= LEAST;
+        }
+    }
+}
+
 /* 16 bytes stand behind the last entry of the largest upload. */
 static void about_the_limit(void)
 {
     for (size_t length = VINDASKOT_LIMIT - 40; length <= VINDASKOT_LIMIT; length++)
         hold_length(length, length < VINDASKOT_LIMIT - 16 ? VINDASKOT_ROOM_MOST - 1 : VINDASKOT_ROOM_MOST);
     for (size_t length = VINDASKOT_LIMIT + 1; length <= VINDASKOT_LIMIT + 40; length++)
+        hold_above(length);
+    for (size_t length = VINDASKOT_LIMIT + 1; length <= 4 * (size_t)VINDASKOT_LIMIT; length += 997)
         hold_above(length);
 }
 
@@ -77,6 +94,7 @@ void try_room_lengths(void)
 {
     every_length();
     every_count();
+    every_remainder();
     about_the_limit();
     far_above();
 }

@@ -320,16 +320,18 @@ uint32_t vindaskot_field_write(uint32_t version, uint32_t hash_value, uint32_t t
 
 /* ---- Index and finding ---- */
 
-/* How many slots the index of an upload of that length can need, so that they can be set aside before it is read.
- * answer[0]: a slot for every 33 bytes, rounded down, since an accepted symbol has at least 33. Lent that many slots or
- * more, vindaskot_index_build and vindaskot_index_build_in are never refused with 6, in either mode and whatever the
- * bytes are; 5 and 10 stay. No smaller number will do: some upload of that length needs all of them. Refusal: 5. */
+/* How many slots, each a uint32_t, the index of an upload of that length can need, so that they can be set aside before
+ * it is read. answer[0]: a slot for every 33 bytes, rounded down, since an accepted symbol has at least 33. Lent that
+ * many slots or more, vindaskot_index_build and vindaskot_index_build_in are never refused with 6, in either mode and
+ * whatever the bytes are; 5 and 10 stay. No smaller number will do: some upload of that length needs all of them.
+ * Refusal: 5. */
 uint32_t vindaskot_room(size_t length, uint64_t answer[VINDASKOT_AT_LEAST 2]);
 
-/* The room of the largest upload, for slots that are set aside once for all uploads. */
+/* The room of the largest upload, for slots set aside once for all uploads: 2 MB, more than many a stack has. */
 #define VINDASKOT_ROOM_MOST 508400u
 
-/* The start of every accepted symbol of an upload, in order, from slots[0] on. answer[0]: how many.
+/* The start of every accepted symbol of an upload, in order, from slots[0] on. answer[0]: how many. These, and not all
+ * slots that were lent, are the index, which vindaskot_find_indexed is given: what stands behind them is as it was.
  * vindaskot_room tells how many slots are always enough. Refusals: 5, 10, 6. */
 uint32_t vindaskot_index_build(const uint8_t *bytes, size_t bytes_len, uint32_t *slots,
                                size_t slots_len, uint64_t answer[VINDASKOT_AT_LEAST 2]);

@@ -3,7 +3,8 @@
 mod common;
 
 use std::ffi::OsStr;
-use std::fs::OpenOptions;
+use std::fs::{File, OpenOptions};
+use std::io::Seek;
 use std::os::unix::ffi::OsStrExt;
 
 use common::{Session, fed, program, repository, sample};
@@ -112,6 +113,16 @@ fn no_length() {
     command.arg(OsStr::from_bytes(b"3\xB3"));
     session.note(&["room", "3(B3)"], &fed(command, b""));
     session.hold("room-usage.txt");
+}
+
+/// Standard input stays where it was: its place is shared with the program.
+#[test]
+fn nothing_is_read() {
+    let mut input = File::open(repository().join("samples/rig.bin")).unwrap();
+    let mut command = program(&repository(), &["room", "33"]);
+    let output = command.stdin(input.try_clone().unwrap()).output().unwrap();
+    assert_eq!(output.stdout, b"1\n");
+    assert_eq!(input.stream_position().unwrap(), 0);
 }
 
 #[test]

@@ -10,7 +10,7 @@ use vindaskot::index::{starts_to_vec, starts_to_vec_in};
 use vindaskot::text::{decode_to_string, encode_to_vec};
 use vindaskot::{
     AdsAttribute, AdsFieldInfo, AdsRefactorInfo, AdsSymbolInfo, Index, LIMIT, Mode, ROOM_MOST, Run,
-    Salvaged, SymbolParts, room, salvage_in, salvage_to_vec, salvage_to_vec_in,
+    Salvaged, SymbolParts, salvage_in, salvage_to_vec, salvage_to_vec_in,
 };
 
 #[test]
@@ -101,6 +101,7 @@ fn starts_in_a_mode() {
     let name = AdsSymbolInfo::try_from_slice(&upload[second..]).unwrap();
     let end = second + 30 + name.name().len();
     upload[end] = b'X';
+    assert_eq!(starts_to_vec(&upload).as_ref(), Ok(&starts));
     let present = starts_to_vec_in(&upload, Mode::Present);
     assert_eq!(present.as_ref(), Ok(&starts));
     let checked = starts_to_vec_in(&upload, Mode::Checked).unwrap();
@@ -109,7 +110,7 @@ fn starts_in_a_mode() {
     assert_eq!(zero, Err(refusal(10, 1, 0)));
 }
 
-/// Entries of 33 bytes, which need all of the room that is set aside; and what of it is not needed is not kept.
+/// Entries of 33 bytes, which need all of the room that is set aside, and bytes that need none of it.
 #[test]
 fn starts_of_full_uploads() {
     let mut entry = [0; 33];
@@ -122,14 +123,13 @@ fn starts_of_full_uploads() {
         let checked = starts_to_vec_in(&upload, Mode::Checked);
         assert!(checked == Ok(starts), "{entries}");
     }
+    // Room for two, and none is accepted.
+    assert_eq!(starts_to_vec(&[0xFF; 70]), Ok(vec![]));
+    assert_eq!(starts_to_vec_in(&[0xFF; 70], Mode::Checked), Ok(vec![]));
     let large = vec![0; LIMIT + 1];
     let why = refusal(5, LIMIT, LIMIT + 1);
     assert_eq!(starts_to_vec(&large), Err(why));
     assert_eq!(starts_to_vec_in(&large, Mode::Checked), Err(why));
-    let upload = rig();
-    let starts = starts_to_vec(&upload).unwrap();
-    assert_eq!((starts.len(), room(upload.len())), (32, Ok(71)));
-    assert!(starts.capacity() < 71, "{}", starts.capacity());
 }
 
 /// The rig with one byte in fifty changed: what the lent form says of it.
