@@ -47,10 +47,13 @@ decoded-more s i h =
     ∙ sym (decoded-append (take i s) (getD s i 0 ∷ []))
     ∙ ap decoded (take-more s i h)
 
+pub length-more : (s : List ℕ) (i : ℕ) → i < length s → length (decoded (take i s)) + length (utf8 (codePoint (getD s i 0))) ≡ length (decoded (take (i + 1) s))
+length-more s i h = omega (arith, ap length (decoded-more s i h), length-append (decoded (take i s)) (utf8 (codePoint (getD s i 0))))
+
 pub decoded-room : (s : List ℕ) (i : ℕ) → i < length s → length (decoded (take i s)) + length (utf8 (codePoint (getD s i 0))) ≤ length (decoded s)
 decoded-room s i h =
     let e : decoded s ≡ decoded (take (i + 1) s) ++ decoded (drop (i + 1) s) = ap decoded (sym (take-append-drop (i + 1) s)) ∙ decoded-append (take (i + 1) s) (drop (i + 1) s) in
-    omega (arith, ap length e, length-append (decoded (take (i + 1) s)) (decoded (drop (i + 1) s)), ap length (decoded-more s i h), length-append (decoded (take i s)) (utf8 (codePoint (getD s i 0))))
+    omega (arith, ap length e, length-append (decoded (take (i + 1) s)) (decoded (drop (i + 1) s)), length-more s i h)
 
 -- bytes below 80 stay as they are
 pub decoded-same : (s : List ℕ) → ((k : ℕ) → getD s k 0 < 128) → decoded s ≡ s

@@ -1,8 +1,9 @@
 // Windows-1252 bytes to UTF-8 text and back, into a lent buffer. The Rust's calls of encoding_rs.
 ghost use mathlib.Core.Path.{_≡_};
 ghost use Prim.Native.Nat.{ℕ, _+_, _≤_, _<_};
-ghost use lib.ListN.{length, drop, getD};
+ghost use lib.ListN.{length, take, drop, getD};
 ghost use lib.Dec.{eqb};
+ghost use lib.Bits.{bitAnd};
 ghost use Rattle.le.specs.Le.{if_then_else_};
 ghost use Rattle.le.specs.Put.{Wrote};
 ghost use Rattle.refusal.specs.Refusal.{limit};
@@ -69,30 +70,22 @@ const POINTS: [u16; 32] = [
     0x0178,
 ];
 
-// How many bytes a code point above 7F takes.
-fn point_width(p: u16) -> usize
-    requires { ⌜ 0x80 ≤ p ⌝ }
-    ensures { λ r. ⌜ (r ≡ length (utf8 p)) × (r ≤ 3) ⌝ }
+// 1 for a byte that has this value under a mask, else 0.
+fn one_like(b: u8, mask: u8, value: u8) -> u8
+    ensures { λ r. ⌜ (r ≡ (if eqb (bitAnd b mask) value then 1 else 0)) × (r ≤ 1) ⌝ }
 {
-    if p < 0x800 {
-        return 2;
-    }
-    3
+    if b & mask == value { 1 } else { 0 }
 }
 
-// How many bytes the text of a byte takes.
-fn byte_width(table: &[u16; 32], b: u8) -> usize
-    requires { ⌜ now table ≡ points ⌝ }
+// How many bytes the text of a byte takes: one more from 80 on, and one more for a code point above 7FF, which have 84 to 87 and 94 to
+// 97; 89, 8B, 99 and 9B; 80 and 82; 91 and 93; 92. By comparisons and not by a copy of the table (02, W-204), so that the compiler
+// takes many bytes at once.
+fn byte_width(b: u8) -> u8
     ensures { λ r. ⌜ (r ≡ length (utf8 (codePoint b))) × (r ≤ 3) ⌝ }
 {
-    if b < 0x80 {
-        return 1;
-    }
-    if 0xA0 <= b {
-        return 2;
-    }
-    let i = (b - 0x80) as usize;
-    point_width(table[i])
+    let most = one_like(b, 0xEC, 0x84) + one_like(b, 0xED, 0x89);
+    let rest = one_like(b, 0xFD, 0x80) + one_like(b, 0xFD, 0x91) + one_like(b, 0xFF, 0x92);
+    1 + one_like(b, 0x80, 0x80) + most + rest
 }
 
 // A code point above 7F at a place.
@@ -128,19 +121,32 @@ fn put_byte(out: &mut [u8], at: usize, table: &[u16; 32], b: u8) -> usize
     put_point(out, at, table[i])
 }
 
-// How many bytes the text of a byte string takes.
+// How many bytes the text of so many bytes from a place on takes.
+fn widths_of(s: &[u8], from: usize, count: usize) -> u8
+    requires { ⌜ (from + count ≤ length (now s)) × (count ≤ 16) ⌝ }
+    ensures { λ r. ⌜ length (decoded (take from (now (s .entry)))) + r ≡ length (decoded (take (from + count) (now (s .entry)))) ⌝ }
+{
+    let mut n: u8 = 0;
+    let mut i: usize = 0;
+    while i < count {
+        n += byte_width(s[from + i]);
+        i += 1;
+    }
+    n
+}
+
+// How many bytes the text of a byte string takes, sixteen bytes at a time: their sum is a byte, so that the compiler adds up all at once.
 fn decoded_length(src: &[u8]) -> usize
     requires { ⌜ length (now src) ≤ limit ⌝ }
     ensures { λ r. ⌜ r ≡ length (decoded (now (src .entry))) ⌝ }
 {
-    let table = POINTS;
     let mut n: usize = 0;
-    let mut i: usize = 0;
-    while i < src.len() {
-        n += byte_width(&table, src[i]);
-        i += 1;
+    let mut at: usize = 0;
+    while 16 <= src.len() - at {
+        n += widths_of(src, at, 16) as usize;
+        at += 16;
     }
-    n
+    n + widths_of(src, at, src.len() - at) as usize
 }
 
 fn put_decoded(src: &[u8], out: &mut [u8]) -> usize
@@ -304,20 +310,16 @@ fn if_here(here: bool, byte: u16) -> u16
 }
 
 // The byte of a code point, looked for in the table. It looks at all 32, so that the compiler takes many at once: no code point
-// stands there twice, so the sum is the byte of the one that is equal.
-fn find(table: &[u16; 32], p: usize) -> Found
-    requires { ⌜ now table ≡ points ⌝ }
+// stands there twice, so the sum is the byte of the one that is equal. All places are known, so that no copy of the table is made.
+fn find(p: u16) -> Found
     ensures { λ r. ⌜ r ≡ seek 32 0x80 p ⌝ }
 {
-    if 0xFFFF < p {
-        return Found::Nothing;
-    }
-    let q = p as u16;
+    let table = POINTS;
     let mut sum: u16 = 0;
     let mut byte: u16 = 0x80;
     let mut i: usize = 0;
     while i < 32 {
-        sum += if_here(table[i] == q, byte);
+        sum += if_here(table[i] == p, byte);
         byte += 1;
         i += 1;
     }
@@ -327,30 +329,31 @@ fn find(table: &[u16; 32], p: usize) -> Found
     Found::Byte(sum as usize)
 }
 
-fn byte_of(table: &[u16; 32], p: usize) -> Found
-    requires { ⌜ now table ≡ points ⌝ }
+fn byte_of(p: usize) -> Found
     ensures { λ r. ⌜ r ≡ byteOf p ⌝ }
 {
     if p < 0x80 {
         return Found::Byte(p);
     }
     if p < 0xA0 {
-        return find(table, p);
+        return find(p as u16);
     }
     if p < 0x100 {
         return Found::Byte(p);
     }
-    find(table, p)
+    if 0xFFFF < p {
+        return Found::Nothing;
+    }
+    find(p as u16)
 }
 
-fn char_at(s: &[u8], at: usize, table: &[u16; 32]) -> Char
+fn char_at(s: &[u8], at: usize) -> Char
     requires { ⌜ at < length (now s) ⌝ }
-    requires { ⌜ now table ≡ points ⌝ }
     ensures { λ r. ⌜ r ≡ charOf (drop at (now (s .entry))) ⌝ }
 {
     match scalar_at(s, at) {
         Scalar::Bad => Char::Wrong { kind: 1 },
-        Scalar::Point { p, width } => match byte_of(table, p) {
+        Scalar::Point { p, width } => match byte_of(p) {
             Found::Byte(byte) => Char::Is { byte, width },
             Found::Nothing => Char::Wrong { kind: 2 },
         },
@@ -387,8 +390,7 @@ fn latin_at(s: &[u8], at: usize) -> u8
 }
 
 // How many bytes a text takes, or its first fault.
-fn encoded_length(src: &[u8], table: &[u16; 32]) -> Written
-    requires { ⌜ now table ≡ points ⌝ }
+fn encoded_length(src: &[u8]) -> Written
     ensures { λ r. ⌜ r ≡ counted 0 (encodedFrom 0 0 (now (src .entry))) ⌝ }
 {
     let mut n: usize = 0;
@@ -401,7 +403,7 @@ fn encoded_length(src: &[u8], table: &[u16; 32]) -> Written
             n += 1;
             at += 2;
         } else {
-            match char_at(src, at, table) {
+            match char_at(src, at) {
                 Char::Is { byte: _, width } => {
                     n += 1;
                     at += width;
@@ -416,9 +418,8 @@ fn encoded_length(src: &[u8], table: &[u16; 32]) -> Written
 }
 
 // The bytes of a text that was counted, and so has no fault.
-fn put_encoded(src: &[u8], out: &mut [u8], needed: usize, table: &[u16; 32]) -> Written
+fn put_encoded(src: &[u8], out: &mut [u8], needed: usize) -> Written
     requires { ⌜ counted 0 (encodedFrom 0 0 (now src)) ≡ Written.Done needed ⌝ }
-    requires { ⌜ now table ≡ points ⌝ }
     ensures { λ r. ⌜ Writes (encodedFrom 0 0 (now (src .entry))) (now (out .entry)) (now (out .exit)) r ⌝ }
 {
     if out.len() < needed {
@@ -442,7 +443,7 @@ fn put_encoded(src: &[u8], out: &mut [u8], needed: usize, table: &[u16; 32]) -> 
                 n += 1;
                 at += 2;
             } else {
-                match char_at(src, at, table) {
+                match char_at(src, at) {
                     Char::Is { byte, width } => {
                         out[n] = byte as u8;
                         n += 1;
@@ -468,10 +469,9 @@ pub fn encode(src: &[u8], out: &mut [u8]) -> Written
     if highest(src) < 0x80 {
         return put_same(src, out);
     }
-    let table = POINTS;
     // 11 is looked for in the whole text, before 6.
-    match encoded_length(src, &table) {
-        Written::Done(needed) => put_encoded(src, out, needed, &table),
+    match encoded_length(src) {
+        Written::Done(needed) => put_encoded(src, out, needed),
         Written::Refused(why) => Written::Refused(why),
     }
 }

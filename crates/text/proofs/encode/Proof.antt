@@ -1,9 +1,9 @@
 use mathlib.Core.List.{List}
-use mathlib.Core.Path.{refl, sym, _∙_}
+use mathlib.Core.Path.{sym, _∙_}
 use Prim.Native.Nat.{ℕ}
 use native.Mathlib.Omega.{arith}
 use borrow.Author.Needs.{needs}
-use Rattle.text.specs.Text.{points, encodedFrom, encodeWriting}
+use Rattle.text.specs.Text.{encodedFrom, encodeWriting}
 use Rattle.text.proofs.Back.{encoded-same, counted-refused}
 use Rattle.text.proofs.Laws.{same-writing, too-large, in-limit, writes-none}
 use Rattle.text.proofs.encode.Statement.{statement}
@@ -32,15 +32,13 @@ returns-2 c =
     same-writing (in-limit s (encodedFrom 0 0 s) (p .before .if1 .left) ∙ encoded-same s 0 (λ k. omega (arith, p .highest .ensures k))) (c .before .before .put-same .ensures)
 
 encoded-length-requires : tie.Need-encoded-length-requires
-unfolding points
-encoded-length-requires c κs = refl
+encoded-length-requires c κs = search needs
 
 enum-known-needed : tie.Need-enum-known-needed
 enum-known-needed c = search needs
 
 put-encoded-requires : tie.Need-put-encoded-requires
-unfolding points
-put-encoded-requires c κs = (sym (c .before .before .before .before .before .encoded-length .ensures) ∙ c .before .before .before .needed .given .1, refl)
+put-encoded-requires c κs = sym (c .before .before .before .before .encoded-length .ensures) ∙ c .before .before .needed .given .1
 
 enum-known-why : tie.Need-enum-known-why
 enum-known-why c = search needs
@@ -51,14 +49,14 @@ same-length-2 c = search needs
 returns-3 : tie.Need-returns-3
 unfolding encodeWriting
 returns-3 c =
-    let p = c .before .before .before .before .before .before .before .before .before .before .before .before in
+    let p = c .before .before .before .before .before .before .before .before .before .before in
     let s : List ℕ = p .before .before .before .args .src .now in
     same-writing (in-limit s (encodedFrom 0 0 s) (p .if1 .left)) (c .before .before .put-encoded .ensures)
 
 returns-4 : tie.Need-returns-4
 unfolding encodeWriting
 returns-4 c =
-    let p = c .before .before .before .before .before .before .before in
+    let p = c .before .before .before .before .before .before in
     let s : List ℕ = p .before .before .before .args .src .now in
     same-writing (in-limit s (encodedFrom 0 0 s) (p .if1 .left)) (counted-refused (encodedFrom 0 0 s) (sym (c .before .before .before .encoded-length .ensures) ∙ c .before .why .given .1))
 

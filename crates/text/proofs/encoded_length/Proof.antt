@@ -12,10 +12,10 @@ use Rattle.text.proofs.encoded_length.Statement.{statement}
 use Rattle.text.proofs.encoded_length.Tie as tie
 
 abbrev Inv-loop : tie.InvT-loop
-Inv-loop src table n₀ at₀ n at = Counting src n at
+Inv-loop src n₀ at₀ n at = Counting src n at
 
 abbrev μ-loop : tie.MeasureT-loop
-μ-loop src table n₀ at₀ n at = length src - at
+μ-loop src n₀ at₀ n at = length src - at
 
 loop-holds : tie.Need-loop-holds Inv-loop μ-loop
 loop-holds c = record { inside = omega arith; few = omega arith; left = refl }
@@ -51,7 +51,7 @@ loop-again-2 : tie.Need-loop-again-2 Inv-loop μ-loop
 loop-again-2 c = counting-turn (c .before .before .before .before .before .loop .inv) (c .before .latin-at .ensures (c .if2 .taken)) .more
 
 char-at-requires : tie.Need-char-at-requires Inv-loop μ-loop
-char-at-requires c κs = (c .before .before .before .before .loop-test .taken, c .before .before .before .before .before .before .before .pre)
+char-at-requires c κs = c .before .before .before .before .loop-test .taken
 
 enum-known-width : tie.Need-enum-known-width Inv-loop μ-loop
 enum-known-width c = search needs

@@ -9,13 +9,13 @@ use Rattle.text.proofs.put_encoded.Statement.{statement}
 use Rattle.text.proofs.put_encoded.Tie as tie
 
 abbrev Inv-loop : tie.InvT-loop
-Inv-loop src out₀ needed table n₀ at₀ out n at = Going src out₀ out n at
+Inv-loop src out₀ needed n₀ at₀ out n at = Going src out₀ out n at
 
 abbrev μ-loop : tie.MeasureT-loop
-μ-loop src out₀ needed table n₀ at₀ out n at = length src - at
+μ-loop src out₀ needed n₀ at₀ out n at = length src - at
 
 returns : tie.Need-returns Inv-loop μ-loop
-returns c = counted-small (encodedFrom 0 0 (c .before .before .before .args .src .now)) (c .before .before .before .pre .0) (c .if1 .taken)
+returns c = counted-small (encodedFrom 0 0 (c .before .before .before .args .src .now)) (c .before .before .before .pre) (c .if1 .taken)
 
 loop-holds : tie.Need-loop-holds Inv-loop μ-loop
 loop-holds c = going-none
@@ -27,14 +27,14 @@ slice-write-out : tie.Need-slice-write-out Inv-loop μ-loop
 slice-write-out c =
     let q = c .before .before .before in
     let h = c .before .before .loop-test .taken in
-    let t = going-turn (q .loop .inv) (q .before .before .before .before .pre .0) h (char-low _ _ h (c .if2 .taken)) (q .before .if1 .left) in
+    let t = going-turn (q .loop .inv) (q .before .before .before .before .pre) h (char-low _ _ h (c .if2 .taken)) (q .before .if1 .left) in
     omega (arith, t .room)
 
 add-n : tie.Need-add-n Inv-loop μ-loop
 add-n c =
     let q = c .before .before .before in
     let h = c .before .before .loop-test .taken in
-    let t = going-turn (q .loop .inv) (q .before .before .before .before .pre .0) h (char-low _ _ h (c .if2 .taken)) (q .before .if1 .left) in
+    let t = going-turn (q .loop .inv) (q .before .before .before .before .pre) h (char-low _ _ h (c .if2 .taken)) (q .before .if1 .left) in
     omega (arith, t .room)
 
 add-at : tie.Need-add-at Inv-loop μ-loop
@@ -47,7 +47,7 @@ loop-again : tie.Need-loop-again Inv-loop μ-loop
 loop-again c =
     let q = c .before .before .before in
     let h = c .before .before .loop-test .taken in
-    let t = going-turn (q .loop .inv) (q .before .before .before .before .pre .0) h (char-low _ _ h (c .if2 .taken)) (q .before .if1 .left) in
+    let t = going-turn (q .loop .inv) (q .before .before .before .before .pre) h (char-low _ _ h (c .if2 .taken)) (q .before .if1 .left) in
     t .more
 
 latin-at-requires : tie.Need-latin-at-requires Inv-loop μ-loop
@@ -57,21 +57,21 @@ slice-write-out-2 : tie.Need-slice-write-out-2 Inv-loop μ-loop
 slice-write-out-2 c =
     let q = c .before .before .before .before .before in
     let h = c .before .before .before .before .loop-test .taken in
-    let t = going-turn (q .loop .inv) (q .before .before .before .before .pre .0) h (c .before .latin-at .ensures (c .if3 .taken)) (q .before .if1 .left) in
+    let t = going-turn (q .loop .inv) (q .before .before .before .before .pre) h (c .before .latin-at .ensures (c .if3 .taken)) (q .before .if1 .left) in
     omega (arith, t .room)
 
 add-n-2 : tie.Need-add-n-2 Inv-loop μ-loop
 add-n-2 c =
     let q = c .before .before .before .before .before in
     let h = c .before .before .before .before .loop-test .taken in
-    let t = going-turn (q .loop .inv) (q .before .before .before .before .pre .0) h (c .before .latin-at .ensures (c .if3 .taken)) (q .before .if1 .left) in
+    let t = going-turn (q .loop .inv) (q .before .before .before .before .pre) h (c .before .latin-at .ensures (c .if3 .taken)) (q .before .if1 .left) in
     omega (arith, t .room)
 
 add-at-2 : tie.Need-add-at-2 Inv-loop μ-loop
 add-at-2 c =
     let q = c .before .before .before .before .before in
     let h = c .before .before .before .before .loop-test .taken in
-    let t = going-turn (q .loop .inv) (q .before .before .before .before .pre .0) h (c .before .latin-at .ensures (c .if3 .taken)) (q .before .if1 .left) in
+    let t = going-turn (q .loop .inv) (q .before .before .before .before .pre) h (c .before .latin-at .ensures (c .if3 .taken)) (q .before .if1 .left) in
     omega (arith, t .inside)
 
 loop-less-2 : tie.Need-loop-less-2 Inv-loop μ-loop
@@ -81,11 +81,11 @@ loop-again-2 : tie.Need-loop-again-2 Inv-loop μ-loop
 loop-again-2 c =
     let q = c .before .before .before .before .before in
     let h = c .before .before .before .before .loop-test .taken in
-    let t = going-turn (q .loop .inv) (q .before .before .before .before .pre .0) h (c .before .latin-at .ensures (c .if3 .taken)) (q .before .if1 .left) in
+    let t = going-turn (q .loop .inv) (q .before .before .before .before .pre) h (c .before .latin-at .ensures (c .if3 .taken)) (q .before .if1 .left) in
     t .more
 
 char-at-requires : tie.Need-char-at-requires Inv-loop μ-loop
-char-at-requires c κs = (c .before .before .before .before .loop-test .taken, c .before .before .before .before .before .before .before .before .before .pre .1)
+char-at-requires c κs = c .before .before .before .before .loop-test .taken
 
 enum-known-byte : tie.Need-enum-known-byte Inv-loop μ-loop
 enum-known-byte c = search needs
@@ -94,42 +94,42 @@ cast-out : tie.Need-cast-out Inv-loop μ-loop
 cast-out c =
     let q = c .before .before .before .before .before .before .before .before .before in
     let h = c .before .before .before .before .before .before .before .before .loop-test .taken in
-    let t = going-turn (q .loop .inv) (q .before .before .before .before .pre .0) h (sym (c .before .before .before .char-at .ensures) ∙ c .before .byte .given .1) (q .before .if1 .left) in
+    let t = going-turn (q .loop .inv) (q .before .before .before .before .pre) h (sym (c .before .before .before .char-at .ensures) ∙ c .before .byte .given .1) (q .before .if1 .left) in
     omega (arith, t .byte)
 
 slice-write-out-3 : tie.Need-slice-write-out-3 Inv-loop μ-loop
 slice-write-out-3 c =
     let q = c .before .before .before .before .before .before .before .before .before in
     let h = c .before .before .before .before .before .before .before .before .loop-test .taken in
-    let t = going-turn (q .loop .inv) (q .before .before .before .before .pre .0) h (sym (c .before .before .before .char-at .ensures) ∙ c .before .byte .given .1) (q .before .if1 .left) in
+    let t = going-turn (q .loop .inv) (q .before .before .before .before .pre) h (sym (c .before .before .before .char-at .ensures) ∙ c .before .byte .given .1) (q .before .if1 .left) in
     omega (arith, t .room)
 
 add-n-3 : tie.Need-add-n-3 Inv-loop μ-loop
 add-n-3 c =
     let q = c .before .before .before .before .before .before .before .before .before in
     let h = c .before .before .before .before .before .before .before .before .loop-test .taken in
-    let t = going-turn (q .loop .inv) (q .before .before .before .before .pre .0) h (sym (c .before .before .before .char-at .ensures) ∙ c .before .byte .given .1) (q .before .if1 .left) in
+    let t = going-turn (q .loop .inv) (q .before .before .before .before .pre) h (sym (c .before .before .before .char-at .ensures) ∙ c .before .byte .given .1) (q .before .if1 .left) in
     omega (arith, t .room)
 
 add-at-3 : tie.Need-add-at-3 Inv-loop μ-loop
 add-at-3 c =
     let q = c .before .before .before .before .before .before .before .before .before in
     let h = c .before .before .before .before .before .before .before .before .loop-test .taken in
-    let t = going-turn (q .loop .inv) (q .before .before .before .before .pre .0) h (sym (c .before .before .before .char-at .ensures) ∙ c .before .byte .given .1) (q .before .if1 .left) in
+    let t = going-turn (q .loop .inv) (q .before .before .before .before .pre) h (sym (c .before .before .before .char-at .ensures) ∙ c .before .byte .given .1) (q .before .if1 .left) in
     omega (arith, t .inside)
 
 loop-less-3 : tie.Need-loop-less-3 Inv-loop μ-loop
 loop-less-3 c =
     let q = c .before .before .before .before .before .before .before .before .before in
     let h = c .before .before .before .before .before .before .before .before .loop-test .taken in
-    let t = going-turn (q .loop .inv) (q .before .before .before .before .pre .0) h (sym (c .before .before .before .char-at .ensures) ∙ c .before .byte .given .1) (q .before .if1 .left) in
+    let t = going-turn (q .loop .inv) (q .before .before .before .before .pre) h (sym (c .before .before .before .char-at .ensures) ∙ c .before .byte .given .1) (q .before .if1 .left) in
     omega (arith, t .some)
 
 loop-again-3 : tie.Need-loop-again-3 Inv-loop μ-loop
 loop-again-3 c =
     let q = c .before .before .before .before .before .before .before .before .before in
     let h = c .before .before .before .before .before .before .before .before .loop-test .taken in
-    let t = going-turn (q .loop .inv) (q .before .before .before .before .pre .0) h (sym (c .before .before .before .char-at .ensures) ∙ c .before .byte .given .1) (q .before .if1 .left) in
+    let t = going-turn (q .loop .inv) (q .before .before .before .before .pre) h (sym (c .before .before .before .char-at .ensures) ∙ c .before .byte .given .1) (q .before .if1 .left) in
     t .more
 
 enum-told : tie.Need-enum-told Inv-loop μ-loop
@@ -144,7 +144,7 @@ returns-2 c =
     let st = q .before .before .before .before in
     let h = c .before .before .before .before .before .before .before .loop-test .taken in
     let e = sym (c .before .before .char-at .ensures) ∙ c .enum-told .given .1 in
-    absurd (going-right (q .loop .inv) (st .pre .0) h e)
+    absurd (going-right (q .loop .inv) (st .pre) h e)
 
 same-length-2 : tie.Need-same-length-2 Inv-loop μ-loop
 same-length-2 c = c .before .loop .inv .wrote .long
