@@ -23,14 +23,24 @@ impl<const N: usize> Told<N> {
     }
 }
 
-/// What a call that must succeed wrote, counted or found.
-fn done(what: &str, status: u32, answer: [u64; 2]) -> usize {
-    if status != sys::DONE {
+/// The first figure of the answer to a call that must end with a status.
+fn first_of(wanted: u32, what: &str, status: u32, answer: [u64; 2]) -> usize {
+    if status != wanted {
         wrong(&format!(
-            "vindaskot_{what} refused with {status} {answer:?}"
+            "vindaskot_{what} has status {status} {answer:?}, not {wanted}"
         ));
     }
     answer[0] as usize
+}
+
+/// What a call that must succeed wrote, counted or found.
+fn done(what: &str, status: u32, answer: [u64; 2]) -> usize {
+    first_of(sys::DONE, what, status, answer)
+}
+
+/// What a call needs that was lent nothing, as its refusal says.
+fn needed(what: &str, status: u32, answer: [u64; 2]) -> usize {
+    first_of(6, what, status, answer)
 }
 
 /// A step of the walk, of this archive or of an earlier one, by the number of its slots.
@@ -241,10 +251,7 @@ pub fn index_needs(bytes: &[u8]) -> usize {
     let mut answer = [0; 2];
     let (start, none) = (bytes.as_ptr(), std::ptr::null_mut());
     let status = unsafe { sys::vindaskot_index_build(start, bytes.len(), none, 0, &mut answer) };
-    if status != 6 {
-        wrong(&format!("an index of no slots has status {status}"));
-    }
-    answer[0] as usize
+    needed("index_build", status, answer)
 }
 
 pub fn room(length: usize) -> usize {
@@ -298,9 +305,10 @@ pub const FIND_INDEXED: FindIndexed = sys::vindaskot_find_indexed;
 /// symbols have a slot less, and its writer an argument.
 #[cfg(before)]
 pub mod before {
-    use super::{Symbol, done, sys};
+    use super::{Symbol, Text, done, sys};
 
     pub const SYMBOL_SLOTS: usize = sys::SYMBOL_SLOTS - cfg!(before_1) as usize;
+    pub const TEXT: Text = Text { decode, encode };
 
     pub fn symbol_write(s: &Symbol, out: &mut [u8]) -> usize {
         #[cfg(before_1)]
@@ -360,6 +368,10 @@ pub mod before {
             name_len: usize,
             answer: &mut [u64; 2],
         ) -> u32;
+        #[link_name = "before_vindaskot_decode"]
+        fn decode(s: *const u8, n: usize, out: *mut u8, len: usize, a: &mut [u64; 2]) -> u32;
+        #[link_name = "before_vindaskot_encode"]
+        fn encode(s: *const u8, n: usize, out: *mut u8, len: usize, a: &mut [u64; 2]) -> u32;
     }
 }
 
@@ -378,30 +390,40 @@ pub fn find_indexed(by: FindIndexed, bytes: &[u8], slots: &[u32], name: &[u8]) -
     done("find_indexed", status, answer)
 }
 
-pub fn decode(src: &[u8], out: &mut [u8]) -> usize {
-    let mut answer = [0; 2];
-    let status = unsafe {
-        sys::vindaskot_decode(
-            src.as_ptr(),
-            src.len(),
-            out.as_mut_ptr(),
-            out.len(),
-            &mut answer,
-        )
-    };
-    done("decode", status, answer)
+type Convert = unsafe extern "C" fn(*const u8, usize, *mut u8, usize, answer: &mut [u64; 2]) -> u32;
+
+/// `vindaskot_decode` and `vindaskot_encode` of this archive, or of an earlier one.
+pub struct Text {
+    decode: Convert,
+    encode: Convert,
 }
 
-pub fn encode(src: &[u8], out: &mut [u8]) -> usize {
+pub const TEXT: Text = Text {
+    decode: sys::vindaskot_decode,
+    encode: sys::vindaskot_encode,
+};
+
+fn convert(by: Convert, src: &[u8], out: &mut [u8]) -> (u32, [u64; 2]) {
     let mut answer = [0; 2];
-    let status = unsafe {
-        sys::vindaskot_encode(
-            src.as_ptr(),
-            src.len(),
-            out.as_mut_ptr(),
-            out.len(),
-            &mut answer,
-        )
-    };
-    done("encode", status, answer)
+    let (start, room) = (src.as_ptr(), out.as_mut_ptr());
+    let status = unsafe { by(start, src.len(), room, out.len(), &mut answer) };
+    (status, answer)
+}
+
+impl Text {
+    pub fn decode(&self, src: &[u8], out: &mut [u8]) -> usize {
+        let (status, answer) = convert(self.decode, src, out);
+        done("decode", status, answer)
+    }
+
+    /// The length of the text, as the call says itself where it is lent nothing and refused.
+    pub fn decode_needs(&self, src: &[u8]) -> usize {
+        let (status, answer) = convert(self.decode, src, &mut []);
+        needed("decode", status, answer)
+    }
+
+    pub fn encode(&self, src: &[u8], out: &mut [u8]) -> usize {
+        let (status, answer) = convert(self.encode, src, out);
+        done("encode", status, answer)
+    }
 }

@@ -97,6 +97,14 @@ impl Report {
         ratio
     }
 
+    /// The row of an earlier archive's same call, where one is linked: its times come behind this archive's.
+    pub fn before(&self, items: usize, archives: &[Times]) {
+        if let [ours, before] = archives {
+            let what = "  the same (BEFORE in place of the Rust)";
+            self.row(what, items, *ours, *before);
+        }
+    }
+
     /// A row of which the Rust has no counterpart.
     pub fn alone(&self, what: &str, items: usize, ours: Times) {
         println!(

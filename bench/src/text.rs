@@ -1,10 +1,11 @@
 //! Windows-1252 to UTF-8 and back, beside encoding_rs.
 use crate::c;
-use crate::clock::{Times, plain, race, wrong};
+use crate::clock::{Contender, Times, plain, race, wrong};
 use crate::dice::Dice;
 use crate::report::Report;
 use crate::verify::text;
 use encoding_rs::{DecoderResult, EncoderResult, WINDOWS_1252};
+use std::cell::RefCell;
 use std::hint::black_box;
 
 /// Bytes of the long texts.
@@ -13,6 +14,15 @@ const LONG: usize = 65536;
 const NAMES: usize = 5000;
 /// The encoder by itself, for text that is known to be UTF-8.
 const UNCHECKED: &str = "UTF-8 not checked, lent";
+/// This archive and, where BEFORE names one, an earlier one.
+const ARCHIVES: &[c::Text] = &[
+    c::TEXT,
+    #[cfg(before)]
+    c::before::TEXT,
+];
+
+/// The lent buffer. All contenders write to the same one, so that none has a better place in memory.
+type Room = RefCell<Vec<u8>>;
 
 /// The goal that a kind of text is for.
 enum Goal {
@@ -128,45 +138,89 @@ fn all<T: AsRef<U>, U: ?Sized>(texts: &[T], mut convert: impl FnMut(&U) -> usize
         .sum()
 }
 
-/// Both ways, every byte of what is written, beside encoding_rs.
-fn check(texts: &Texts, out: &mut [u8]) {
-    for (w, u) in texts.windows.iter().zip(&texts.utf8) {
-        let n = c::decode(w, out);
-        if &out[..n] != u.as_bytes() {
-            wrong(&format!("decode, {}", texts.what));
-        }
-        let n = c::encode(u.as_bytes(), out);
-        if out[..n] != w[..] {
-            wrong(&format!("encode, {}", texts.what));
+/// Whether a call writes just this over zeros.
+fn writes(wanted: &[u8], out: &mut [u8], call: impl Fn(&mut [u8]) -> usize) -> bool {
+    out.iter_mut().take(wanted.len()).for_each(|b| *b = 0);
+    let n = call(out);
+    out.get(..n) == Some(wanted)
+}
+
+/// What an archive writes, every byte of it, and the length that it tells where nothing is lent, beside encoding_rs.
+fn check(by: &c::Text, t: &Texts, out: &mut [u8]) {
+    for (w, u) in t.windows.iter().zip(&t.utf8) {
+        let u = u.as_bytes();
+        let decodes = |out: &mut [u8]| writes(u, out, |out| by.decode(w, out));
+        let calls = [
+            ("decode", decodes(out)),
+            ("decode, just enough lent", decodes(&mut out[..u.len()])),
+            ("decode, the length", by.decode_needs(w) == u.len()),
+            ("encode", writes(w, out, |out| by.encode(u, out))),
+        ];
+        if let Some((call, _)) = calls.iter().find(|(_, right)| !right) {
+            wrong(&format!("{call}, {}", t.what));
         }
     }
 }
 
-fn decoding(report: &Report, t: &Texts, out: &mut [u8], other: &mut [u8]) -> Vec<Times> {
-    let runs = vec![
-        plain(|| all(&t.windows, |s: &[u8]| c::decode(s, out))),
-        plain(|| all(&t.windows, |s: &[u8]| decode_lent(s, other))),
-        plain(|| all(&t.windows, decode_cow)),
-    ];
+/// A contender an archive.
+fn archives<'a>(run: impl Fn(&'static c::Text) -> Contender<'a>) -> Vec<Contender<'a>> {
+    ARCHIVES.iter().map(run).collect()
+}
+
+/// Every text converted into the whole of the room.
+fn into<'a, T: AsRef<U>, U: ?Sized>(
+    room: &'a Room,
+    texts: &'a [T],
+    convert: impl Fn(&U, &mut [u8]) -> usize + 'a,
+) -> Contender<'a> {
+    plain(move || {
+        let out = &mut room.borrow_mut()[..];
+        all(texts, |s| convert(s, out))
+    })
+}
+
+fn decoding(report: &Report, t: &Texts, room: &Room) -> Vec<Times> {
+    let ours = |by: &'static c::Text| into(room, &t.windows, |s: &[u8], out| by.decode(s, out));
+    let mut runs = archives(ours);
+    runs.push(into(room, &t.windows, decode_lent));
+    runs.push(plain(|| all(&t.windows, decode_cow)));
     race(report.allowed, t.what, runs)
 }
 
-fn encoding(report: &Report, t: &Texts, out: &mut [u8], other: &mut [u8]) -> Vec<Times> {
-    let mut third = other.to_vec();
-    let runs = vec![
-        plain(|| all(&t.utf8, |s: &str| c::encode(s.as_bytes(), out))),
-        plain(|| all(&t.utf8, |s: &str| encode_checked(s.as_bytes(), other))),
-        plain(|| all(&t.utf8, |s: &str| encode_lent(s, &mut third))),
-        plain(|| all(&t.utf8, encode_cow)),
-    ];
+fn encoding(report: &Report, t: &Texts, room: &Room) -> Vec<Times> {
+    let ours = |by: &'static c::Text| into(room, &t.utf8, |s: &[u8], out| by.encode(s, out));
+    let mut runs = archives(ours);
+    runs.push(into(room, &t.utf8, encode_checked));
+    runs.push(into(room, &t.utf8, encode_lent));
+    runs.push(plain(|| all(&t.utf8, encode_cow)));
     race(report.allowed, t.what, runs)
+}
+
+/// Every text decoded where no byte more is lent than it takes.
+fn just_enough<'a>(by: &'static c::Text, t: &'a Texts, room: &'a Room) -> Contender<'a> {
+    plain(move || {
+        let out = &mut room.borrow_mut()[..];
+        let mut lengths = t.utf8.iter().map(String::len);
+        all(&t.windows, |s: &[u8]| {
+            by.decode(s, &mut out[..lengths.next().unwrap()])
+        })
+    })
+}
+
+/// Rows of which encoding_rs has no counterpart.
+fn alone(report: &Report, t: &Texts, what: &str, runs: Vec<Contender>) {
+    let what = format!("decode {}: {what}", t.what);
+    let times = race(report.allowed, &what, runs);
+    report.alone(&what, t.items(), times[0]);
+    report.before(t.items(), &times);
 }
 
 /// A row a counterpart. The first is the fair one, by which a goal is judged.
 fn rows_of(report: &mut Report, t: &Texts, way: &str, others: &[&str], times: &[Times]) {
+    let (archives, theirs) = times.split_at(ARCHIVES.len());
     for (i, other) in others.iter().enumerate() {
         let what = format!("{way} {}: {other}", t.what);
-        let ratio = report.row(&what, t.items(), times[0], times[i + 1]);
+        let ratio = report.row(&what, t.items(), archives[0], theirs[i]);
         match t.goal {
             Goal::AllBytes if i == 0 => report.goals.all_bytes.push((what, ratio)),
             Goal::Names if i == 0 => report.goals.names.push((what, ratio)),
@@ -174,18 +228,24 @@ fn rows_of(report: &mut Report, t: &Texts, way: &str, others: &[&str], times: &[
             _ => {}
         }
     }
+    report.before(t.items(), archives);
 }
 
 pub fn rows(report: &mut Report, seed: u64) {
-    let mut out = vec![0; LONG * 3 + 64];
-    let mut other = out.clone();
+    let room = RefCell::new(vec![0; LONG * 3 + 64]);
     let unit = "ns a Windows-1252 byte, ns a name";
     report.heading("text, beside encoding_rs", unit);
     for t in inputs(&mut Dice::new(seed)) {
-        check(&t, &mut out);
-        let times = decoding(report, &t, &mut out, &mut other);
+        for by in ARCHIVES {
+            check(by, &t, &mut room.borrow_mut());
+        }
+        let times = decoding(report, &t, &room);
         rows_of(report, &t, "decode", &["lent", "Cow"], &times);
-        let times = encoding(report, &t, &mut out, &mut other);
+        let runs = archives(|by| just_enough(by, &t, &room));
+        alone(report, &t, "just enough lent", runs);
+        let runs = archives(|by| plain(|| all(&t.windows, |s: &[u8]| by.decode_needs(s))));
+        alone(report, &t, "the length alone", runs);
+        let times = encoding(report, &t, &room);
         let others = ["UTF-8 checked, lent", UNCHECKED, "Cow"];
         rows_of(report, &t, "encode", &others, &times);
     }

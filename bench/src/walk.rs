@@ -106,7 +106,7 @@ fn ours_text(upload: &[u8], out: &mut [u8]) -> u64 {
 
 /// The length in UTF-8 of the bytes that two slots tell, which are decoded.
 fn decoded(bytes: &[u8], slots: &[u64], [place, len]: [usize; 2], out: &mut [u8]) -> u64 {
-    let n = c::decode(&bytes[slots[place] as usize..][..slots[len] as usize], out);
+    let n = c::TEXT.decode(&bytes[slots[place] as usize..][..slots[len] as usize], out);
     black_box(&out);
     n as u64
 }
@@ -194,10 +194,9 @@ pub fn rows(report: &mut Report, rig: &Rig) {
     report.goals.walk = report.row(what, entries, times[0], times[1]);
     #[cfg(before)]
     {
-        let what = "  the same (BEFORE in place of the Rust)";
         let before = plain(|| by_call(c::before::symbol_step, upload));
         let times = race(report.allowed, what, vec![plain(|| ours(upload)), before]);
-        report.row(what, entries, times[0], times[1]);
+        report.before(entries, &times);
     }
     modes(report, upload, entries);
     let what = "walk, all text as UTF-8 on both sides";

@@ -54,7 +54,7 @@ fn encoded<'r, const N: usize>(
     let mut pairs = texts.iter().zip(rooms);
     std::array::from_fn(|_| {
         let (text, room) = pairs.next().unwrap();
-        let n = c::encode(text.as_bytes(), room);
+        let n = c::TEXT.encode(text.as_bytes(), room);
         &room[..n]
     })
 }
@@ -251,10 +251,7 @@ fn symbol_rows(report: &mut Report, rig: &Rig) {
     let what = "write a symbol";
     let times = race(report.allowed, what, runs);
     report.alone(what, rig.symbols.len(), times[0]);
-    if let Some(before) = times.get(1) {
-        let what = "  the same (BEFORE in place of the Rust)";
-        report.row(what, rig.symbols.len(), times[0], *before);
-    }
+    report.before(rig.symbols.len(), &times);
 }
 
 pub fn rows(report: &mut Report, rig: &Rig) {
