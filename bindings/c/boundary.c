@@ -82,6 +82,7 @@ static const char *const groups[GROUPS] = {
     [ROOM_FULL] = "an index that needs all of the room of its upload",
     [ROOM_STOPPED] = "an index lent the room of its upload, stopped by a zero claim",
     [TEXTS] = "text there and back",
+    [COUNTED] = "text lent just enough, a byte less and nothing",
 };
 
 enum { SHOWN = 20 };

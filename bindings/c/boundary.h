@@ -12,6 +12,7 @@
  *   boundary_kinds.c   which of the end bytes an answer is about, so that each kind is counted
  *   boundary_salvage.c what is kept of a damaged upload, and what is dropped
  *   boundary_room.c    slots that are set aside by an upload's length
+ *   boundary_text.c    text that is counted before it is written
  *   boundary_random.c  random cases
  */
 #ifndef BOUNDARY_H
@@ -88,6 +89,7 @@ enum group {
     ROOM_FULL,
     ROOM_STOPPED,
     TEXTS,
+    COUNTED,
     GROUPS
 };
 
@@ -392,6 +394,7 @@ void try_rooms(void);
 void try_room(struct bytes bytes);
 void try_room_lengths(void);
 void try_room_limit(size_t len);
+void try_counted(void);
 void try_limits(void);
 void try_random(uint64_t from, uint64_t cases, uint64_t seed_number);
 

@@ -736,6 +736,7 @@ void try_edges(void)
         every_room_records();
         every_room_entries();
         every_room_texts();
+        try_counted();
         try_neighbours();
         long_records();
         long_strings();

@@ -1829,6 +1829,48 @@ uint32_t __wrap_vindaskot_walk(const uint8_t *bytes, size_t bytes_len, size_t al
     return all && status == VINDASKOT_FINISHED ? VINDASKOT_OUT_OF_STEPS : status;
 }
 
+#elif FAULT == 165 /* too little lent for a text, which is told as three bytes for each byte */
+uint32_t __real_vindaskot_decode(const uint8_t *, size_t, uint8_t *, size_t, uint64_t *);
+uint32_t __wrap_vindaskot_decode(const uint8_t *src, size_t src_len, uint8_t *out, size_t out_len, uint64_t *answer)
+{
+    uint32_t status = __real_vindaskot_decode(src, src_len, out, out_len, answer);
+    if (status == 6)
+        answer[0] = 3 * src_len;
+    return status;
+}
+
+#elif FAULT == 166 /* of the text of byte 92 two bytes are counted */
+uint32_t __real_vindaskot_decode(const uint8_t *, size_t, uint8_t *, size_t, uint64_t *);
+uint32_t __wrap_vindaskot_decode(const uint8_t *src, size_t src_len, uint8_t *out, size_t out_len, uint64_t *answer)
+{
+    uint32_t status = __real_vindaskot_decode(src, src_len, out, out_len, answer);
+    for (size_t i = 0; status == 6 && i < src_len; i++)
+        answer[0] -= src[i] == 0x92;
+    return status;
+}
+
+#elif FAULT == 167 /* the last of sixteen bytes is counted as one where it takes more */
+uint32_t __real_vindaskot_decode(const uint8_t *, size_t, uint8_t *, size_t, uint64_t *);
+uint32_t __wrap_vindaskot_decode(const uint8_t *src, size_t src_len, uint8_t *out, size_t out_len, uint64_t *answer)
+{
+    uint32_t status = __real_vindaskot_decode(src, src_len, out, out_len, answer);
+    for (size_t i = 15; status == 6 && i < src_len; i += 16)
+        answer[0] -= src[i] >= 0xA0;
+    return status;
+}
+
+#elif FAULT == 168 /* a text of more than sixteen bytes is refused where just enough is lent */
+uint32_t __real_vindaskot_decode(const uint8_t *, size_t, uint8_t *, size_t, uint64_t *);
+uint32_t __wrap_vindaskot_decode(const uint8_t *src, size_t src_len, uint8_t *out, size_t out_len, uint64_t *answer)
+{
+    uint32_t status = __real_vindaskot_decode(src, src_len, NULL, 0, answer);
+    if (status != 6 || answer[0] != out_len || src_len <= 16)
+        return __real_vindaskot_decode(src, src_len, out, out_len, answer);
+    answer[0]++;
+    answer[1] = out_len;
+    return 6;
+}
+
 #elif FAULT == 0
 /* No fault but a control: the search that 23 to 33, 38 and 39 share, with the right comparison, and the salvage that 91
  * to 117 and 132 share. */
