@@ -8,6 +8,7 @@ pub const FINISHED: u32 = 100;
 pub const OUT_OF_STEPS: u32 = 101;
 pub const LIMIT: usize = 16777216;
 pub const ROOM_MOST: usize = 508400;
+pub const TEXT_STACK: usize = 512;
 #[allow(
     dead_code,
     reason = "it stands in a name that the linker asks for; tests/header.rs compares them"

@@ -10,6 +10,10 @@ use crate::told::done;
 /// What `decode` writes is UTF-8 by its contract; Rust checks it once more, since a `str` rests on it.
 const UTF8: &str = "decode writes UTF-8";
 
+/// Bytes of stack that the archive's own conversion takes at most, either way, whatever the text and its length: for callers
+/// that have little. What Rust puts around the call comes on top.
+pub const STACK: usize = sys::TEXT_STACK;
+
 /// Windows-1252 as UTF-8, from `out[0]` on. Every byte has a character. Refusals: 5, 6.
 pub fn decode<'o>(src: &[u8], out: &'o mut [u8]) -> Result<&'o str, Refusal> {
     let written = decode_into(src, out)?;
