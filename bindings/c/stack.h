@@ -11,7 +11,7 @@
 /* ---- Calls on stacks of their own ---- */
 
 /* How much there is of each stack; under it lie pages that nobody may touch. */
-enum { STACK_BYTES = 64 << 10, PAINT_BYTES = 4096, PAINTS = 2, ARGUMENTS = 5 };
+enum { STACK_BYTES = 16 << 10, PAINT_BYTES = 4096, PAINTS = 2, ARGUMENTS = 5 };
 
 /* What an untouched byte holds, by the last 12 bits of its address: of the first stack, and of the second. Nowhere are
  * the two the same, so that whatever is written is seen on one of them. */

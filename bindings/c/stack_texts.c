@@ -120,21 +120,22 @@ static void each_length(void)
             both(kind, len);
 }
 
+/* The kinds that take long are left to a length of each size. */
 static void about_powers(void)
 {
     for (size_t power = 512; power < LIMIT; power *= 2)
         for (size_t len = power - 1; len <= power + 1; len++)
             for (enum kind kind = ASCII; kind < KINDS; kind++)
-                if (len <= LONG || kind == ASCII || kind == SPECIAL || (kind == MIXED && len <= MEGABYTE))
+                if (len <= LONG || kind == ASCII || (kind == SPECIAL && (len <= MEGABYTE || len == power)))
                     both(kind, len);
 }
 
 static void the_limit(void)
 {
-    for (enum kind kind = ASCII; kind < KINDS; kind++)
-        both(kind, LIMIT);
     both(ASCII, LIMIT - 1);
-    both(SPECIAL, LIMIT - 1);
+    both(ASCII, LIMIT);
+    both(SPECIAL, LIMIT);
+    both(IN_ORDER, LIMIT);
 }
 
 static void above_the_limit(void)
@@ -253,12 +254,10 @@ static const struct {
 };
 enum { WRONGS = sizeof wrong / sizeof *wrong };
 
-/* A wrong one behind so many bytes of sound text, and before so many letters. */
-static void one_wrong(size_t which, enum kind kind, size_t before, size_t behind)
+/* A wrong one behind so many bytes of the sound text that is there, and before so many letters. */
+static void one_wrong(size_t which, size_t before, size_t behind)
 {
     size_t len = strlen(wrong[which].bytes);
-    if (before != 0)
-        fill(ENCODE, kind, before);
     memcpy(text + before, wrong[which].bytes, len);
     memset(text + before + len, 'y', behind);
     len += before + behind;
@@ -271,20 +270,27 @@ static void wrong_short(void)
 {
     static const size_t befores[] = {0, 1, 2, 3, 4, 7, 8, 15, 16, 17, 31, 32, 33, 64, 127, 300};
     static const size_t behinds[] = {0, 1, 2, 3, 4, 16, 33, 300};
-    for (size_t which = 0; which < WRONGS; which++)
-        for (size_t i = 0; i < sizeof befores / sizeof *befores; i++)
+    for (enum kind kind = ASCII; kind <= IN_ORDER; kind++)
+        for (size_t i = 0; i < sizeof befores / sizeof *befores; i++) {
+            fill(ENCODE, kind, befores[i]);
             for (size_t j = 0; j < sizeof behinds / sizeof *behinds; j++)
-                for (enum kind kind = ASCII; kind <= IN_ORDER; kind++)
-                    one_wrong(which, kind, befores[i], behinds[j]);
+                for (size_t which = 0; which < WRONGS; which++)
+                    one_wrong(which, befores[i], behinds[j]);
+        }
 }
 
 static void wrong_long(void)
 {
+    fill(ENCODE, ACCENTS, MEGABYTE);
+    for (size_t which = 0; which < WRONGS; which++)
+        one_wrong(which, MEGABYTE, 40);
+    fill(ENCODE, ASCII, LIMIT);
     for (size_t which = 0; which < WRONGS; which++) {
-        one_wrong(which, ASCII, MEGABYTE, 0);
-        one_wrong(which, ACCENTS, MEGABYTE, 40);
-        one_wrong(which, SPARSE, LIMIT - 100, 100 - strlen(wrong[which].bytes));
-        one_wrong(which, ASCII, LIMIT - strlen(wrong[which].bytes), 0);
+        size_t len = strlen(wrong[which].bytes);
+        one_wrong(which, MEGABYTE, 0);
+        memset(text + MEGABYTE, 'y', len);
+        one_wrong(which, LIMIT - len, 0);
+        memset(text + LIMIT - len, 'y', len);
     }
 }
 
