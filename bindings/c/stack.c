@@ -102,7 +102,7 @@ static void tell_counts(void)
 {
     for (int f = 0; f < FUNCTIONS; f++)
         for (enum outcome is = DONE; is <= last_outcome[f]; is++) {
-            printf("%8zu calls: %s, %s\n", calls[f][is], function_names[f], outcome_names[is]);
+            printf("%8zu times: %s, %s\n", calls[f][is], function_names[f], outcome_names[is]);
             complaints += only == 0 && calls[f][is] == 0;
         }
     for (int f = 0; f < FUNCTIONS; f++)
