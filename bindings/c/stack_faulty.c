@@ -265,4 +265,45 @@ WRONG(vindaskot_encode)
     free(much);
     return RIGHT(vindaskot_encode);
 }
+
+#elif FAULT == 29 /* jumps: decode that goes on through a pointer */
+WRONG(vindaskot_decode)
+{
+    static called *volatile through = __real_vindaskot_decode;
+    return through(src, src_len, out, out_len, answer);
+}
+
+#elif FAULT == 30 /* run meet: encode that pushes words in a loop, as many as the last bits of the length say */
+__asm__(".text\n.globl __wrap_vindaskot_encode\n.type __wrap_vindaskot_encode, @function\n__wrap_vindaskot_encode:\n"
+        "  mov %rsi, %rax\n"
+        "  and $1023, %rax\n"
+        "  inc %rax\n"
+        "  mov %rax, %r9\n"
+        "1: push %r9\n"
+        "  dec %r9\n"
+        "  jnz 1b\n"
+        "2: add $8, %rsp\n"
+        "  dec %rax\n"
+        "  jnz 2b\n"
+        "  jmp __real_vindaskot_encode\n"
+        ".size __wrap_vindaskot_encode, . - __wrap_vindaskot_encode\n");
+WRONG(vindaskot_encode);
+
+#elif FAULT == 31 /* run above: decode that takes much in one of eight ways, chosen by a jump table */
+#define WAY(number)                                                                                                    \
+    case number: __asm__ volatile("nop # " #number); break
+WRONG(vindaskot_decode)
+{
+    switch (src_len % 8) {
+        WAY(0);
+        WAY(1);
+        WAY(2);
+        WAY(3);
+        WAY(4);
+    case 5: takes_much(); break;
+        WAY(6);
+    default: __asm__ volatile("nop"); break;
+    }
+    return RIGHT(vindaskot_decode);
+}
 #endif
