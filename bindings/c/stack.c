@@ -32,8 +32,8 @@ static bool to_failure;
 
 static void print_now(FILE *to)
 {
-    fprintf(to, "%s, case %zu, %s: length %zu, lent %zu\n", function_names[now.function], now.number, now.group, now.len,
-            now.lent);
+    fprintf(to, "%s, case %zu, %s: length %zu, lent %zu\n", function_names[now.function], now.number, now.group,
+            now.len, now.lent);
 }
 
 void stack_tell(const char *words)

@@ -73,7 +73,7 @@ static void paint(int which, size_t bytes)
     }
 }
 
-/* How much of a stack, down from its end, is not as painted: all of it is looked at, in parts that are compared fast. */
+/* How much of a stack, down from its end, is not as painted: all of it is looked at, in parts, which is fast. */
 static size_t changed(int which)
 {
     enum { PART = 256 };

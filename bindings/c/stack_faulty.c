@@ -123,7 +123,7 @@ WRONG(vindaskot_decode)
     return RIGHT(vindaskot_decode);
 }
 
-#elif FAULT == 5 /* above: encode with an array of 4,096 bytes of which the upper end alone is written, for no text tried */
+#elif FAULT == 5 /* above: encode with such an array, for a text that is not tried */
 WRONG(vindaskot_encode)
 {
     if (src_len == 0x123456)
@@ -305,5 +305,21 @@ WRONG(vindaskot_decode)
     default: __asm__ volatile("nop"); break;
     }
     return RIGHT(vindaskot_decode);
+}
+
+#elif FAULT == 32 /* run above: decode that ends by a jump to a function that takes much */
+uint32_t __real_vindaskot_decode(PARAMETERS);
+
+__attribute__((section(".text.apart"))) APART uint32_t goes_on(PARAMETERS)
+{
+    uint8_t much[MUCH];
+    memset(much, 1, sizeof much);
+    USED(much);
+    return RIGHT(vindaskot_decode);
+}
+
+WRONG(vindaskot_decode)
+{
+    return goes_on(src, src_len, out, out_len, answer);
 }
 #endif
