@@ -98,10 +98,10 @@ impl Report {
     }
 
     /// The row of an earlier archive's same call, where one is linked: its times come behind this archive's.
-    pub fn before(&self, items: usize, archives: &[Times]) {
+    pub fn before(&self, row: &str, items: usize, archives: &[Times]) {
         if let [ours, before] = archives {
-            let what = "  the same (BEFORE in place of the Rust)";
-            self.row(what, items, *ours, *before);
+            let what = format!("  {row} (BEFORE in place of the Rust)");
+            self.row(&what, items, *ours, *before);
         }
     }
 

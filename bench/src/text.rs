@@ -64,18 +64,21 @@ fn letters(dice: &mut Dice, n: usize) -> Vec<u8> {
     (0..n).map(|_| LETTERS[dice.below(LETTERS.len())]).collect()
 }
 
-/// A name of 18 to 30 bytes, one to three of them umlauts.
-fn with_umlauts(dice: &mut Dice) -> Vec<u8> {
-    const UMLAUTS: [u8; 7] = [0xE4, 0xF6, 0xFC, 0xC4, 0xD6, 0xDC, 0xDF];
-    let n = 18 + dice.below(13);
+const UMLAUTS: [u8; 7] = [0xE4, 0xF6, 0xFC, 0xC4, 0xD6, 0xDC, 0xDF];
+/// Of the bytes 80 to 9F: signs whose text takes three bytes, and letters whose text takes two.
+const SIGNS: [u8; 7] = [0x80, 0x84, 0x93, 0x96, 0x99, 0x8A, 0x9C];
+
+/// A name of at least so many bytes, one to three of them drawn from a few.
+fn with_some(of: &[u8], least: usize, spread: usize, dice: &mut Dice) -> Vec<u8> {
+    let n = least + dice.below(spread);
     let mut name = letters(dice, n);
     for _ in 0..1 + dice.below(3) {
-        name[dice.below(n)] = UMLAUTS[dice.below(UMLAUTS.len())];
+        name[dice.below(n)] = of[dice.below(of.len())];
     }
     name
 }
 
-fn inputs(dice: &mut Dice) -> [Texts; 5] {
+fn inputs(dice: &mut Dice) -> [Texts; 7] {
     let in_order: Vec<u8> = (0..LONG).map(|i| i as u8).collect();
     let mut shuffled = in_order.clone();
     dice.shuffle(&mut shuffled);
@@ -84,13 +87,22 @@ fn inputs(dice: &mut Dice) -> [Texts; 5] {
     shuffled.pop();
     let ascii = letters(dice, LONG);
     let ascii_names = (0..NAMES).map(|_| letters(dice, 18)).collect();
-    let umlaut_names = (0..NAMES).map(|_| with_umlauts(dice)).collect();
+    let mut names = |of, least, spread| {
+        (0..NAMES)
+            .map(|_| with_some(of, least, spread, dice))
+            .collect()
+    };
+    let umlaut_names = names(&UMLAUTS, 18, 13);
+    let sign_names = names(&SIGNS, 18, 13);
+    let short_names = names(&UMLAUTS, 1, 12);
     [
         Texts::new("ASCII", Goal::Neither, vec![ascii]),
         Texts::new("all 256 bytes in order", Goal::AllBytes, vec![in_order]),
         Texts::new("all 256 bytes shuffled", Goal::AllBytes, vec![shuffled]),
         Texts::new("ASCII names of 18 bytes", Goal::Names, ascii_names),
         Texts::new("umlaut names of 18 to 30 bytes", Goal::Names, umlaut_names),
+        Texts::new("sign names of 18 to 30 bytes", Goal::Neither, sign_names),
+        Texts::new("umlaut names of 1 to 12 bytes", Goal::Neither, short_names),
     ]
 }
 
@@ -212,7 +224,7 @@ fn alone(report: &Report, t: &Texts, what: &str, runs: Vec<Contender>) {
     let what = format!("decode {}: {what}", t.what);
     let times = race(report.allowed, &what, runs);
     report.alone(&what, t.items(), times[0]);
-    report.before(t.items(), &times);
+    report.before("the same", t.items(), &times);
 }
 
 /// A row a counterpart. The first is the fair one, by which a goal is judged.
@@ -228,7 +240,7 @@ fn rows_of(report: &mut Report, t: &Texts, way: &str, others: &[&str], times: &[
             _ => {}
         }
     }
-    report.before(t.items(), archives);
+    report.before("the first row", t.items(), archives);
 }
 
 pub fn rows(report: &mut Report, seed: u64) {

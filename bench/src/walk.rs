@@ -196,7 +196,7 @@ pub fn rows(report: &mut Report, rig: &Rig) {
     {
         let before = plain(|| by_call(c::before::symbol_step, upload));
         let times = race(report.allowed, what, vec![plain(|| ours(upload)), before]);
-        report.before(entries, &times);
+        report.before("the same", entries, &times);
     }
     modes(report, upload, entries);
     let what = "walk, all text as UTF-8 on both sides";

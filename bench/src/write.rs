@@ -251,7 +251,7 @@ fn symbol_rows(report: &mut Report, rig: &Rig) {
     let what = "write a symbol";
     let times = race(report.allowed, what, runs);
     report.alone(what, rig.symbols.len(), times[0]);
-    report.before(rig.symbols.len(), &times);
+    report.before("the same", rig.symbols.len(), &times);
 }
 
 pub fn rows(report: &mut Report, rig: &Rig) {

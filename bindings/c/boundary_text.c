@@ -59,10 +59,22 @@ static void every_byte_among(uint8_t others, size_t len)
         }
 }
 
+/* A code point beyond 16 bits whose low half is that of a byte from 80 to 9F: it has no byte. */
+static void hold_beyond(const char *own)
+{
+    const uint8_t *at = (const uint8_t *)own;
+    uint8_t wide[5] = {'a', 0xF0, 0x90, (uint8_t)(0x80 | (at[0] & 0x1F)), at[1]};
+    if (at[0] >= 0xE0)
+        wide[2] |= at[0] & 0x0F, wide[3] = at[1], wide[4] = at[2];
+    SAME(TEXTS, call_encode(lay(UPLOAD, (struct bytes){wide, sizeof wide}), lend(2)), refused(11, 1, 2));
+}
+
 void try_counted(void)
 {
     static const size_t lengths[] = {1, 8, 15, 16, 17, 31, 32, 33, 48};
     static struct buffer bytes;
+    for (size_t i = 0; i < 32; i++)
+        hold_beyond(middle[i]);
     for (size_t i = 0; i < sizeof lengths / sizeof *lengths; i++) {
         every_byte_among('a', lengths[i]);
         every_byte_among(0xE4, lengths[i]);

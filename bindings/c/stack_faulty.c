@@ -53,6 +53,21 @@ APART void upper_end(void)
     USED(much);
 }
 
+/* Eight ways by the text's length, chosen by a jump table, one of which calls a function. */
+#define WAY(number)                                                                                                    \
+    case number: __asm__ volatile("nop # " #number); break
+#define ONE_OF_EIGHT(function)                                                                                         \
+    switch (src_len % 8) {                                                                                             \
+        WAY(0);                                                                                                        \
+        WAY(1);                                                                                                        \
+        WAY(2);                                                                                                        \
+        WAY(3);                                                                                                        \
+        WAY(4);                                                                                                        \
+    case 5: function(); break;                                                                                         \
+        WAY(6);                                                                                                        \
+    default: __asm__ volatile("nop"); break;                                                                           \
+    }
+
 APART void by_pieces(const uint8_t *src, size_t len)
 {
     uint8_t piece[PIECE];
@@ -290,20 +305,9 @@ __asm__(".text\n.globl __wrap_vindaskot_encode\n.type __wrap_vindaskot_encode, @
 WRONG(vindaskot_encode);
 
 #elif FAULT == 31 /* run above: decode that takes much in one of eight ways, chosen by a jump table */
-#define WAY(number)                                                                                                    \
-    case number: __asm__ volatile("nop # " #number); break
 WRONG(vindaskot_decode)
 {
-    switch (src_len % 8) {
-        WAY(0);
-        WAY(1);
-        WAY(2);
-        WAY(3);
-        WAY(4);
-    case 5: takes_much(); break;
-        WAY(6);
-    default: __asm__ volatile("nop"); break;
-    }
+    ONE_OF_EIGHT(takes_much);
     return RIGHT(vindaskot_decode);
 }
 
@@ -321,5 +325,18 @@ __attribute__((section(".text.apart"))) APART uint32_t goes_on(PARAMETERS)
 WRONG(vindaskot_decode)
 {
     return goes_on(src, src_len, out, out_len, answer);
+}
+
+#elif FAULT == 33 /* above: decode in which one way of a jump table is hardly ever gone, stands apart and takes much */
+__attribute__((cold)) APART void cold_end(void)
+{
+    upper_end();
+    __asm__ volatile("");
+}
+
+WRONG(vindaskot_decode)
+{
+    ONE_OF_EIGHT(cold_end);
+    return RIGHT(vindaskot_decode);
 }
 #endif

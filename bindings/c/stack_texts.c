@@ -126,16 +126,15 @@ static void about_powers(void)
     for (size_t power = 512; power < LIMIT; power *= 2)
         for (size_t len = power - 1; len <= power + 1; len++)
             for (enum kind kind = ASCII; kind < KINDS; kind++)
-                if (len <= LONG || kind == ASCII || (kind == SPECIAL && (len <= MEGABYTE || len == power)))
+                if (len <= LONG || kind == ASCII || len == MEGABYTE || (kind == SPECIAL && (len <= MEGABYTE || len == power)))
                     both(kind, len);
 }
 
 static void the_limit(void)
 {
     both(ASCII, LIMIT - 1);
-    both(ASCII, LIMIT);
-    both(SPECIAL, LIMIT);
-    both(IN_ORDER, LIMIT);
+    for (enum kind kind = ASCII; kind < KINDS; kind++)
+        both(kind, LIMIT);
 }
 
 static void above_the_limit(void)

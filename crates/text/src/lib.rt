@@ -77,9 +77,9 @@ fn one_like(b: u8, mask: u8, value: u8) -> u8
     if b & mask == value { 1 } else { 0 }
 }
 
-// How many bytes the text of a byte takes: one more from 80 on, and one more for a code point above 7FF, which have 84 to 87 and 94 to
-// 97; 89, 8B, 99 and 9B; 80 and 82; 91 and 93; 92. By comparisons and not by a copy of the table (02, W-204), so that the compiler
-// takes many bytes at once.
+// How many bytes the text of a byte takes: one, one more from 80 on, and one more for the bytes whose code point is above 7FF, 84 to 87
+// and 94 to 97; 89, 8B, 99 and 9B; 80 and 82; 91 and 93; 92. By comparisons and not by a copy of the table (02, W-204), so that the
+// compiler takes many bytes at once.
 fn byte_width(b: u8) -> u8
     ensures { λ r. ⌜ (r ≡ length (utf8 (codePoint b))) × (r ≤ 3) ⌝ }
 {
