@@ -470,7 +470,8 @@ uint32_t vindaskot_salvage_in(const uint8_t *bytes, size_t bytes_len, bool check
 
 /* Windows-1252 to UTF-8, and back. answer[0]: bytes written. To UTF-8 three times src_len is always enough, and back
  * src_len. Refusals: 5, 11 (encode only), 6. Of the stack neither takes more than VINDASKOT_TEXT_STACK bytes, whatever
- * the text and its length, from the call's return address down to the end of all that it calls. */
+ * the text and its length, from the call's return address down to the end of all that it calls; this is measured on the
+ * compiled archive (docs/BOUNDARY.md) and not proved. */
 uint32_t vindaskot_decode(const uint8_t *src, size_t src_len, uint8_t *out, size_t out_len,
                           uint64_t answer[VINDASKOT_AT_LEAST 2]);
 uint32_t vindaskot_encode(const uint8_t *src, size_t src_len, uint8_t *out, size_t out_len,

@@ -11,7 +11,7 @@ use crate::told::done;
 const UTF8: &str = "decode writes UTF-8";
 
 /// Bytes of stack that the archive's own conversion takes at most, either way, whatever the text and its length: for callers
-/// that have little. What Rust puts around the call comes on top.
+/// that have little. It is measured and not proved, and what Rust puts around the call comes on top.
 pub const STACK: usize = sys::TEXT_STACK;
 
 /// Windows-1252 as UTF-8, from `out[0]` on. Every byte has a character. Refusals: 5, 6.
