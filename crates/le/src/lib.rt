@@ -1,4 +1,6 @@
 // Numbers in bytes, read at a place and written at a place of a lent buffer; parts of a slice; whether two slices hold the same bytes.
+#![tactic(auto, unfolding(crate::specs::Le::le2, crate::specs::Le::le4, crate::specs::Le::part))]
+
 ghost use Rattle.std.specs.Prelude.{◌≡◌, ◌∷◌, [], false, ◌+◌, ◌-◌, ◌*◌, ◌≤◌, length, get_or};
 ghost use Rattle.le.specs.Le.{if◌then◌else◌, le2, le4, bytes2, bytes4, part, zeroAt};
 ghost use Rattle.le.specs.Place.{Behind, begins};

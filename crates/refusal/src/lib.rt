@@ -1,4 +1,6 @@
 // The numbered refusals of 01, and what a writer answers. The Rust's error.rs.
+#![tactic(auto, unfolding(crate::specs::Ends::endsMet, crate::specs::Writing::exactly))]
+
 ghost use Rattle.std.specs.Prelude.{◌≡◌, ◌∷◌, [], ◌+◌};
 ghost use Rattle.refusal.specs.Refusal.{figuresOf, numbered};
 ghost use Rattle.refusal.specs.Writing.{exactly};
