@@ -1,6 +1,6 @@
 /* Vindaskot for C: reads, walks, writes, indexes, finds in and salvages TwinCAT symbol uploads.
  *
- * Link libvindaskot.a, which `rt staticlib vindaskot` makes in target/staticlib. Every function is proved to meet a
+ * Link libvindaskot.a, which `tools/archive` makes in target/staticlib. Every function is proved to meet a
  * contract: the status, the answer and every lent buffer afterwards are a function of the inputs
  * (crates/vindaskot/src). None allocates, keeps a pointer or anything else between calls, or prints: any thread may
  * call.

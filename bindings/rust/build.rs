@@ -11,7 +11,7 @@ const ARCHIVE: &str = "libvindaskot.a";
 /// The processors that an archive can be made for: rustc's name and ELF's number.
 const MACHINES: [(&str, u16); 2] = [("x86_64", 62), ("aarch64", 183)];
 
-/// Where `rt staticlib` puts the archive, and what it is made of. Both paths count from this crate's folder, where cargo
+/// Where `tools/archive` puts the archive, and what it is made of. Both paths count from this crate's folder, where cargo
 /// runs this program.
 const MADE: &str = "../../target/staticlib";
 const CRATES: &str = "../../crates";
@@ -68,7 +68,7 @@ fn too_old(archive: &Path) -> Option<String> {
     });
     let newest = newer.max_by_key(|source| changed(source))?;
     Some(format!(
-        "{} is older than {}: make it anew with `rt staticlib vindaskot` in the repository's root",
+        "{} is older than {}: make it anew with `tools/archive` in the repository's root",
         archive.display(),
         newest.display(),
     ))
@@ -79,7 +79,7 @@ fn check(archive: &Path) -> Result<(), String> {
     let wanted = target_machine()?;
     let bytes = fs::read(archive).map_err(|why| {
         format!(
-            "{shown} can't be read ({why}): make it with `rt staticlib vindaskot` in the repository's root, \
+            "{shown} can't be read ({why}): make it with `tools/archive` in the repository's root, \
              or set VINDASKOT_LIB_DIR to the folder that holds {ARCHIVE}"
         )
     })?;
@@ -98,7 +98,7 @@ fn check(archive: &Path) -> Result<(), String> {
     match functions(&bytes) {
         Some(functions) if !functions.contains(&needed.as_bytes()) => Err(format!(
             "{shown} has another interface than this crate, since it lacks {needed}: \
-             make it anew with `rt staticlib vindaskot` in the repository's root"
+             make it anew with `tools/archive` in the repository's root"
         )),
         // Where the archive has no index, the linker alone asks for the function.
         _ => Ok(()),
