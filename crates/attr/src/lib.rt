@@ -1,4 +1,6 @@
 // Attribute records inside an entry or a block: at a place, listed, by number, by name, checked. Crate attributes offers a record that stands alone.
+#![tactic(auto, unfolding(crate::specs::Attribute::attributeAt, crate::specs::Attribute::attributeEnds, crate::specs::Attribute::attributesFrom, crate::specs::Attribute::attributesAt, crate::specs::Attribute::attributeNth, crate::specs::Attribute::attributeNamed, crate::specs::Writing::endsZero, crate::specs::Writing::goodAttribute, crate::specs::Writing::attributesChecked))]
+
 ghost use Rattle.std.specs.Prelude.{◌≡◌, ◌+◌};
 ghost use Rattle.le.specs.Place.{Behind, begins};
 ghost use Rattle.attr.specs.Attribute.{attributeAt, nameIn, valueIn, name_at, value_at, attributesFrom, attributesAt, attributeNth, attributeNamed, endsOf, attributeEnds};

@@ -1,4 +1,6 @@
 // Where an entry of an upload begins and ends: its first four bytes claim its length.
+#![tactic(auto, unfolding(crate::specs::Entry::claimAt, crate::specs::Entry::directClaim, crate::specs::Entry::ownBytes))]
+
 ghost use Rattle.std.specs.Prelude.{◌≡◌};
 ghost use Rattle.le.specs.Place.{Behind};
 ghost use Rattle.refusal.specs.Ends.{endsMet};

@@ -1,4 +1,6 @@
 // Flag words and the two parts of an address, each a kind of its own over its number.
+#![tactic(auto, unfolding(crate::specs::Flags::symbolFlagsFrom, crate::specs::Flags::symbol2FlagsFrom, crate::specs::Flags::typeFlagsFrom))]
+
 ghost use Rattle.std.specs.Prelude.{◌≡◌};
 ghost use Rattle.le.specs.Le.{bytes4};
 

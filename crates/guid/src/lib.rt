@@ -1,4 +1,6 @@
 // The optional 16 bytes of an entry that identify its type. The Rust's guid.rs; GUID text is left out.
+#![tactic(auto, unfolding(crate::specs::Guid::guidAt, le::specs::Le::part))]
+
 ghost use Rattle.std.specs.Prelude.{◌≡◌, ◌+◌, ◌≤◌, length};
 ghost use Rattle.le.specs.Le.{part};
 ghost use Rattle.guid.specs.Guid.{guidAt};
@@ -18,10 +20,8 @@ fn sixteen(s: &[u8], at: usize) -> [u8; 16]
     ensures { result ≡ part s.now at 16 }
 {
     let mut bytes = [0u8; 16];
-    let mut i = 0;
-    while i < 16 {
+    for i in 0..16 {
         bytes[i] = s[at + i];
-        i = i + 1;
     }
     bytes
 }

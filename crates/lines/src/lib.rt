@@ -1,4 +1,6 @@
 // Lines of an input that comes in parts.
+#![tactic(auto, unfolding(crate::specs::Lines::hold))]
+
 ghost use Rattle.std.specs.Prelude.{◌≡◌};
 ghost use Rattle.lines.specs.Lines.{end_of, hold, Takes};
 

@@ -1,4 +1,6 @@
 // Refactor records inside an entry or a block: at a place, in a chain, by number, checked. Crate refactor_info offers records and chains that stand alone.
+#![tactic(auto, unfolding(le::specs::Le::part, crate::specs::Refactor::refactorAt, crate::specs::Refactor::chainAt, crate::specs::Refactor::chainEnds, crate::specs::Refactor::chainSection, crate::specs::Writing::goodRecord, crate::specs::Writing::refactorsChecked))]
+
 ghost use Rattle.std.specs.Prelude.{◌≡◌, ◌∷◌, [], ◌+◌};
 ghost use Rattle.le.specs.Place.{Behind, begins};
 ghost use Rattle.refactor.specs.Refactor.{refactorAt, nameIn, name_at, chainAt, chainSection, keptChain, refactorNth, end_of, chainEnds};
@@ -9,7 +11,7 @@ ghost use Rattle.refusal.specs.Ends.{endsMet};
 use refusal::{Checked, Counted, Refusal};
 
 // A record of a slice: its name by place and length, and the place after it.
-#[derive(Drop)]
+#[derive(Clone, Copy)]
 pub struct AdsRefactorInfo {
     pub refactor_count: u32,
     pub next_refactor_info: bool,
