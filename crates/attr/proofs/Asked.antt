@@ -1,11 +1,12 @@
 -- A block of good attributes that stands anywhere in an entry: each of its attributes, asked for by its number, is told as the block tells it.
+use Rattle.std.specs.Prelude.{if◌then◌else◌}
 use Prim.Native.Nat.{ℕ, ◌+◌}
 use native.Mathlib.Nat.{add-zero, zero-add}
 use mathlib.Core.Path.{◌≡◌, refl, sym}
 use mathlib.Core.Bool.{Bool, true, false}
 use mathlib.Core.List.{List, [], ◌++◌, append_assoc, map}
 use lib.ListN.{length, length-append}
-use Rattle.le.specs.Le.{if◌then◌else◌, bytes2}
+use Rattle.le.specs.Le.{bytes2}
 use Rattle.refusal.specs.Asked.{Given, asks}
 use Rattle.refusal.specs.Writing.{counted, goodFrom}
 use Rattle.refusal.proofs.Laws.{good-all}

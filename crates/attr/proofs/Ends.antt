@@ -1,4 +1,5 @@
 -- The end bytes of records, met one record after another; those of a good block are 0.
+use Rattle.std.specs.Prelude.{if◌then◌else◌}
 use Prim.Native.Nat.{ℕ, zero, suc, ◌+◌, ◌-◌, ◌<◌, ◌≤◌}
 use native.Mathlib.Omega.{arith}
 use native.Mathlib.Numerals.{sub-one}
@@ -7,7 +8,7 @@ use mathlib.Core.Path.{◌≡◌, refl, sym, ap, ◌∙◌}
 use mathlib.Core.Bool.{Bool, true, false}
 use mathlib.Core.List.{List, [], ◌++◌, append_assoc}
 use lib.ListN.{length, get_or, length-append}
-use Rattle.le.specs.Le.{if◌then◌else◌, bytes2}
+use Rattle.le.specs.Le.{bytes2}
 use Rattle.le.proofs.Inside.{getD-inside}
 use Rattle.le.proofs.Laws.{zero_is}
 use Rattle.le.proofs.Tests.{both}

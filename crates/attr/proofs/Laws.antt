@@ -1,11 +1,12 @@
 -- One turn of each recursion over records, at a count that is not 0, and its end; the bytes of a record.
+use Rattle.std.specs.Prelude.{if◌then◌else◌}
 use Prim.Native.Nat.{ℕ, ◌+◌, ◌-◌, ◌<◌, ◌≤◌}
 use native.Mathlib.Omega.{arith}
 use mathlib.Core.Path.{◌≡◌, ap, ◌∙◌}
 use mathlib.Core.List.{List}
 use lib.Dec.{leb}
 use lib.ListN.{length, length-append}
-use Rattle.le.specs.Le.{if◌then◌else◌, part}
+use Rattle.le.specs.Le.{part}
 use Rattle.le.specs.Same.{sameBytes}
 use Rattle.le.proofs.Tests.{is-suc, is_zero}
 use Rattle.refusal.specs.declared.Refusal.TheVariants.{NameNotFound}

@@ -1,4 +1,5 @@
 -- A block of good attributes that stands anywhere in an entry is listed whole, and each is found by its number.
+use Rattle.std.specs.Prelude.{if◌then◌else◌}
 use Prim.Native.Nat.{ℕ, zero, suc, ◌+◌, ◌-◌, ◌*◌, ◌<◌, ◌≤◌}
 use native.Mathlib.Omega.{arith}
 use native.Mathlib.Nat.{add-zero, zero-add}
@@ -8,7 +9,7 @@ use mathlib.Core.List.{List, [], ◌++◌, append_assoc}
 use lib.Dec.{leb}
 use lib.ListN.{length, get_or, length-append}
 use borrow.Author.Tests.{le-ltb, le-leb, ltb-false, leb-true}
-use Rattle.le.specs.Le.{if◌then◌else◌, le2, bytes2, part}
+use Rattle.le.specs.Le.{le2, bytes2, part}
 use Rattle.le.proofs.Inside.{getD-inside, le2-inside, part-inside}
 use Rattle.le.proofs.Laws.{le2-bytes2}
 use Rattle.le.proofs.Tests.{otherwise}

@@ -1,4 +1,5 @@
 -- Every attribute that is shown lies inside the bytes, and so do the place that is reached and the places of an answer's strings.
+use Rattle.std.specs.Prelude.{if◌then◌else◌}
 use Prim.Native.Nat.{ℕ, zero, suc, ◌+◌, ◌-◌, ◌<◌, ◌≤◌}
 use native.Mathlib.Omega.{arith}
 use native.Mathlib.Nat.{zero-add}
@@ -8,7 +9,7 @@ use mathlib.Core.List.{List}
 use lib.Dec.{leb, ltb}
 use lib.ListN.{length, get_or}
 use borrow.Author.Tests.{leb-true}
-use Rattle.le.specs.Le.{if◌then◌else◌, le2, part}
+use Rattle.le.specs.Le.{le2, part}
 use Rattle.le.specs.Same.{sameBytes}
 use Rattle.le.proofs.Tests.{by-test, each_below}
 use Rattle.refusal.specs.Refusal.{limit}

@@ -1,6 +1,6 @@
 -- 01, "Attribute": name length, value length (1 byte each), name, end byte, value, end byte.
-use Rattle.std.specs.Prelude.{ℕ, zero, suc, ◌+◌, ◌-◌, Bool, List, [], ◌∷◌, ◌++◌, ltb, leb, length, get_or}
-use Rattle.le.specs.Le.{if◌then◌else◌, le2, part}
+use Rattle.std.specs.Prelude.{ℕ, zero, suc, ◌+◌, ◌-◌, Bool, List, [], ◌∷◌, ◌++◌, ltb, leb, length, get_or, if◌then◌else◌}
+use Rattle.le.specs.Le.{le2, part}
 use Rattle.le.specs.Same.{sameBytes}
 use Rattle.refusal.specs.Refusal.{limit}
 use Rattle.refusal.specs.Ends.{endsIn, byChecked}

@@ -1,6 +1,6 @@
 -- What attributes tell: their names and values.
-use Rattle.std.specs.Prelude.{ℕ, zero, suc, List, [], ◌∷◌, ◌++◌}
-use Rattle.le.specs.Le.{if◌then◌else◌, part}
+use Rattle.std.specs.Prelude.{ℕ, zero, suc, List, [], ◌∷◌, ◌++◌, if◌then◌else◌}
+use Rattle.le.specs.Le.{part}
 use Rattle.le.specs.Same.{sameBytes}
 use Rattle.refusal.specs.Refusal.{figuresOf}
 use Rattle.refusal.specs.Asked.{Asked, Given, Refused}

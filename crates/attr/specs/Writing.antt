@@ -1,6 +1,6 @@
 -- The bytes of an attribute, and a block of them as the writers take it.
-use Rattle.std.specs.Prelude.{ℕ, ◌+◌, Bool, false, List, [], ◌∷◌, ◌++◌, ltb, length}
-use Rattle.le.specs.Le.{if◌then◌else◌, zeroAt}
+use Rattle.std.specs.Prelude.{ℕ, ◌+◌, Bool, false, List, [], ◌∷◌, ◌++◌, ltb, length, if◌then◌else◌}
+use Rattle.le.specs.Le.{zeroAt}
 use Rattle.refusal.specs.Writing.{Writing, Bytes, Refuse, Good, Next, None, goodFrom, exactly}
 use Rattle.refusal.specs.declared.Refusal.TheVariants.{TooLong}
 use Rattle.refusal.specs.declared.Checked.{Checked}

@@ -11,7 +11,7 @@ ghost use Rattle.refusal.specs.Ends.{endsMet};
 use refusal::{Checked, Counted, Refusal};
 
 // A record of a slice: its two strings by place and length, and the place after it.
-#[derive(Drop)]
+#[derive(Clone, Copy)]
 pub struct AdsAttribute {
     pub name: usize,
     pub name_len: u8,

@@ -1,4 +1,5 @@
 -- What the reader's functions tell, by each other's answers.
+use Rattle.std.specs.Prelude.{if◌then◌else◌}
 use Prim.Native.Nat.{ℕ, zero, suc, ◌+◌, ◌-◌, ◌<◌, ◌≤◌}
 use native.Mathlib.Omega.{arith}
 use native.Mathlib.Nat.{add-zero, zero-add}
@@ -9,7 +10,7 @@ use mathlib.Core.List.{List, ◌++◌}
 use lib.Dec.{ltb, eqb}
 use lib.ListN.{length, length-append}
 use borrow.Author.Tests.{ne_eqb}
-use Rattle.le.specs.Le.{if◌then◌else◌, le2, part}
+use Rattle.le.specs.Le.{le2, part}
 use Rattle.refusal.specs.declared.Refusal.{Refusal}
 use Rattle.refusal.specs.declared.Refusal.TheVariants.{EntryLengthMismatch, TooDeep}
 use Rattle.refusal.specs.declared.Checked.{Checked}

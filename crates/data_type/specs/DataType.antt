@@ -1,7 +1,7 @@
 -- W-202, after TcAdsDef.h: an entry of a data type has the header and the strings of a field, then array records, then sub-items, which are entries of the same
 -- layout, then the tail of a field.
-use Rattle.std.specs.Prelude.{ℕ, zero, suc, ◌+◌, ◌-◌, ◌*◌, Bool, List, [], ◌∷◌, ◌++◌, map, ltb, length}
-use Rattle.le.specs.Le.{if◌then◌else◌, le2, le4, part}
+use Rattle.std.specs.Prelude.{ℕ, zero, suc, ◌+◌, ◌-◌, ◌*◌, Bool, List, [], ◌∷◌, ◌++◌, map, ltb, length, if◌then◌else◌}
+use Rattle.le.specs.Le.{le2, le4, part}
 use Rattle.refusal.specs.Refusal.{deepest}
 use Rattle.refusal.specs.Ends.{byChecked}
 use Rattle.refusal.specs.declared.Refusal.{Refusal}

@@ -1,6 +1,6 @@
 -- W-202: array records, a lower bound and an element count of 4 bytes each, asked for by number.
-use Rattle.std.specs.Prelude.{ℕ, ◌+◌, ◌*◌, Bool, List, ltb}
-use Rattle.le.specs.Le.{if◌then◌else◌, le4}
+use Rattle.std.specs.Prelude.{ℕ, ◌+◌, ◌*◌, Bool, List, ltb, if◌then◌else◌}
+use Rattle.le.specs.Le.{le4}
 use Rattle.refusal.specs.declared.Refusal.TheVariants.{NoSuchNumber}
 use Rattle.data_type.specs.DataType.{typeRead, read_of, byType}
 use Rattle.data_type.specs.Questions.{arraysAt}

@@ -1,4 +1,5 @@
 -- The turns of the writers of digits and of the readers of a line.
+use Rattle.std.specs.Prelude.{if◌then◌else◌}
 use Prim.Native.Nat.{ℕ, zero, suc, ◌+◌, ◌-◌, ◌*◌, ◌/◌, ◌%◌, ◌<◌, ◌≤◌}
 use native.Mathlib.Omega.{arith}
 use native.Mathlib.Numerals.{add-one, sub-one}
@@ -9,7 +10,6 @@ use lib.Dec.{ltb}
 use lib.ListN.{length, take, drop, get_or, length-append, drop_of_length-le}
 use lib.Seq.{drop-cons}
 use borrow.Author.Tests.{lt-ltb, le-ltb, eq-eqb, ne_eqb, ltb-true}
-use Rattle.le.specs.Le.{if◌then◌else◌}
 use Rattle.le.proofs.Laws.{take_more, one-write}
 use Rattle.digits.specs.Text.{decimalBy, glyph, pairs, hex, Put}
 use Rattle.digits.specs.Frame.{value_of, allDigits, spelt}

@@ -1,6 +1,5 @@
 -- 01, "Listing": a line of hexadecimal digits is a frame of at most 16,384 bytes. A bad one is refused with 12.
-use Rattle.std.specs.Prelude.{ℕ, zero, suc, ◌+◌, ◌-◌, ◌*◌, ◌/◌, ◌%◌, Bool, true, false, List, [], ◌∷◌, ◌++◌, ltb, eqb, length, get_or}
-use Rattle.le.specs.Le.{if◌then◌else◌}
+use Rattle.std.specs.Prelude.{ℕ, zero, suc, ◌+◌, ◌-◌, ◌*◌, ◌/◌, ◌%◌, Bool, true, false, List, [], ◌∷◌, ◌++◌, ltb, eqb, length, get_or, if◌then◌else◌}
 use Rattle.refusal.specs.declared.Refusal.TheVariants.{BadHexadecimal}
 use Rattle.refusal.specs.Writing.{Writing, Bytes, Refuse}
 

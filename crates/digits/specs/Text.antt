@@ -1,6 +1,5 @@
 -- Numbers in decimal and bytes in hexadecimal, as the listing prints them.
-use Rattle.std.specs.Prelude.{ℕ, zero, suc, ◌+◌, ◌/◌, ◌%◌, ◌≤◌, List, [], ◌∷◌, ◌++◌, ltb, eqb, length}
-use Rattle.le.specs.Le.{if◌then◌else◌}
+use Rattle.std.specs.Prelude.{ℕ, zero, suc, ◌+◌, ◌/◌, ◌%◌, ◌≤◌, List, [], ◌∷◌, ◌++◌, ltb, eqb, length, if◌then◌else◌}
 use Rattle.le.specs.Put.{Wrote}
 
 -- the decimal digits of n, the most significant first, with none in front of the first that counts; at most k of them

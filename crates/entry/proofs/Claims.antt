@@ -1,4 +1,5 @@
 -- What is known of each answer of a step's own checks, where it meets an entry, and that no step goes back.
+use Rattle.std.specs.Prelude.{if◌then◌else◌}
 use Prim.Native.Nat.{ℕ, ◌+◌, ◌-◌, ◌<◌, ◌≤◌}
 use native.Mathlib.Omega.{arith}
 use native.Mathlib.Nat.{add-zero}
@@ -8,7 +9,7 @@ use mathlib.Core.List.{List}
 use lib.Dec.{ltb, leb}
 use lib.ListN.{length}
 use borrow.Author.Tests.{leb-true, leb-false, ltb-true, ltb-false}
-use Rattle.le.specs.Le.{if◌then◌else◌, le4, part}
+use Rattle.le.specs.Le.{le4, part}
 use Rattle.le.proofs.Laws.{length_part, get_d_part}
 use Rattle.refusal.specs.Refusal.{limit}
 use Rattle.refusal.specs.declared.Refusal.TheVariants.{TooShort, EntryLengthMismatch, TooLarge}

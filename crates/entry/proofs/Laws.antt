@@ -1,4 +1,5 @@
 -- One turn of the bounded walk, and its end; a step iterated by its own cursor.
+use Rattle.std.specs.Prelude.{if◌then◌else◌}
 use Prim.Native.Nat.{ℕ, zero, suc, ◌+◌, ◌-◌, ◌<◌, ◌≤◌}
 use native.Mathlib.Nat.{add-zero, zero-add}
 use native.Mathlib.Omega.{arith}
@@ -9,7 +10,6 @@ use mathlib.Core.List.{List, [], ◌∷◌, ◌++◌, map}
 use lib.Dec.{leb, eqb}
 use lib.ListN.{length}
 use borrow.Author.Tests.{eqb-true}
-use Rattle.le.specs.Le.{if◌then◌else◌}
 use Rattle.refusal.specs.declared.Refusal.TheVariants.{ZeroEntryLength}
 use Rattle.entry.specs.declared.Walked.{Walked}
 use Rattle.entry.specs.declared.WalkEnd.TheVariants.{Finished, OutOfSteps, Refused}

@@ -1,4 +1,5 @@
 -- What a walk meets at its end, at a whole entry, and at one that is cut.
+use Rattle.std.specs.Prelude.{if◌then◌else◌}
 use Prim.Native.Nat.{ℕ, zero, suc, ◌+◌, ◌-◌, ◌<◌, ◌≤◌}
 use native.Mathlib.Omega.{arith}
 use native.Mathlib.Nat.{add-zero}
@@ -9,7 +10,7 @@ use lib.Dec.{ltb}
 use lib.ListN.{length, take, length-append}
 use lib.Seq.{length-take-le, get_or-take}
 use borrow.Author.Tests.{le-ltb, lt-ltb, le-leb, lt-leb, ltb-true, ltb-false}
-use Rattle.le.specs.Le.{if◌then◌else◌, le4}
+use Rattle.le.specs.Le.{le4}
 use Rattle.le.proofs.Inside.{le4-inside}
 use Rattle.refusal.specs.Refusal.{limit, figuresOf}
 use Rattle.refusal.specs.declared.Refusal.{Refusal}

@@ -1,6 +1,6 @@
 -- Demand 3, for a kind of entry: fit records written one after another, each entry grown by any bytes at its end, come back from the walk.
-use Rattle.std.specs.Prelude.{ℕ, suc, ◌+◌, ◌-◌, ◌≤◌, ◌≡◌, List, [], ◌∷◌, ◌++◌, map, ltb, leb, eqb, length, take, drop}
-use Rattle.le.specs.Le.{if◌then◌else◌, bytes4}
+use Rattle.std.specs.Prelude.{ℕ, suc, ◌+◌, ◌-◌, ◌≤◌, ◌≡◌, List, [], ◌∷◌, ◌++◌, map, ltb, leb, eqb, length, take, drop, if◌then◌else◌}
+use Rattle.le.specs.Le.{bytes4}
 use Rattle.refusal.specs.Refusal.{limit, numbered}
 use Rattle.refusal.specs.declared.Figures.{Figures}
 use Rattle.entry.specs.Tells.{Tells, Entry, Refused, End}

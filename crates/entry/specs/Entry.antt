@@ -1,6 +1,6 @@
 -- An entry begins with its length in four bytes, which it claims. 01, "Walking", and the order of direct reading.
-use Rattle.std.specs.Prelude.{ℕ, ◌+◌, ◌-◌, List, [], ◌∷◌, ltb, leb, length}
-use Rattle.le.specs.Le.{if◌then◌else◌, le4, part}
+use Rattle.std.specs.Prelude.{ℕ, ◌+◌, ◌-◌, List, [], ◌∷◌, ltb, leb, length, if◌then◌else◌}
+use Rattle.le.specs.Le.{le4, part}
 use Rattle.refusal.specs.Refusal.{limit}
 use Rattle.refusal.specs.declared.Refusal.{Refusal}
 use Rattle.refusal.specs.declared.Refusal.TheVariants.{TooShort, EntryLengthMismatch, ClaimBelowHeader, TooLarge}

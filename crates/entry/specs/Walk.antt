@@ -1,6 +1,6 @@
 -- 01, "Walking": a step, the walk, where its steps begin, and the bounded walk.
-use Rattle.std.specs.Prelude.{ℕ, zero, suc, ◌≡◌, Bool, true, false, List, [], ◌∷◌, ◌++◌, map, leb, eqb, length}
-use Rattle.le.specs.Le.{if◌then◌else◌, part}
+use Rattle.std.specs.Prelude.{ℕ, zero, suc, ◌≡◌, Bool, true, false, List, [], ◌∷◌, ◌++◌, map, leb, eqb, length, if◌then◌else◌}
+use Rattle.le.specs.Le.{part}
 use Rattle.refusal.specs.declared.Refusal.{Refusal}
 use Rattle.refusal.specs.declared.Refusal.TheVariants.{ZeroEntryLength}
 use Rattle.entry.specs.declared.WalkEnd.{WalkEnd}

@@ -1,4 +1,5 @@
 -- One turn of skipping, and its end.
+use Rattle.std.specs.Prelude.{if◌then◌else◌}
 use Prim.Native.Nat.{ℕ, zero, suc, ◌+◌, ◌-◌, ◌<◌, ◌≤◌}
 use native.Mathlib.Omega.{arith}
 use native.Mathlib.Numerals.{sub-one}
@@ -6,7 +7,7 @@ use mathlib.Core.Path.{◌≡◌, refl}
 use mathlib.Core.List.{List}
 use lib.Dec.{ltb}
 use lib.ListN.{length}
-use Rattle.le.specs.Le.{if◌then◌else◌, le4}
+use Rattle.le.specs.Le.{le4}
 use Rattle.field.specs.Field.{skipFrom}
 
 module _ (e : List ℕ) (at : ℕ) where

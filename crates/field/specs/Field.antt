@@ -1,6 +1,6 @@
 -- 01, "Field": a header of 42 bytes, three strings, each with one end byte, then the sections. W-212: the end bytes, which only the checked mode looks at.
-use Rattle.std.specs.Prelude.{ℕ, zero, suc, ◌+◌, ◌-◌, ◌*◌, Bool, List, ltb, leb, length}
-use Rattle.le.specs.Le.{if◌then◌else◌, has, le2, le4, part}
+use Rattle.std.specs.Prelude.{ℕ, zero, suc, ◌+◌, ◌-◌, ◌*◌, Bool, List, ltb, leb, length, if◌then◌else◌}
+use Rattle.le.specs.Le.{has, le2, le4, part}
 use Rattle.refusal.specs.declared.Refusal.{Refusal}
 use Rattle.refusal.specs.declared.Refusal.TheVariants.{TooShort, EntryLengthMismatch}
 use Rattle.refusal.specs.declared.Checked.{Checked}

@@ -1,6 +1,6 @@
 -- What can be asked of a field entry, in a mode: its strings, and its attributes by number and by name.
-use Rattle.std.specs.Prelude.{ℕ, ◌+◌, Bool, List, [], ltb}
-use Rattle.le.specs.Le.{if◌then◌else◌, part}
+use Rattle.std.specs.Prelude.{ℕ, ◌+◌, Bool, List, [], ltb, if◌then◌else◌}
+use Rattle.le.specs.Le.{part}
 use Rattle.refusal.specs.declared.Refusal.{Refusal}
 use Rattle.refusal.specs.declared.Refusal.TheVariants.{NoSuchNumber}
 use Rattle.entry.specs.Entry.{ownBytes}

@@ -1,4 +1,5 @@
 -- A written entry, grown by any bytes, is read as the field that was written.
+use Rattle.std.specs.Prelude.{if◌then◌else◌}
 use Prim.Native.Nat.{ℕ, ◌+◌, ◌<◌, ◌≤◌}
 use native.Mathlib.Omega.{arith}
 use native.Mathlib.Nat.{add-zero}
@@ -7,7 +8,7 @@ use mathlib.Core.Bool.{Bool, true, false}
 use mathlib.Core.List.{List, [], ◌++◌, append_assoc}
 use lib.ListN.{length, length-append}
 use borrow.Author.Tests.{le-ltb}
-use Rattle.le.specs.Le.{if◌then◌else◌, le4, has}
+use Rattle.le.specs.Le.{le4, has}
 use Rattle.guid.specs.Guid.{guidAt, zeros16}
 use Rattle.guid.specs.declared.Guid.{Guid}
 use Rattle.guid.proofs.Read.{guid-read}

@@ -1,11 +1,11 @@
 -- Two fit fields that mean the same are written as the same bytes.
+use Rattle.std.specs.Prelude.{if◌then◌else◌}
 use Prim.Native.Nat.{ℕ}
 use mathlib.Core.Path.{◌≡◌, refl, ap, ◌∙◌}
 use mathlib.Core.Bool.{Bool, true, false}
 use mathlib.Core.List.{List}
 use mathlib.Core.Option.{none, some}
 use lib.ListN.{length}
-use Rattle.le.specs.Le.{if◌then◌else◌}
 use Rattle.refusal.specs.Writing.{counted, goodFrom}
 use Rattle.attr.specs.Writing.{goodAttribute}
 use Rattle.attr.specs.Told.{attributesIn}

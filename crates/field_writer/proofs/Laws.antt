@@ -1,11 +1,11 @@
 -- Zeros, written one by one; the length of an entry; what a passed check tells.
+use Rattle.std.specs.Prelude.{if◌then◌else◌}
 use Prim.Native.Nat.{ℕ, ◌+◌, ◌<◌, ◌≤◌}
 use native.Mathlib.Omega.{arith}
 use mathlib.Core.Path.{◌≡◌, refl, ap, ◌∙◌}
 use mathlib.Core.Bool.{Bool, true, false}
 use mathlib.Core.List.{List}
 use lib.ListN.{length, set, length-append, length-replicate, replicate-append-replicate}
-use Rattle.le.specs.Le.{if◌then◌else◌}
 use Rattle.le.specs.Put.{put}
 use Rattle.le.proofs.Laws.{put-more}
 use Rattle.refusal.specs.declared.Checked.TheVariants.{Passed}

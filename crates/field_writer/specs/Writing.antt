@@ -1,6 +1,6 @@
 -- 01, "Writing": the field writer.
-use Rattle.std.specs.Prelude.{ℕ, ◌+◌, Bool, List, [], ◌++◌, replicate}
-use Rattle.le.specs.Le.{if◌then◌else◌, has, bytes2, bytes4}
+use Rattle.std.specs.Prelude.{ℕ, ◌+◌, Bool, List, [], ◌++◌, replicate, if◌then◌else◌}
+use Rattle.le.specs.Le.{has, bytes2, bytes4}
 use Rattle.refusal.specs.Writing.{Writing, afterCheck}
 use Rattle.refusal.specs.declared.Checked.{Checked}
 use Rattle.refusal.specs.declared.Checked.TheVariants.{Passed}

@@ -1,6 +1,6 @@
 -- The three flag words, read from data of any length.
-use Rattle.std.specs.Prelude.{ℕ, List, ltb, eqb, length}
-use Rattle.le.specs.Le.{if◌then◌else◌, le2, le4}
+use Rattle.std.specs.Prelude.{ℕ, List, ltb, eqb, length, if◌then◌else◌}
+use Rattle.le.specs.Le.{le2, le4}
 use Rattle.refusal.specs.Refusal.{limit}
 use Rattle.refusal.specs.declared.Refusal.{Refusal}
 use Rattle.refusal.specs.declared.Refusal.TheVariants.{TooLarge, UnexpectedLength}

@@ -1,4 +1,5 @@
 -- A GUID that was written where it is flagged, and nothing where it is not, is read back.
+use Rattle.std.specs.Prelude.{if◌then◌else◌}
 use Prim.Native.Nat.{ℕ, ◌+◌, ◌-◌}
 use native.Mathlib.Omega.{arith}
 use native.Mathlib.Nat.{add-zero}
@@ -8,7 +9,7 @@ use mathlib.Core.List.{List, [], ◌++◌}
 use mathlib.Core.Option.{none, some}
 use lib.ListN.{length, length-append}
 use borrow.Author.Tests.{le-leb}
-use Rattle.le.specs.Le.{if◌then◌else◌, part}
+use Rattle.le.specs.Le.{part}
 use Rattle.le.proofs.Inside.{part-whole}
 use Rattle.guid.specs.Guid.{guidAt, zeros16}
 

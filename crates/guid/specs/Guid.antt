@@ -1,6 +1,6 @@
 -- 01, "Entry layouts": the GUID, if it is flagged and 16 bytes remain; otherwise skipped without moving.
-use Rattle.std.specs.Prelude.{ℕ, ◌+◌, ◌-◌, Bool, true, false, List, leb, length, replicate}
-use Rattle.le.specs.Le.{if◌then◌else◌, part}
+use Rattle.std.specs.Prelude.{ℕ, ◌+◌, ◌-◌, Bool, true, false, List, leb, length, replicate, if◌then◌else◌}
+use Rattle.le.specs.Le.{part}
 use Rattle.guid.specs.declared.Guid.{Guid}
 
 abbrev pub zeros16 : List ℕ

@@ -1,4 +1,5 @@
 -- One turn of each loop over a walk: of its steps, and of what is read off them. Assumes nothing.
+use Rattle.std.specs.Prelude.{if◌then◌else◌}
 use Prim.Native.Nat.{ℕ, zero, suc, ◌+◌, ◌-◌, ◌*◌, ◌<◌, ◌≤◌}
 use native.Mathlib.Nat.{sub-zero, zero-add, add-zero}
 use native.Mathlib.Omega.{arith}
@@ -10,7 +11,7 @@ use lib.Dec.{ltb, leb, eqb}
 use lib.ListN.{length, drop, set, get_or, drop_of_length-le}
 use lib.Seq.{drop-cons}
 use borrow.Author.Tests.{le-leb, lt-leb, lt-ltb, le-ltb, ltb-true, ltb-false, leb-false, eqb-true, eqb-false, eq-eqb, ne_eqb}
-use Rattle.le.specs.Le.{if◌then◌else◌, le2, part}
+use Rattle.le.specs.Le.{le2, part}
 use Rattle.le.specs.Put.{put}
 use Rattle.le.proofs.Laws.{put_one, put_then, length_part, le2-part, part-part, not-both}
 use Rattle.le.proofs.Same.{never, same-so-far}

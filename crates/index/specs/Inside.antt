@@ -1,6 +1,6 @@
 -- What the inner functions answer, and `look_at`, on which salvage stands too.
-use Rattle.std.specs.Prelude.{ℕ, ◌+◌, ◌-◌, Bool, true, false, List, ltb, eqb, length}
-use Rattle.le.specs.Le.{if◌then◌else◌, le2, part}
+use Rattle.std.specs.Prelude.{ℕ, ◌+◌, ◌-◌, Bool, true, false, List, ltb, eqb, length, if◌then◌else◌}
+use Rattle.le.specs.Le.{le2, part}
 use Rattle.names.specs.Near.{endsNear}
 use Rattle.entry.specs.Entry.{claimAt}
 use Rattle.symbol.specs.Symbol.{symbolEntry}

@@ -1,9 +1,8 @@
 // The index of starts, and finding a symbol by name. In the present mode neither reads an entry's sections: its header and the lengths of its strings decide whether it is accepted.
-ghost use Rattle.std.specs.Prelude.{◌≡◌, ◌≤◌, true, false, length};
+ghost use Rattle.std.specs.Prelude.{◌≡◌, ◌≤◌, true, false, length, if◌then◌else◌};
 ghost use Rattle.refusal.specs.Refusal.{limit};
 ghost use Rattle.refusal.specs.Writing.{Writes};
 ghost use Rattle.refusal.specs.Ends.{presentMode, checkedMode};
-ghost use Rattle.le.specs.Le.{if◌then◌else◌};
 ghost use Rattle.entry.specs.Walk.{stands, steps, any};
 ghost use Rattle.walk.specs.Walk.{stepIs};
 ghost use Rattle.index.specs.Steps.{byRecord, accepted, names};

@@ -1,6 +1,5 @@
 -- 01, "Listing": a line ends at LF. Lines of an input that comes in parts.
-use Rattle.std.specs.Prelude.{ℕ, ◌+◌, ◌-◌, ◌≡◌, true, false, List, [], ◌∷◌, ltb, eqb, length, take, drop}
-use Rattle.le.specs.Le.{if◌then◌else◌}
+use Rattle.std.specs.Prelude.{ℕ, ◌+◌, ◌-◌, ◌≡◌, true, false, List, [], ◌∷◌, ltb, eqb, length, take, drop, if◌then◌else◌}
 use Rattle.le.specs.Put.{put}
 use Rattle.lines.specs.declared.Taken.{Taken}
 

@@ -1,4 +1,5 @@
 -- What is cut off a line beyond 32,769 characters makes no difference to what is printed.
+use Rattle.std.specs.Prelude.{if◌then◌else◌}
 use Prim.Native.Nat.{ℕ, ◌+◌, ◌<◌}
 use native.Mathlib.Omega.{arith}
 use mathlib.Core.Path.{◌≡◌, ap}
@@ -7,7 +8,6 @@ use mathlib.Core.List.{List, [], ◌∷◌, ◌++◌}
 use lib.Dec.{eqb}
 use lib.ListN.{length, length-append}
 use borrow.Author.Tests.{lt-ltb}
-use Rattle.le.specs.Le.{if◌then◌else◌}
 use Rattle.digits.specs.Frame.{frame_of}
 use Rattle.lines.specs.Lines.{lineFeed}
 use Rattle.listing.specs.Listing.{frameText, inputText}

@@ -1,4 +1,5 @@
 -- A step moves, the turns of the loop over a frame, and what a line spells.
+use Rattle.std.specs.Prelude.{if◌then◌else◌}
 use Prim.Native.Nat.{ℕ, zero, suc, ◌+◌, ◌-◌, ◌*◌, ◌/◌, ◌%◌, ◌<◌, ◌≤◌}
 use native.Mathlib.Omega.{arith}
 use native.Mathlib.Numerals.{sub-one}
@@ -8,7 +9,7 @@ use mathlib.Core.List.{List, [], ◌∷◌, ◌++◌, append_assoc, append-nil}
 use lib.Dec.{leb, ltb, eqb}
 use lib.ListN.{length}
 use borrow.Author.Tests.{le-ltb, le-leb, lt-leb, eq-eqb, ne_eqb, ltb-true, ltb-false, eqb-true, eqb-false}
-use Rattle.le.specs.Le.{if◌then◌else◌, part}
+use Rattle.le.specs.Le.{part}
 use Rattle.le.specs.Put.{Wrote}
 use Rattle.le.proofs.Laws.{after, same_bytes, wrote_none}
 use Rattle.refusal.specs.declared.Refusal.{Refusal}

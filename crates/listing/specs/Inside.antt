@@ -1,6 +1,5 @@
 -- What the loop over a frame does.
-use Rattle.std.specs.Prelude.{ℕ, zero, suc, Bool, List, [], ◌++◌, leb, length}
-use Rattle.le.specs.Le.{if◌then◌else◌}
+use Rattle.std.specs.Prelude.{ℕ, zero, suc, Bool, List, [], ◌++◌, leb, length, if◌then◌else◌}
 use Rattle.entry.specs.Entry.{claimAt}
 use Rattle.entry.specs.Walk.{stands}
 use Rattle.listing.specs.Listing.{stepText}

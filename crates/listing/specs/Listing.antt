@@ -1,6 +1,6 @@
 -- 01, "Listing": the text that `list` prints, in a mode. The program that 01 asks for is of the present one.
-use Rattle.std.specs.Prelude.{ℕ, ◌+◌, ◌-◌, ◌*◌, ◌/◌, ◌≡◌, Bool, List, [], ◌∷◌, ◌++◌, eqb, length}
-use Rattle.le.specs.Le.{if◌then◌else◌, part}
+use Rattle.std.specs.Prelude.{ℕ, ◌+◌, ◌-◌, ◌*◌, ◌/◌, ◌≡◌, Bool, List, [], ◌∷◌, ◌++◌, eqb, length, if◌then◌else◌}
+use Rattle.le.specs.Le.{part}
 use Rattle.refusal.specs.declared.Refusal.TheVariants.{ZeroEntryLength}
 use Rattle.refusal.specs.Writing.{Writing, Bytes, Refuse, leaves}
 use Rattle.entry.specs.Walk.{steps}

@@ -1,4 +1,5 @@
 -- A member by its number, on the way down: it is the first sub-item, or stands in it, or behind it.
+use Rattle.std.specs.Prelude.{if◌then◌else◌}
 use Prim.Native.Nat.{ℕ, zero, suc, ◌+◌, ◌-◌, ◌<◌, ◌≤◌}
 use native.Mathlib.Omega.{arith}
 use native.Mathlib.Nat.{zero-add}
@@ -9,7 +10,7 @@ use mathlib.Core.List.{List, [], ◌∷◌, ◌++◌, map}
 use lib.Dec.{leb}
 use lib.ListN.{length, length-map, length-append}
 use borrow.Author.Tests.{leb-true, leb-false}
-use Rattle.le.specs.Le.{if◌then◌else◌, le4, part}
+use Rattle.le.specs.Le.{le4, part}
 use Rattle.data_type.specs.DataType.{Member, Tree, Read, Ended, itself, inside, brings, itemsFrom, typeEntry, read_of}
 use Rattle.data_type.specs.Told.{item_at, afterItems, passed}
 use Rattle.data_type.specs.Members.{nth, byNth}

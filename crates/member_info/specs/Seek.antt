@@ -1,6 +1,5 @@
 -- The way to a member, from the root down: what is known at an entry on it, and a member of that entry as one of the root.
-use Rattle.std.specs.Prelude.{ℕ, zero, suc, ◌+◌, ◌-◌, ◌*◌, ◌<◌, ◌≤◌, ◌≡◌, Bool, List, map, leb, length, set}
-use Rattle.le.specs.Le.{if◌then◌else◌}
+use Rattle.std.specs.Prelude.{ℕ, zero, suc, ◌+◌, ◌-◌, ◌*◌, ◌<◌, ◌≤◌, ◌≡◌, Bool, List, map, leb, length, set, if◌then◌else◌}
 use Rattle.refusal.specs.Refusal.{limit}
 use Rattle.refusal.specs.declared.Refusal.TheVariants.{NameNotFound}
 use Rattle.data_type.specs.DataType.{Member, Tree, Read, levels, typeEntry, read_of, byType}

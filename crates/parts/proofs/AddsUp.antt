@@ -1,4 +1,5 @@
 -- The parts of an input, listed one after another, add up to the listing of it.
+use Rattle.std.specs.Prelude.{if◌then◌else◌}
 use Prim.Native.Nat.{ℕ, suc, ◌+◌, ◌<◌, ◌≤◌}
 use native.Mathlib.Omega.{arith}
 use mathlib.Core.Path.{◌≡◌, refl, sym, ap, ◌∙◌}
@@ -8,7 +9,6 @@ use lib.Dec.{ltb, eqb}
 use lib.ListN.{length, take, drop, length-append}
 use lib.Seq.{take_at, length-take-le}
 use borrow.Author.Tests.{lt-ltb, ltb-true, ltb-false}
-use Rattle.le.specs.Le.{if◌then◌else◌}
 use Rattle.le.specs.Put.{put}
 use Rattle.le.proofs.Laws.{length-put}
 use Rattle.lines.specs.Lines.{lineFeed}

@@ -1,4 +1,5 @@
 -- The turns of the listing of a part: each takes the characters up to an LF, or all that are left.
+use Rattle.std.specs.Prelude.{if◌then◌else◌}
 use Prim.Native.Nat.{ℕ, suc, ◌+◌, ◌-◌, ◌*◌, ◌/◌, ◌<◌, ◌≤◌}
 use native.Mathlib.Omega.{arith}
 use native.Mathlib.Nat.{add-zero}
@@ -9,7 +10,6 @@ use lib.Dec.{ltb, eqb}
 use lib.ListN.{length, take, drop, length-append, length-take, length-drop, drop_of_length-le}
 use lib.Seq.{take-nil, drop-drop}
 use borrow.Author.Tests.{ltb-true, ltb-false, eqb-true}
-use Rattle.le.specs.Le.{if◌then◌else◌}
 use Rattle.le.specs.Put.{put, Wrote}
 use Rattle.le.proofs.Laws as le
 use Rattle.refusal.specs.Ends.{presentMode}

@@ -1,6 +1,5 @@
 -- 01, "Listing", of an input that comes in parts: what is printed of each part, what is held after it, and that the parts add up.
-use Rattle.std.specs.Prelude.{ℕ, ◌+◌, ◌*◌, ◌/◌, ◌<◌, ◌≡◌, Bool, List, [], ◌∷◌, ◌++◌, ltb, eqb, length, take}
-use Rattle.le.specs.Le.{if◌then◌else◌}
+use Rattle.std.specs.Prelude.{ℕ, ◌+◌, ◌*◌, ◌/◌, ◌<◌, ◌≡◌, Bool, List, [], ◌∷◌, ◌++◌, ltb, eqb, length, take, if◌then◌else◌}
 use Rattle.le.specs.Put.{put, Wrote}
 use Rattle.refusal.specs.Writing.{leaves}
 use Rattle.digits.specs.Frame.{frame_of}

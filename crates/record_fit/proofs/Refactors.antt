@@ -1,4 +1,5 @@
 -- Refactor records: the bytes of one that stand anywhere are read as it, and a good one is the bytes of what it tells; so the theorems of specs/Refactors.antt on records and blocks.
+use Rattle.std.specs.Prelude.{if◌then◌else◌}
 use Prim.Native.Nat.{ℕ, zero, suc, ◌+◌, ◌-◌, ◌<◌, ◌≤◌}
 use native.Mathlib.Omega.{arith}
 use native.Mathlib.Nat.{add-zero, zero-add}
@@ -10,7 +11,7 @@ use lib.Dec.{ltb, eqb}
 use lib.ListN.{length, get_or, drop, length-append}
 use lib.Seq.{take-append_seam, get_or_at}
 use borrow.Author.Tests.{le-ltb, lt-ltb, ltb-false, eq-eqb, ne_eqb}
-use Rattle.le.specs.Le.{if◌then◌else◌, le2, le4, bytes2, bytes4, has, part, zeroAt}
+use Rattle.le.specs.Le.{le2, le4, bytes2, bytes4, has, part, zeroAt}
 use Rattle.le.proofs.Inside.{getD-inside, le4-inside}
 use Rattle.le.proofs.Laws.{le4-bytes4, length_part, drop-part, zero_is}
 use Rattle.refusal.specs.Refusal.{limit}

@@ -1,6 +1,6 @@
 -- Refactor records: what their writer writes is read back in whatever mode, makes good blocks, and nothing else does; and the chain behind a count is read back.
-use Rattle.std.specs.Prelude.{ℕ, ◌-◌, ◌<◌, ◌≤◌, ◌≡◌, Bool, true, false, List, [], ◌∷◌, map, length, drop}
-use Rattle.le.specs.Le.{if◌then◌else◌, le2, has}
+use Rattle.std.specs.Prelude.{ℕ, ◌-◌, ◌<◌, ◌≤◌, ◌≡◌, Bool, true, false, List, [], ◌∷◌, map, length, drop, if◌then◌else◌}
+use Rattle.le.specs.Le.{le2, has}
 use Rattle.refusal.specs.Asked.{Given, asks}
 use Rattle.refusal.specs.Writing.{Bytes}
 use Rattle.refusal.specs.declared.Refusal.TheVariants.{BadBlock, NoSuchNumber}

@@ -1,4 +1,5 @@
 -- The end bytes of a chain, met one record after another; those of a good block are 0.
+use Rattle.std.specs.Prelude.{if◌then◌else◌}
 use Prim.Native.Nat.{ℕ, zero, suc, ◌+◌, ◌-◌, ◌<◌, ◌≤◌}
 use native.Mathlib.Omega.{arith}
 use native.Mathlib.Numerals.{sub-one}
@@ -9,7 +10,7 @@ use mathlib.Core.List.{List, [], ◌∷◌, ◌++◌}
 use lib.Dec.{ltb}
 use lib.ListN.{length}
 use borrow.Author.Tests.{lt-ltb}
-use Rattle.le.specs.Le.{if◌then◌else◌, le2}
+use Rattle.le.specs.Le.{le2}
 use Rattle.le.proofs.Inside.{getD-inside}
 use Rattle.le.proofs.Laws.{zero_is}
 use Rattle.refusal.specs.Writing.{counted, goodFrom}

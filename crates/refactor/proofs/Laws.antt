@@ -1,4 +1,5 @@
 -- One turn of each recursion over records, and its end; what holds of a record that is read; the bytes of a record.
+use Rattle.std.specs.Prelude.{if◌then◌else◌}
 use Prim.Native.Nat.{ℕ, zero, suc, ◌+◌, ◌-◌, ◌<◌, ◌≤◌}
 use native.Mathlib.Omega.{arith}
 use native.Mathlib.Nat.{zero-add, suc-add}
@@ -9,7 +10,7 @@ use lib.Dec.{ltb}
 use lib.ListN.{length, length-append}
 use borrow.Author.Tests.{le-ltb, ltb-false}
 use Rattle.le.proofs.Tests.{otherwise, is-suc, is_zero}
-use Rattle.le.specs.Le.{if◌then◌else◌, le2, le4, bytes2}
+use Rattle.le.specs.Le.{le2, le4, bytes2}
 use Rattle.refusal.specs.Writing.{Bytes, Next, None}
 use Rattle.refusal.specs.Refusal.{limit}
 use Rattle.refusal.specs.declared.Checked.TheVariants as checked

@@ -1,4 +1,5 @@
 -- The packed count: it keeps within its mask and says whether another follows.
+use Rattle.std.specs.Prelude.{if◌then◌else◌}
 use Prim.Native.Nat.{ℕ, zero, suc, ◌*◌, ◌/◌, ◌%◌, ◌≤◌, min, max}
 use native.Mathlib.Omega.{arith}
 use mathlib.Core.Path.{◌≡◌, sym, ap, ◌∙◌}
@@ -6,7 +7,7 @@ use mathlib.Core.Bool.{Bool, true, false}
 use lib.Bits.{bit_and, bit_or, and_step, or_step, and_zero_r, and_shr, or_shr, and_mask, and_high, or_add_and}
 use lib.Dec.{eqb}
 use borrow.Author.Tests.{eqb-true}
-use Rattle.le.specs.Le.{if◌then◌else◌, has}
+use Rattle.le.specs.Le.{has}
 use Rattle.refactor.specs.Refactor.{mask, follower}
 use Rattle.refactor.specs.Writing.{packedOf}
 

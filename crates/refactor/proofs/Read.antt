@@ -1,4 +1,5 @@
 -- A block of good refactor records that stands anywhere in an entry is a whole chain, and each is found by its number.
+use Rattle.std.specs.Prelude.{if◌then◌else◌}
 use Prim.Native.Nat.{ℕ, zero, suc, ◌+◌, ◌-◌, ◌≤◌}
 use native.Mathlib.Omega.{arith}
 use native.Mathlib.Nat.{add-zero, zero-add}
@@ -9,7 +10,7 @@ use mathlib.Core.List.{List, ◌++◌}
 use lib.Dec.{ltb, eqb}
 use lib.ListN.{length, length-append}
 use borrow.Author.Tests.{le-ltb, lt-ltb, ltb-false, eqb-true}
-use Rattle.le.specs.Le.{if◌then◌else◌, le2, le4, part, zeroAt}
+use Rattle.le.specs.Le.{le2, le4, part, zeroAt}
 use Rattle.le.proofs.Tests.{both}
 use Rattle.le.proofs.Inside.{le2-inside, le4-inside, part-inside}
 use Rattle.refusal.specs.Writing.{Good, Next, None, counted, goodFrom}

@@ -1,4 +1,5 @@
 -- Every record of a chain that is shown lies inside the bytes, and so do the place that is reached and the place of an answer's name.
+use Rattle.std.specs.Prelude.{if◌then◌else◌}
 use Prim.Native.Nat.{ℕ, zero, suc, ◌+◌, ◌-◌, ◌<◌, ◌≤◌}
 use native.Mathlib.Omega.{arith}
 use native.Mathlib.Nat.{zero-add}
@@ -7,7 +8,7 @@ use mathlib.Core.Bool.{Bool, true, false}
 use mathlib.Core.List.{List, [], ◌∷◌}
 use lib.Dec.{ltb}
 use lib.ListN.{length}
-use Rattle.le.specs.Le.{if◌then◌else◌, le2}
+use Rattle.le.specs.Le.{le2}
 use Rattle.le.proofs.Tests.{by-test, each_below}
 use Rattle.refusal.specs.Refusal.{limit}
 use Rattle.refusal.specs.declared.Refusal.{Refusal}

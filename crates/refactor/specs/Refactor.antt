@@ -1,7 +1,7 @@
 -- 01, "Refactor record": packed 4, name length 2, name, end byte. A chain is records up to the first without a follower.
-use Rattle.std.specs.Prelude.{ℕ, zero, suc, ◌+◌, ◌-◌, Bool, List, [], ◌∷◌, ltb, length}
+use Rattle.std.specs.Prelude.{ℕ, zero, suc, ◌+◌, ◌-◌, Bool, List, [], ◌∷◌, ltb, length, if◌then◌else◌}
 use Rattle.std.specs.Int.Bits.{bit_and}
-use Rattle.le.specs.Le.{if◌then◌else◌, le2, le4, has, part}
+use Rattle.le.specs.Le.{le2, le4, has, part}
 use Rattle.refusal.specs.Refusal.{limit}
 use Rattle.refusal.specs.Ends.{endsIn, byChecked}
 use Rattle.refusal.specs.declared.Refusal.{Refusal}

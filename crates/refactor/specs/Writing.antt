@@ -1,8 +1,8 @@
 -- The bytes of a refactor record, and a block of them as the writers take it.
-use Rattle.std.specs.Prelude.{ℕ, ◌+◌, Bool, false, List, [], ◌∷◌, ◌++◌, ltb, eqb, length}
+use Rattle.std.specs.Prelude.{ℕ, ◌+◌, Bool, false, List, [], ◌∷◌, ◌++◌, ltb, eqb, length, if◌then◌else◌}
 use Rattle.std.specs.Bool.{beq}
 use Rattle.std.specs.Int.Bits.{bit_and, bit_or}
-use Rattle.le.specs.Le.{if◌then◌else◌, le4, bytes2, bytes4, zeroAt}
+use Rattle.le.specs.Le.{le4, bytes2, bytes4, zeroAt}
 use Rattle.refusal.specs.Refusal.{limit}
 use Rattle.refusal.specs.Writing.{Writing, Bytes, Refuse, Good, Next, None, goodFrom, exactly, afterCheck}
 use Rattle.refusal.specs.declared.Refusal.TheVariants.{TooLong, TooLarge}

@@ -1,4 +1,5 @@
 -- Where a writer answers that it wrote n bytes, these are the bytes that were to be written, and the buffer begins with them.
+use Rattle.std.specs.Prelude.{if◌then◌else◌}
 use Prim.Native.Nat.{ℕ}
 use native.Mathlib.Omega.{arith}
 use mathlib.Core.Path.{◌≡◌, refl, ap, ◌∙◌}
@@ -7,7 +8,6 @@ use mathlib.Core.List.{List}
 use lib.Dec.{ltb}
 use lib.ListN.{length, take, drop}
 use lib.Seq.{take_at}
-use Rattle.le.specs.Le.{if◌then◌else◌}
 use Rattle.refusal.specs.declared.Refusal.{Refusal}
 use Rattle.refusal.specs.declared.Written.TheVariants.{Done, Refused}
 use Rattle.refusal.specs.Writing.{Writing, Bytes, Refuse, Writes}

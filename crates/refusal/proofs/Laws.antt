@@ -1,4 +1,5 @@
 -- How a writer comes to its promise, and that the promise leaves no choice.
+use Rattle.std.specs.Prelude.{if◌then◌else◌}
 use Prim.Native.Nat.{ℕ, zero, suc, ◌+◌, ◌-◌, ◌<◌, ◌≤◌}
 use native.Mathlib.Omega.{arith}
 use mathlib.Core.Path.{◌≡◌, refl, sym, ap, ap₂, subst, ◌∙◌}
@@ -7,7 +8,6 @@ use mathlib.Core.List.{List}
 use lib.Dec.{eqb}
 use lib.ListN.{length}
 use borrow.Author.Tests.{lt-ltb, le-ltb, eqb-true}
-use Rattle.le.specs.Le.{if◌then◌else◌}
 use Rattle.le.specs.Put.{Wrote}
 use Rattle.le.proofs.Laws.{whole_length, whole_is}
 use Rattle.le.proofs.Tests.{otherwise, is-suc, is_zero}

@@ -1,6 +1,5 @@
 -- What is to be written, whatever buffer is lent, and what a writer then answers and leaves in the buffer.
-use Rattle.std.specs.Prelude.{ℕ, zero, suc, ◌+◌, ◌≡◌, List, ◌++◌, ltb, eqb, length, drop}
-use Rattle.le.specs.Le.{if◌then◌else◌}
+use Rattle.std.specs.Prelude.{ℕ, zero, suc, ◌+◌, ◌≡◌, List, ◌++◌, ltb, eqb, length, drop, if◌then◌else◌}
 use Rattle.refusal.specs.declared.Refusal.{Refusal}
 use Rattle.refusal.specs.declared.Refusal.TheVariants.{OutputTooSmall, BadBlock}
 use Rattle.refusal.specs.declared.Counted.{Counted}

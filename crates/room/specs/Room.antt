@@ -1,6 +1,5 @@
 -- W-206: the slots to set aside for the index of an upload of so many bytes.
-use Rattle.std.specs.Prelude.{ℕ, ◌/◌, ltb}
-use Rattle.le.specs.Le.{if◌then◌else◌}
+use Rattle.std.specs.Prelude.{ℕ, ◌/◌, ltb, if◌then◌else◌}
 use Rattle.refusal.specs.Refusal.{limit}
 use Rattle.refusal.specs.declared.Refusal.TheVariants.{TooLarge}
 use Rattle.room.specs.declared.RoomAnswer.{RoomAnswer}

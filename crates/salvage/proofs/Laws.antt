@@ -1,4 +1,5 @@
 -- One turn of a loop over the pieces of an upload, and its end; how a salvage comes to its promise, and that the promise leaves no choice.
+use Rattle.std.specs.Prelude.{if◌then◌else◌}
 use Prim.Native.Nat.{ℕ, ◌+◌, ◌-◌, ◌<◌, ◌≤◌}
 use native.Mathlib.Omega.{arith}
 use mathlib.Core.Path.{◌≡◌, refl, sym, ap, ap₂, ◌∙◌}
@@ -6,7 +7,7 @@ use mathlib.Core.Bool.{Bool, true, false}
 use mathlib.Core.List.{List, [], ◌∷◌, ◌++◌, map}
 use lib.ListN.{length, length-append}
 use borrow.Author.Tests.{le-ltb, lt-ltb, eqb-false}
-use Rattle.le.specs.Le.{if◌then◌else◌, part}
+use Rattle.le.specs.Le.{part}
 use Rattle.le.specs.Put.{put, Wrote}
 use Rattle.le.proofs.Laws.{whole_length, whole_is, length_part, put_then, put-none}
 use Rattle.refusal.specs.Refusal.{limit}

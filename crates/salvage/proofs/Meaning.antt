@@ -1,4 +1,5 @@
 -- What a salvage means: its pieces cover the upload, and what it keeps is nothing but accepted entries.
+use Rattle.std.specs.Prelude.{if◌then◌else◌}
 use Prim.Native.Nat.{ℕ, zero, suc, ◌+◌, ◌-◌, ◌*◌, ◌<◌, ◌≤◌}
 use native.Mathlib.Omega.{arith}
 use mathlib.Core.Path.{◌≡◌, refl, sym, ap, ap₂, subst, ◌∙◌}
@@ -8,7 +9,7 @@ use lib.Dec.{ltb, leb}
 use lib.ListN.{length, take, drop, length-append, length-take, drop_of_length-le}
 use lib.Seq.{take_at, drop_at}
 use borrow.Author.Tests.{leb-true, leb-false, ltb-false, le-ltb, eqb-true}
-use Rattle.le.specs.Le.{if◌then◌else◌, part}
+use Rattle.le.specs.Le.{part}
 use Rattle.le.proofs.Laws.{not-both, drop-part}
 use Rattle.refusal.specs.Refusal.{limit, figuresOf}
 use Rattle.refusal.specs.declared.Refusal.{Refusal}

@@ -1,4 +1,5 @@
 -- A step before the end that gives no record is refused, and with what.
+use Rattle.std.specs.Prelude.{if◌then◌else◌}
 use Prim.Native.Nat.{ℕ, ◌+◌, ◌-◌, ◌<◌, ◌≤◌}
 use native.Mathlib.Omega.{arith}
 use mathlib.Core.Path.{◌≡◌, refl, sym, subst}
@@ -6,7 +7,7 @@ use mathlib.Core.Bool.{Bool, true, false}
 use mathlib.Core.List.{List}
 use lib.Dec.{ltb}
 use lib.ListN.{length}
-use Rattle.le.specs.Le.{if◌then◌else◌, le2, le4, part}
+use Rattle.le.specs.Le.{le2, le4, part}
 use Rattle.le.proofs.Laws.{not-both}
 use Rattle.refusal.specs.Refusal.{limit, figuresOf}
 use Rattle.refusal.specs.Ends.{endsIn, byChecked}

@@ -1,6 +1,6 @@
 -- W-203: the pieces of an upload, one for each step of its walk, in a mode. What a step gives is kept or dropped.
-use Rattle.std.specs.Prelude.{ℕ, ◌-◌, Bool, List, [], ◌∷◌, ◌++◌, map, length}
-use Rattle.le.specs.Le.{if◌then◌else◌, part}
+use Rattle.std.specs.Prelude.{ℕ, ◌-◌, Bool, List, [], ◌∷◌, ◌++◌, map, length, if◌then◌else◌}
+use Rattle.le.specs.Le.{part}
 use Rattle.refusal.specs.Refusal.{figuresOf}
 use Rattle.refusal.specs.declared.Refusal.TheVariants.{ZeroEntryLength}
 use Rattle.entry.specs.Entry.{claimAt}

@@ -1,6 +1,5 @@
 -- W-203: what a salvage writes.
-use Rattle.std.specs.Prelude.{ℕ, Bool, List, ltb, length}
-use Rattle.le.specs.Le.{if◌then◌else◌}
+use Rattle.std.specs.Prelude.{ℕ, Bool, List, ltb, length, if◌then◌else◌}
 use Rattle.refusal.specs.Refusal.{limit}
 use Rattle.refusal.specs.declared.Refusal.TheVariants.{TooLarge}
 use Rattle.salvage.specs.Both.{Writings, Both, Refuse}

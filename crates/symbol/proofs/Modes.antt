@@ -1,11 +1,12 @@
 -- A symbol in the two modes, by its bytes: proved.
+use Rattle.std.specs.Prelude.{if◌then◌else◌}
 use Prim.Native.Nat.{ℕ, ◌+◌}
 use native.Mathlib.Omega.{arith}
 use mathlib.Core.Path.{◌≡◌, refl, sym, ap, ◌∙◌}
 use mathlib.Core.Bool.{Bool, true, false}
 use mathlib.Core.List.{List, [], ◌++◌}
 use lib.ListN.{get_or}
-use Rattle.le.specs.Le.{if◌then◌else◌, has}
+use Rattle.le.specs.Le.{has}
 use Rattle.refusal.specs.Ends.{checkedMode, endsIn}
 use Rattle.refusal.specs.EndsMeant.{AllZero, none}
 use Rattle.refusal.proofs.EndsMeant.{zero-passes, passed-zero, zero-both, both_zero, ends-meant}

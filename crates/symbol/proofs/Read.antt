@@ -1,4 +1,5 @@
 -- Extended flags that were written where they are flagged, and nothing where they are not, are read back; a whole entry read directly.
+use Rattle.std.specs.Prelude.{if◌then◌else◌}
 use Prim.Native.Nat.{ℕ, ◌+◌, ◌-◌, ◌<◌}
 use native.Mathlib.Omega.{arith}
 use native.Mathlib.Nat.{add-zero}
@@ -7,7 +8,7 @@ use mathlib.Core.Bool.{Bool, true, false}
 use mathlib.Core.List.{List, [], ◌++◌, append-nil}
 use lib.ListN.{length, length-append}
 use borrow.Author.Tests.{le-leb}
-use Rattle.le.specs.Le.{if◌then◌else◌, le4, bytes4}
+use Rattle.le.specs.Le.{le4, bytes4}
 use Rattle.le.proofs.Inside.{le4-inside}
 use Rattle.le.proofs.Laws.{le4-bytes4}
 use Rattle.symbol.specs.Symbol.{extendedAt}

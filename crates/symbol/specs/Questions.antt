@@ -1,6 +1,6 @@
 -- What can be asked of a symbol entry, in a mode: its strings, its attributes by number and by name, and its refactor records by number.
-use Rattle.std.specs.Prelude.{ℕ, ◌+◌, Bool, List, [], ltb}
-use Rattle.le.specs.Le.{if◌then◌else◌, part}
+use Rattle.std.specs.Prelude.{ℕ, ◌+◌, Bool, List, [], ltb, if◌then◌else◌}
+use Rattle.le.specs.Le.{part}
 use Rattle.refusal.specs.declared.Refusal.TheVariants.{NoSuchNumber}
 use Rattle.entry.specs.Entry.{ownBytes}
 use Rattle.attr.specs.Attribute.{attributeNth, attributeNamed}

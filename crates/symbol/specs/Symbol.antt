@@ -1,6 +1,6 @@
 -- 01, "Symbol": a header of 30 bytes, three strings, each with one end byte, then the sections. W-212: the end bytes, which only the checked mode looks at.
-use Rattle.std.specs.Prelude.{ℕ, ◌+◌, ◌-◌, Bool, true, false, List, [], ◌++◌, ltb, leb, length}
-use Rattle.le.specs.Le.{if◌then◌else◌, le2, le4, has, part}
+use Rattle.std.specs.Prelude.{ℕ, ◌+◌, ◌-◌, Bool, true, false, List, [], ◌++◌, ltb, leb, length, if◌then◌else◌}
+use Rattle.le.specs.Le.{le2, le4, has, part}
 use Rattle.refusal.specs.declared.Refusal.{Refusal}
 use Rattle.refusal.specs.declared.Refusal.TheVariants.{TooShort, EntryLengthMismatch}
 use Rattle.refusal.specs.Ends.{endsIn, byChecked}

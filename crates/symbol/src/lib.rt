@@ -1,6 +1,6 @@
 // A symbol entry's own bytes, read. Crate symbol_info offers the direct parse and what can be asked of an entry.
-ghost use Rattle.std.specs.Prelude.{◌≡◌, ◌≤◌, [], ◌++◌, length};
-ghost use Rattle.le.specs.Le.{if◌then◌else◌, le2, has};
+ghost use Rattle.std.specs.Prelude.{◌≡◌, ◌≤◌, [], ◌++◌, length, if◌then◌else◌};
+ghost use Rattle.le.specs.Le.{le2, has};
 ghost use Rattle.refusal.specs.Ends.{checkedMode, endsMet, byChecked};
 ghost use Rattle.attr.specs.Attribute.{attributeEnds};
 ghost use Rattle.refactor.specs.Refactor.{chainEnds};

@@ -1,11 +1,11 @@
 -- Two fit symbols that mean the same are written as the same bytes.
+use Rattle.std.specs.Prelude.{if◌then◌else◌}
 use Prim.Native.Nat.{ℕ}
 use native.Mathlib.Omega.{arith}
 use mathlib.Core.Path.{◌≡◌, refl, ap, ◌∙◌}
 use mathlib.Core.Bool.{Bool, true, false}
 use mathlib.Core.List.{List}
 use mathlib.Core.Option.{none, some}
-use Rattle.le.specs.Le.{if◌then◌else◌}
 use Rattle.flags.specs.declared.symbol_flags.AdsSymbol2Flags.{AdsSymbol2Flags}
 use Rattle.refactor.proofs.Read.{beq}
 use Rattle.symbol.specs.Symbol.{typeGuid, extendedFlags}

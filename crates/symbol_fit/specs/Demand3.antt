@@ -1,7 +1,6 @@
 -- Demand 3 for symbols, stated: fit symbols, written one after another, each entry grown by any bytes at its end, come back from the walk, in whatever mode.
-use Rattle.std.specs.Prelude.{ℕ, ◌<◌, ◌≡◌, Bool, List, map, length, take}
+use Rattle.std.specs.Prelude.{ℕ, ◌<◌, ◌≡◌, Bool, List, map, length, take, if◌then◌else◌}
 use Rattle.std.proofs.Math.Option.{none, some}
-use Rattle.le.specs.Le.{if◌then◌else◌}
 use Rattle.refusal.specs.Asked.{Given}
 use Rattle.refusal.specs.Writing.{Bytes, Writes}
 use Rattle.refusal.specs.declared.Written.TheVariants.{Done}

@@ -1,7 +1,7 @@
 -- 01, "Writing": the symbol writer.
-use Rattle.std.specs.Prelude.{ℕ, ◌+◌, Bool, true, false, List, [], ◌++◌, ltb, eqb, length}
+use Rattle.std.specs.Prelude.{ℕ, ◌+◌, Bool, true, false, List, [], ◌++◌, ltb, eqb, length, if◌then◌else◌}
 use Rattle.std.specs.Bool.{beq}
-use Rattle.le.specs.Le.{if◌then◌else◌, bytes2, bytes4, has}
+use Rattle.le.specs.Le.{bytes2, bytes4, has}
 use Rattle.refusal.specs.Writing.{Writing, afterCheck}
 use Rattle.refusal.specs.declared.Refusal.TheVariants.{SectionsDisagree}
 use Rattle.refusal.specs.declared.Checked.{Checked}

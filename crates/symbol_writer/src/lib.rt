@@ -1,6 +1,5 @@
 // Symbol entries, written into a lent buffer. The Rust has no symbol writer; 01's "Writing" decides.
-ghost use Rattle.std.specs.Prelude.{◌≡◌, true, ◌+◌, ◌≤◌, length};
-ghost use Rattle.le.specs.Le.{if◌then◌else◌};
+ghost use Rattle.std.specs.Prelude.{◌≡◌, true, ◌+◌, ◌≤◌, length, if◌then◌else◌};
 ghost use Rattle.le.specs.Put.{Wrote};
 ghost use Rattle.refusal.specs.Writing.{Writes};
 ghost use Rattle.symbol.specs.Symbol.{attributes};

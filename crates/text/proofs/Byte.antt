@@ -1,4 +1,5 @@
 -- The byte of a code point: laws of the search, and the rule of the table. Assumes nothing.
+use Rattle.std.specs.Prelude.{if◌then◌else◌}
 use mathlib.Core.Path.{◌≡◌, refl, sym, ap, ◌∙◌}
 use mathlib.Core.Logic.{◌⊎◌, inl, inr, ⊎_elim}
 use mathlib.Core.List.{List, [], ◌∷◌}
@@ -10,7 +11,6 @@ use native.Mathlib.Omega.{arith}
 use lib.Dec.{T, ltb, leb, eqb, ltb→lt, leb→le, eqb→eq}
 use lib.ListN.{length, get_or, length-append}
 use borrow.Author.Tests.{le-ltb, eq-eqb, ne_eqb, eqb-true}
-use Rattle.le.specs.Le.{if◌then◌else◌}
 use Rattle.text.proofs.Table.{both, both_left, both_right, at}
 use Rattle.text.proofs.Utf8.{le-or-lt, utf8-most}
 use Rattle.text.proofs.Laws.{point-low, point-mid, point-high}

@@ -1,4 +1,5 @@
 -- The decoder of UTF-8 gives exactly what the encoder makes: a scalar value, and no other, at the front of its own bytes. Assumes nothing.
+use Rattle.std.specs.Prelude.{if◌then◌else◌}
 use mathlib.Core.Path.{◌≡◌, refl, sym, ap, ◌∙◌, subst}
 use mathlib.Core.Logic.{◌⊎◌, inl, inr, ⊎_elim}
 use mathlib.Core.List.{List, [], ◌∷◌, ◌++◌}
@@ -9,7 +10,6 @@ use native.Mathlib.Omega.{arith}
 use lib.Dec.{leb, eqb}
 use lib.ListN.{length, drop}
 use borrow.Author.Tests.{le-leb, leb-true, eqb-true, eqb-false}
-use Rattle.le.specs.Le.{if◌then◌else◌}
 use Rattle.text.proofs.Utf8.{le-or-lt, utf8-1, utf8-2, utf8-3, utf8-4, lead-1, lead-2, lead-3, lead-4, lead_low, lead-over}
 use Rattle.text.specs.Utf8.{utf8, following, scalarOf}
 use Rattle.text.specs.declared.Scalar.TheVariants.{Point, Bad}

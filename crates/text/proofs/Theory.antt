@@ -1,4 +1,5 @@
 -- There and back gives the same bytes, back and there the same text. Assumes nothing.
+use Rattle.std.specs.Prelude.{if◌then◌else◌}
 use mathlib.Core.Path.{◌≡◌, refl, sym, ap, ◌∙◌}
 use mathlib.Core.Logic.{inl}
 use mathlib.Core.List.{List, [], ◌∷◌, ◌++◌}
@@ -9,7 +10,6 @@ use lib.Dec.{ltb}
 use lib.ListN.{length, drop, get_or, length-append}
 use lib.Seq.{drop-append_seam}
 use borrow.Author.Tests.{ltb-false}
-use Rattle.le.specs.Le.{if◌then◌else◌}
 use Rattle.refusal.specs.Refusal.{limit}
 use Rattle.refusal.specs.Writing.{Writing, Bytes, Refuse}
 use Rattle.refusal.specs.declared.Refusal.TheVariants.{TooLarge, BadText}

@@ -1,4 +1,5 @@
 -- Laws of the encoder and the decoder of UTF-8. Assumes nothing.
+use Rattle.std.specs.Prelude.{if◌then◌else◌}
 use mathlib.Core.Path.{◌≡◌, refl, ap}
 use mathlib.Core.Logic.{◌⊎◌, inl, inr, ⊎_elim}
 use mathlib.Core.List.{List, [], ◌∷◌}
@@ -9,7 +10,6 @@ use lib.Dec.{eqb}
 use lib.ListN.{length, drop, get_or, drop_of_length-le}
 use lib.Seq.{drop-cons}
 use borrow.Author.Tests.{lt-ltb, le-ltb, le-leb, lt-leb}
-use Rattle.le.specs.Le.{if◌then◌else◌}
 use Rattle.text.specs.Utf8.{utf8, within, following, scalarOf}
 use Rattle.text.specs.declared.Scalar.TheVariants.{Point, Bad}
 

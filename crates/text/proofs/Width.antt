@@ -1,4 +1,5 @@
 -- How many bytes the text of a byte takes, by comparisons: one test that antt computes for all bytes. Assumes nothing.
+use Rattle.std.specs.Prelude.{if◌then◌else◌}
 use mathlib.Core.Path.{◌≡◌, ◌∙◌}
 use mathlib.Core.Bool.{Bool}
 use Prim.Native.Nat.{ℕ, ◌+◌, ◌≤◌, ◌<◌}
@@ -6,7 +7,6 @@ use native.Mathlib.Omega.{arith}
 use lib.Dec.{eqb, eqb→eq}
 use lib.Bits.{bit_and}
 use lib.ListN.{length}
-use Rattle.le.specs.Le.{if◌then◌else◌}
 use Rattle.text.proofs.Table.{below_at}
 use Rattle.text.proofs.Utf8.{utf8-most}
 use Rattle.text.proofs.Byte.{own}

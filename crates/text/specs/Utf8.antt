@@ -1,6 +1,5 @@
 -- UTF-8 as the Encoding Standard has it: its encoder, and its decoder at the front of a list of bytes.
-use Rattle.std.specs.Prelude.{Bool, false, List, [], ◌∷◌, ℕ, zero, suc, ◌+◌, ◌*◌, ◌/◌, ◌%◌, ltb, leb, eqb}
-use Rattle.le.specs.Le.{if◌then◌else◌}
+use Rattle.std.specs.Prelude.{Bool, false, List, [], ◌∷◌, ℕ, zero, suc, ◌+◌, ◌*◌, ◌/◌, ◌%◌, ltb, leb, eqb, if◌then◌else◌}
 use Rattle.text.specs.declared.Scalar.{Scalar}
 use Rattle.text.specs.declared.Scalar.TheVariants.{Point, Bad}
 

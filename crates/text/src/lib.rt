@@ -1,9 +1,8 @@
 // Windows-1252 bytes to UTF-8 text and back, into a lent buffer. The Rust's calls of encoding_rs.
 #![tactic(auto)]
 
-ghost use Rattle.std.specs.Prelude.{◌≡◌, ℕ, ◌+◌, ◌≤◌, ◌<◌, length, take, drop, get_or, eqb};
+ghost use Rattle.std.specs.Prelude.{◌≡◌, ℕ, ◌+◌, ◌≤◌, ◌<◌, length, take, drop, get_or, eqb, if◌then◌else◌};
 ghost use Rattle.std.specs.Int.Bits.{bit_and};
-ghost use Rattle.le.specs.Le.{if◌then◌else◌};
 ghost use Rattle.le.specs.Put.{Wrote};
 ghost use Rattle.refusal.specs.Refusal.{limit};
 ghost use Rattle.refusal.specs.Writing.{Writes, Bytes};

@@ -1,4 +1,5 @@
 -- Exactly what stands as the layout says is read: proved.
+use Rattle.std.specs.Prelude.{if◌then◌else◌}
 use Prim.Native.Nat.{ℕ, zero, suc, ◌+◌, ◌-◌, ◌<◌, ◌≤◌}
 use native.Mathlib.Omega.{arith}
 use native.Mathlib.Numerals.{sub-one}
@@ -7,7 +8,7 @@ use mathlib.Core.Bool.{Bool}
 use mathlib.Core.List.{List, [], ◌++◌}
 use lib.ListN.{length}
 use borrow.Author.Tests.{le-ltb, ne_eqb}
-use Rattle.le.specs.Le.{if◌then◌else◌, le2, le4, part}
+use Rattle.le.specs.Le.{le2, le4, part}
 use Rattle.le.proofs.Laws.{length_part}
 use Rattle.refusal.specs.Refusal.{limit, deepest}
 use Rattle.entry.specs.Entry.{directClaim}

@@ -1,7 +1,7 @@
 -- W-202: what the members of a data type that is read are, by its bytes, and that all ways to ask for them tell the same.
-use Rattle.std.specs.Prelude.{ℕ, ◌+◌, ◌*◌, ◌<◌, ◌≤◌, ◌≡◌, Bool, List, [], ◌∷◌, eqb, length, take, drop}
+use Rattle.std.specs.Prelude.{ℕ, ◌+◌, ◌*◌, ◌<◌, ◌≤◌, ◌≡◌, Bool, List, [], ◌∷◌, eqb, length, take, drop, if◌then◌else◌}
 use Rattle.std.proofs.Math.Option.{some}
-use Rattle.le.specs.Le.{if◌then◌else◌, le2, le4, part}
+use Rattle.le.specs.Le.{le2, le4, part}
 use Rattle.refusal.specs.Refusal.{deepest}
 use Rattle.refusal.specs.Ends.{presentMode, checkedMode}
 use Rattle.refusal.specs.Writing.{Bytes}

@@ -1,6 +1,5 @@
 -- What the writers' calls make of what is lent: records from numbers, and a GUID from bytes.
-use Rattle.std.specs.Prelude.{ℕ, Bool, true, List, eqb}
-use Rattle.le.specs.Le.{if◌then◌else◌}
+use Rattle.std.specs.Prelude.{ℕ, Bool, true, List, eqb, if◌then◌else◌}
 use Rattle.refusal.specs.declared.Refusal.TheVariants.{UnexpectedLength}
 use Rattle.refusal.specs.declared.Checked.{Checked}
 use Rattle.refusal.specs.declared.Checked.TheVariants.{Passed, Refused}

@@ -1,7 +1,7 @@
 -- What a step over an upload of symbols tells, in a mode: its record, and everything that can be asked of the bytes of its entry.
-use Rattle.std.specs.Prelude.{ℕ, ◌-◌, Bool, List}
+use Rattle.std.specs.Prelude.{ℕ, ◌-◌, Bool, List, if◌then◌else◌}
 use Rattle.std.proofs.Math.Option.{Option, none, some}
-use Rattle.le.specs.Le.{if◌then◌else◌, part}
+use Rattle.le.specs.Le.{part}
 use Rattle.refusal.specs.Refusal.{figuresOf}
 use Rattle.refusal.specs.Asked.{Asked, asks}
 use Rattle.entry.specs.Entry.{ownBytes}

@@ -1,4 +1,5 @@
 -- What a passed check tells, the lengths of what is written, and an entry whose claim was written first.
+use Rattle.std.specs.Prelude.{if◌then◌else◌}
 use Prim.Native.Nat.{ℕ, ◌+◌, ◌≤◌}
 use native.Mathlib.Omega.{arith}
 use mathlib.Core.Path.{◌≡◌, refl, sym, ap, subst, ◌∙◌}
@@ -7,7 +8,7 @@ use mathlib.Core.List.{List, ◌++◌}
 use lib.Dec.{ltb}
 use lib.ListN.{length, length-append}
 use borrow.Author.Tests.{le-ltb, ltb-true, ltb-false}
-use Rattle.le.specs.Le.{if◌then◌else◌, bytes4}
+use Rattle.le.specs.Le.{bytes4}
 use Rattle.le.specs.Put.{Wrote}
 use Rattle.le.proofs.Tests.{otherwise}
 use Rattle.refusal.specs.Refusal.{limit}

@@ -1,6 +1,6 @@
 -- What the writers of both kinds of entry share: three strings and their lengths, and the attributes.
-use Rattle.std.specs.Prelude.{ℕ, ◌+◌, ◌≤◌, Bool, List, [], ◌∷◌, ◌++◌, ltb, length}
-use Rattle.le.specs.Le.{if◌then◌else◌, bytes2, bytes4}
+use Rattle.std.specs.Prelude.{ℕ, ◌+◌, ◌≤◌, Bool, List, [], ◌∷◌, ◌++◌, ltb, length, if◌then◌else◌}
+use Rattle.le.specs.Le.{bytes2, bytes4}
 use Rattle.refusal.specs.Refusal.{limit}
 use Rattle.refusal.specs.Writing.{Writing, Bytes, Refuse}
 use Rattle.refusal.specs.declared.Refusal.TheVariants.{TooLong, TooLarge, OutputTooSmall}

@@ -1,9 +1,10 @@
+use Rattle.std.specs.Prelude.{if◌then◌else◌}
 use native.Mathlib.Omega.{arith}
 use borrow.Author.Rules.{rules}
 use mathlib.Core.Path.{◌≡◌, ◌∙◌, sym, refl}
 use mathlib.Core.Bool.{false}
 use Prim.Native.Nat.{◌-◌, ◌≤◌}
-use Rattle.le.specs.Le.{if◌then◌else◌, part}
+use Rattle.le.specs.Le.{part}
 use Rattle.le.proofs.Same.{same-so-far}
 use Rattle.names.specs.Near.{low, near}
 use Rattle.names.proofs.Runs.{low-0, run_from, run-near, run-turn, run_end}

@@ -1,6 +1,7 @@
+use Rattle.std.specs.Prelude.{if◌then◌else◌}
 use mathlib.Core.Path.{sym, ◌∙◌}
 use mathlib.Core.List.{[]}
-use Rattle.le.specs.Le.{if◌then◌else◌, has}
+use Rattle.le.specs.Le.{has}
 use Rattle.refusal.proofs.Ends.{ends-after}
 use Rattle.attr.specs.Attribute.{attributeEnds}
 use Rattle.refactor.specs.Refactor.{chainEnds}

@@ -1,0 +1,27 @@
+use Rattle.std.proofs.Common.{sym, ap, ◌∙◌, ℕ, List, arith, add-zero}
+use Rattle.refusal.specs.declared.Written.TheVariants.{Done}
+use Rattle.text.proofs.Back.{char-low, encoded-end, encoded-wrong, counting-turn}
+use Rattle.text.specs.Text.{counted}
+use Rattle.text.proofs.encoded_length.Goals as goal
+
+pub loop-at-preserved-then-src-at-lt128 : goal.loop-at-preserved-then-src-at-lt128
+loop-at-preserved-then-src-at-lt128 c = (counting-turn c.loop-at.invariant (char-low _ _ c.loop-at-test.true c.if-src-at-lt128.true)).more
+
+pub loop-at-preserved-then-latin_at-ne0 : goal.loop-at-preserved-then-latin_at-ne0
+loop-at-preserved-then-latin_at-ne0 c = (counting-turn c.loop-at.invariant (c.latin_at.ensures c.if-latin_at-ne0.true)).more
+
+pub overflow_add-at-in-Is : goal.overflow_add-at-in-Is
+overflow_add-at-in-Is c = ?
+
+pub loop-at-smaller : goal.loop-at-smaller
+loop-at-smaller c = ?
+
+pub loop-at-preserved : goal.loop-at-preserved
+loop-at-preserved c = ?
+
+pub returns-in-Wrong : goal.returns-in-Wrong
+returns-in-Wrong c = ?
+
+pub returns : goal.returns
+returns c =
+    sym (ap (counted c.loop-at.n) (encoded-end c.args.src.now c.loop-at.at c.loop-at-test.false) ∙ ap Done (add-zero c.loop-at.n)) ∙ c.loop-at.invariant.left
