@@ -1,4 +1,4 @@
-use Rattle.std.proofs.Common.{◌≡◌, ◌+◌, sym, ◌∙◌, arith, length-set}
+use Rattle.std.proofs.Common.{◌≡◌, sym, ◌∙◌, arith, length-set}
 use Rattle.std.proofs.Math.Seq.{take_all}
 use Rattle.le.proofs.Laws.{part-more}
 use Rattle.guid.proofs.sixteen.Goals as goal
