@@ -19,7 +19,6 @@ use Rattle.refactor.specs.declared.AdsRefactorInfo.{AdsRefactorInfo}
 use Rattle.refactor.specs.declared.RefactorAnswer.{RefactorAnswer}
 use Rattle.refactor.specs.declared.RefactorAnswer.TheVariants.{Record, Refused}
 use Rattle.refactor.specs.declared.Chain.{Chain}
-use Rattle.refactor.specs.declared.ChainAnswer.{ChainAnswer}
 use Rattle.refactor.specs.declared.ChainAnswer.TheVariants as chain
 use Rattle.refactor.specs.Refactor.{refactorAt, byRefactor, end_of, refactorRead, chainAt, chainEndsFrom, chainEnds, chainRead, refactorNth}
 use Rattle.refactor.specs.Modes.{Ended, ChainEnded, RefactorsModes, ChainsModes}
