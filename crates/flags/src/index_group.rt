@@ -4,7 +4,7 @@ ghost use Rattle.le.specs.Le.{le4, bytes4};
 
 use crate::bytes_of_u32;
 
-#[derive(Drop)]
+#[derive(Clone, Copy)]
 pub struct IndexGroup(pub u32);
 
 impl IndexGroup {

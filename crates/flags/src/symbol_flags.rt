@@ -6,7 +6,7 @@ ghost use Rattle.flags.specs.Flags.{symbolFlagsFrom, symbol2FlagsFrom};
 use crate::bytes_of_u32;
 use refusal::{LIMIT, Refusal};
 
-#[derive(Drop)]
+#[derive(Clone, Copy)]
 pub struct AdsSymbolFlags(pub u16);
 
 #[derive(Drop)]
@@ -166,7 +166,7 @@ impl AdsSymbolFlags {
     }
 }
 
-#[derive(Drop)]
+#[derive(Clone, Copy)]
 pub struct AdsSymbol2Flags(pub u32);
 
 #[derive(Drop)]

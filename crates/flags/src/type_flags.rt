@@ -6,7 +6,7 @@ ghost use Rattle.flags.specs.Flags.{typeFlagsFrom};
 use crate::bytes_of_u32;
 use refusal::{LIMIT, Refusal};
 
-#[derive(Drop)]
+#[derive(Clone, Copy)]
 pub struct AdsTypeFlags(pub u32);
 
 #[derive(Drop)]
