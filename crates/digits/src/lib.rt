@@ -1,4 +1,6 @@
 // Numbers and bytes as text, and hexadecimal lines as bytes. What `list` prints and reads.
+#![tactic(auto, unfolding(crate::specs::Text::decimal, crate::specs::Text::glyph, crate::specs::Text::hex, crate::specs::Text::field, crate::specs::Frame::value_of, crate::specs::Frame::frame_of))]
+
 ghost use Rattle.std.specs.Prelude.{◌≡◌, true, ◌∷◌, [], ◌+◌, ◌*◌, ◌/◌, ◌≤◌, ◌<◌, length};
 ghost use Rattle.le.specs.Put.{Wrote};
 ghost use Rattle.refusal.specs.Writing.{Writes};
