@@ -1,4 +1,6 @@
 // Refactor records that stand alone, and chains of them, read and written. The Rust's refactor_info.rs; crate refactor has what stands below, and the record.
+#![tactic(auto, unfolding(refusal::specs::Ends::endsIn, refactor::specs::Refactor::refactorRead, refactor::specs::Refactor::chainRead, refactor::specs::Refactor::chainNth, refactor::specs::Writing::packedOf, refactor::specs::Writing::refactorWriting, refactor::specs::Writing::blockWriting))]
+
 ghost use Rattle.std.specs.Prelude.{◌≡◌, ◌+◌};
 ghost use Rattle.le.specs.Place.{Behind};
 ghost use Rattle.refactor.specs.Refactor.{refactorRead, nameIn, name_at, chainEnds, chainRead, chainNth};
