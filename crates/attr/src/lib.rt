@@ -257,6 +257,7 @@ fn ends_zero(s: &[u8], a: AdsAttribute) -> bool
 }
 
 // Good records at a block's start, at most so many.
+#[tactic(auto, unfolding(refusal::specs::Writing::goodFrom, crate::specs::Writing::goodAttribute))]
 fn good_from(s: &[u8], count: usize) -> Counted
     ensures { result ≡ goodFrom (goodAttribute s.now) 0 0 count }
 {
