@@ -16,7 +16,7 @@ use Rattle.le.proofs.Inside.{getD-inside, le4-inside}
 use Rattle.le.proofs.Laws.{le4-bytes4, length_part, drop-part, zero_is}
 use Rattle.refusal.specs.Refusal.{limit}
 use Rattle.refusal.specs.Asked.{Given}
-use Rattle.refusal.specs.Writing.{Next, None, goodFrom, exactly}
+use Rattle.refusal.specs.Writing.{Good, Next, None, goodFrom, exactly}
 use Rattle.refusal.specs.declared.Refusal.TheVariants.{BadBlock}
 use Rattle.refusal.specs.declared.Counted.{Counted}
 use Rattle.refusal.specs.declared.Checked.TheVariants as checked
@@ -262,21 +262,29 @@ chain-placed (f ∷ next ∷ rest) (more h hs) e =
     let l : 0 < length (chainWritten (next ∷ rest)) = rw (chain_length (next ∷ rest)) (omega arith) in
     blocks.more (record { sound = sound f true h; rightly = sym (lt-ltb 0 (length (chainWritten (next ∷ rest))) l) }) (chain-placed (next ∷ rest) hs e)
 
+-- one turn of counting good records, at one that is good and at one that is not
+good-next : (goodAt : ℕ → ℕ → Good) (at g left n : ℕ) → goodAt at left ≡ Next n → goodFrom goodAt at g (suc left) ≡ goodFrom goodAt n (g + 1) left
+unfolding goodFrom
+good-next goodAt at g left n e = simp e
+
+good-stop : (goodAt : ℕ → ℕ → Good) (at g left : ℕ) → goodAt at left ≡ None → (goodFrom goodAt at g (suc left)).good ≡ g
+unfolding goodFrom
+good-stop goodAt at g left e = simp e
+
 -- a chain whose last count has the follower's bit: all but the last are good
 good-but-last : (p : List ℕ) (fs : List Former) (g : ℕ) → Each Fits fs → has (lastCount fs) follower ≡ true → (goodFrom (goodRefactor (p ++ chainBlock fs)) (length p) g (length fs)).good ≡ g + (length fs - 1)
-unfolding goodFrom chainBlock lastCount
+unfolding chainBlock lastCount
 good-but-last p [] g none e = absurd (let z : ◌≡◌ {A = ℕ} 0 1 = cc in omega arith)
 good-but-last p (f ∷ []) g (more h none) e =
-    let bs : List ℕ = refactorBytes (packedOf f.count false) f.name in
     let b : beq (has (packedOf f.count false) follower) (ltb 0 0) ≡ false = rw (told-follower f.count false ∙ e) refl in
     let n = good-by-follower (packedOf f.count false) f.name (within-mask f.count false) h.name p [] 0 in
-    simp (rw append-nil at n, b, add-zero)
+    good-stop (goodRefactor (p ++ chainBlock (f ∷ []))) (length p) g 0 (rw append-nil at n ∙ simp b) ∙ omega arith
 good-but-last p (f ∷ next ∷ rest) g (more h hs) e =
     let bs : List ℕ = refactorBytes (packedOf f.count true) f.name in
     let b : beq (has (packedOf f.count true) follower) (ltb 0 (length (next ∷ rest))) ≡ true = rw (told-follower f.count true, lt-ltb 0 (length (next ∷ rest)) (omega arith)) refl in
     let n = good-by-follower (packedOf f.count true) f.name (within-mask f.count true) h.name p (chainBlock (next ∷ rest)) (length (next ∷ rest)) in
     let ih = simp (append_assoc, length-append) at (good-but-last (p ++ bs) (next ∷ rest) (g + 1) hs e) in
-    simp (n, b) (ih ∙ omega arith)
+    ap (λ (c : Counted). c.good) (good-next (goodRefactor (p ++ chainBlock (f ∷ next ∷ rest))) (length p) g (length (next ∷ rest)) (length p + length bs) (n ∙ simp b)) ∙ ih ∙ omega arith
 
 one-short : (count size : ℕ) (found : Counted) → 0 < count → found.good ≡ count - 1 → exactly count found size ≡ checked.Refused (BadBlock count (count - 1))
 unfolding exactly
