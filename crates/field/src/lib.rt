@@ -1,4 +1,6 @@
 // A field entry's own bytes, read. Crate field_info offers the direct parse and what can be asked of an entry.
+#![tactic(auto, unfolding(crate::specs::Field::stringsEnd, crate::specs::Field::itemsEnd, crate::specs::Field::maskEnd, crate::specs::Field::methodsEnd, crate::specs::Field::attributesAfter, crate::specs::Field::infoOf, crate::specs::Field::tailOf, crate::specs::Field::fieldWith, crate::specs::Field::frontOf, crate::specs::Field::fieldEntry, refusal::specs::Ends::endsIn))]
+
 ghost use Rattle.std.specs.Prelude.{◌≡◌, ◌≤◌, length};
 ghost use Rattle.le.specs.Le.{le2};
 ghost use Rattle.refusal.specs.Ends.{endsIn, byChecked};
@@ -199,15 +201,15 @@ fn tail_of(e: &[u8], at: usize, checked: bool) -> Tail
     let flags = AdsTypeFlags(le::u32_at(e, 28));
     let guid = guid::guid_at(e, at, flags.has_type_guid());
     let found = attributes_after(e, guid.next, flags);
-    let list = found.list;
+    let attributes = Shown {
+        first: found.first,
+        count: found.list.shown,
+    };
     let bytes = guid.bytes;
     Tail {
         has_guid: guid.here,
         guid: bytes,
-        attributes: Shown {
-            first: found.first,
-            count: list.shown,
-        },
+        attributes,
         fault: fault_of(e, found, checked),
     }
 }
