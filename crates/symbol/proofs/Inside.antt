@@ -122,9 +122,9 @@ either_way : (t : SymbolAnswer) (r : SymbolRead) → bySymbol t (λ info. r) (λ
 either_way (Record info) r = refl
 either_way (Refused why) r = refl
 
-pub present-is : (e : List ℕ) → symbolEntry presentMode e ≡ symbolPresent e
+pub present_is : (e : List ℕ) → symbolEntry presentMode e ≡ symbolPresent e
 unfolding symbolEntry endsIn
-present-is e = either_way (symbolPresent e).answer (symbolPresent e)
+present_is e = either_way (symbolPresent e).answer (symbolPresent e)
 
 pub symbols-inside : SymbolsInside
 symbols-inside mode e info h =

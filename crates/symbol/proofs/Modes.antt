@@ -1,11 +1,10 @@
 -- A symbol in the two modes, by its bytes: proved.
 use Rattle.std.specs.Prelude.{if◌then◌else◌}
-use Prim.Native.Nat.{ℕ, ◌+◌}
+use Prim.Native.Nat.{ℕ}
 use native.Mathlib.Omega.{arith}
 use mathlib.Core.Path.{◌≡◌, refl, sym, ap, ◌∙◌}
 use mathlib.Core.Bool.{Bool, true, false}
 use mathlib.Core.List.{List, [], ◌++◌}
-use lib.ListN.{get_or}
 use Rattle.le.specs.Le.{has}
 use Rattle.refusal.specs.Ends.{checkedMode, endsIn}
 use Rattle.refusal.specs.EndsMeant.{AllZero, none}
@@ -21,7 +20,7 @@ use Rattle.symbol.specs.declared.AdsSymbolInfo.{AdsSymbolInfo}
 use Rattle.symbol.specs.declared.SymbolAnswer.TheVariants.{Record, Refused}
 use Rattle.symbol.specs.Symbol.{refactorInfo, symbolPresent, symbolEnds, symbolEntry}
 use Rattle.symbol.specs.Modes.{Ended, SymbolsModes}
-use Rattle.symbol.proofs.Inside.{accepted, present-is}
+use Rattle.symbol.proofs.Inside.{accepted, present_is}
 
 -- a chain, if it is flagged
 flagged-ended : (e : List ℕ) (at : ℕ) (b : Bool) → AllZero e (if b then chainEnds e at else []) → b ≡ true → refactor.ChainEnded e at
@@ -65,8 +64,8 @@ module _ (e : List ℕ) (r : AdsSymbolInfo) where
 pub symbols-modes : SymbolsModes
 unfolding symbolEntry endsIn
 symbols-modes e = record {
-  ended = λ r h. let a = accepted checkedMode e r h in (ended e r (passed-zero e (symbolEnds e r) a.ends), present-is e ∙ sym a.same);
-  refused-alike = λ why h. let p : (symbolPresent e).answer ≡ Refused why = sym (ap (λ x. x.answer) (present-is e)) ∙ h in simp p;
-  agree = λ r h z. let p : (symbolPresent e).answer ≡ Record r = sym (ap (λ x. x.answer) (present-is e)) ∙ h in simp p (simp (zero-passes (all-zero e r z)));
-  first = λ r at h f. let p : (symbolPresent e).answer ≡ Record r = sym (ap (λ x. x.answer) (present-is e)) ∙ h in simp p (simp ((ends-meant e (symbolEnds e r)).refuses at f));
+  ended = λ r h. let a = accepted checkedMode e r h in (ended e r (passed-zero e (symbolEnds e r) a.ends), present_is e ∙ sym a.same);
+  refused-alike = λ why h. let p : (symbolPresent e).answer ≡ Refused why = sym (ap (λ x. x.answer) (present_is e)) ∙ h in simp p;
+  agree = λ r h z. let p : (symbolPresent e).answer ≡ Record r = sym (ap (λ x. x.answer) (present_is e)) ∙ h in simp p (simp (zero-passes (all-zero e r z)));
+  first = λ r at h f. let p : (symbolPresent e).answer ≡ Record r = sym (ap (λ x. x.answer) (present_is e)) ∙ h in simp p (simp ((ends-meant e (symbolEnds e r)).refuses at f));
 }

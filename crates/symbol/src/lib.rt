@@ -1,4 +1,6 @@
 // A symbol entry's own bytes, read. Crate symbol_info offers the direct parse and what can be asked of an entry.
+#![tactic(auto, unfolding(crate::specs::Symbol::extendedAt, crate::specs::Symbol::sectionsOf, crate::specs::Symbol::infoRecord, crate::specs::Symbol::infoOf, crate::specs::Symbol::symbolPresent, crate::specs::Symbol::symbolEnds, crate::specs::Symbol::symbolEntry, refusal::specs::Ends::endsIn))]
+
 ghost use Rattle.std.specs.Prelude.{◌≡◌, ◌≤◌, [], ◌++◌, length, if◌then◌else◌};
 ghost use Rattle.le.specs.Le.{le2, has};
 ghost use Rattle.refusal.specs.Ends.{checkedMode, endsMet, byChecked};
@@ -12,13 +14,13 @@ use flags::symbol_flags::{AdsSymbol2Flags, AdsSymbolFlags};
 use refusal::{Checked, Refusal};
 
 // Records of an entry that are asked for by number: the place of the first, and how many are shown.
-#[derive(Drop)]
+#[derive(Clone, Copy)]
 pub struct Shown {
     pub first: usize,
     pub count: usize,
 }
 
-#[derive(Drop)]
+#[derive(Clone, Copy)]
 pub struct ExtendedFlags {
     pub here: bool,
     pub flags: AdsSymbol2Flags,
@@ -151,6 +153,7 @@ fn info_of(e: &[u8], n: u16, t: u16, k: u16, flags: AdsSymbolFlags, s: Sections)
 }
 
 // The end bytes of the chain, if it is flagged, from a place on.
+#[tactic(auto, unfolding(refusal::specs::Ends::endsMet))]
 fn check_chain_ends(e: &[u8], word: AdsSymbol2Flags, first: usize) -> Checked
     ensures { result ≡ endsMet e.now (if has word.0 refactorInfo then chainEnds e.now first else []) }
 {
@@ -161,8 +164,8 @@ fn check_chain_ends(e: &[u8], word: AdsSymbol2Flags, first: usize) -> Checked
 }
 
 // The end bytes of the attributes that are shown, then those of the chain.
-fn check_section_ends(e: &[u8], r: AdsSymbolInfo) -> Checked
-    ensures { result ≡ endsMet e.now (attributeEnds e.now r.attributes.first r.attributes.count ++ (if has r.extended.flags.0 refactorInfo then chainEnds e.now r.refactor_infos.first else [])) }
+fn check_section_ends(e: &[u8], r: &AdsSymbolInfo) -> Checked
+    ensures { result ≡ endsMet e.now (attributeEnds e.now r.now.attributes.first r.now.attributes.count ++ (if has r.now.extended.flags.0 refactorInfo then chainEnds e.now r.now.refactor_infos.first else [])) }
 {
     let attributes = r.attributes;
     let extended = r.extended;
@@ -175,8 +178,8 @@ fn check_section_ends(e: &[u8], r: AdsSymbolInfo) -> Checked
 }
 
 // All end bytes of an entry with this record.
-fn check_ends(e: &[u8], r: AdsSymbolInfo) -> Checked
-    ensures { result ≡ endsMet e.now (symbolEnds e.now r) }
+fn check_ends(e: &[u8], r: &AdsSymbolInfo) -> Checked
+    ensures { result ≡ endsMet e.now (symbolEnds e.now r.now) }
 {
     match entry::check_strings(e, 30, r.name_len, r.type_name_len, r.comment_len) {
         Checked::Passed => check_section_ends(e, r),
@@ -223,8 +226,7 @@ fn read_present(e: &[u8]) -> SymbolRead
 fn ended(e: &[u8], read: SymbolRead) -> SymbolRead
     ensures { result ≡ bySymbol read.answer (λ info. byChecked (endsMet e.now (symbolEnds e.now info)) read refused) (λ why. read) }
 {
-    let answer = read.answer;
-    match answer {
+    match &read.answer {
         SymbolAnswer::Record(info) => match check_ends(e, info) {
             Checked::Passed => read,
             Checked::Refused(why) => refused(why),
@@ -241,6 +243,7 @@ pub fn read_checked(e: &[u8]) -> SymbolRead
 }
 
 // An entry's own bytes, read in a mode.
+#[tactic(auto, using(crate::proofs::Inside::present_is))]
 pub fn read_entry(e: &[u8], checked: bool) -> SymbolRead
     ensures { result ≡ symbolEntry checked e.now }
 {
