@@ -1,4 +1,6 @@
 // Attributes that stand alone, read and written. The Rust's attributes.rs; crate attr has what stands below, and the record.
+#![tactic(auto, unfolding(attr::specs::Attribute::attributeRead, refusal::specs::Ends::endsIn, attr::specs::Writing::attributeWriting))]
+
 ghost use Rattle.std.specs.Prelude.{◌≡◌, ◌+◌};
 ghost use Rattle.le.specs.Place.{Behind};
 ghost use Rattle.attr.specs.Attribute.{attributeRead, nameIn, valueIn, name_at, value_at};
