@@ -1,4 +1,6 @@
 // What can be asked of an entry with a field's header, by what its reader answered: fields and data types are asked alike.
+#![tactic(auto)]
+
 ghost use Rattle.std.specs.Prelude.{◌≡◌};
 ghost use Rattle.le.specs.Place.{Behind};
 ghost use Rattle.field.specs.Questions.{name_of, typeNameOf, commentOf, shownNth, shownNamed};
