@@ -1,4 +1,6 @@
 // Walks an upload of symbols. The Rust's AdsSymbolInfoIterator, with the cursor by value.
+#![tactic(auto, unfolding(crate::specs::Walk::symbolStep))]
+
 ghost use Rattle.std.specs.Prelude.{◌≡◌};
 ghost use Rattle.entry.specs.Walk.{boundedWalk};
 ghost use Rattle.walk.specs.Walk.{symbolStep, step_of};
@@ -8,7 +10,7 @@ use refusal::Refusal;
 use symbol::{AdsSymbolInfo, SymbolAnswer, SymbolRead};
 
 // The place in the upload where the next step begins.
-#[derive(Drop)]
+#[derive(Clone, Copy)]
 pub struct Cursor {
     pub at: usize,
 }
