@@ -1,4 +1,6 @@
 // What the writers of both kinds of entry share: three strings and their lengths, and the attributes.
+#![tactic(auto, unfolding(crate::specs::Wire::lengthsOf, crate::specs::Wire::stringsOf, crate::specs::Wire::attributesOf, crate::specs::Wire::stringsChecked, crate::specs::Wire::blockChecked, crate::specs::Wire::roomChecked))]
+
 ghost use Rattle.std.specs.Prelude.{◌≡◌, true, ◌+◌, ◌≤◌, length};
 ghost use Rattle.le.specs.Put.{Wrote};
 ghost use Rattle.wire.specs.Wire.{lengthsOf, stringOf, stringsOf, attributesOf, tooLong, stringsChecked, blockChecked, roomChecked, Fit};
