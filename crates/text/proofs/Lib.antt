@@ -3,6 +3,5 @@ pub mod Utf8
 pub mod Laws
 pub mod Exact
 pub mod Byte
-pub mod Width
 pub mod Back
 pub mod Theory

@@ -15,4 +15,4 @@ pub returns-then-p-gt65535 : goal.returns-then-p-gt65535
 returns-then-p-gt65535 c = sym (byte-table _ c.if-p-lt128.false (inr c.if-p-lt256.false) ∙ table-above _ c.if-p-gt65535.true)
 
 pub returns : goal.returns
-returns c = c.find.ensures ∙ sym (byte-table _ c.if-p-lt128.false (inr c.if-p-lt256.false))
+returns c = c.find-2.ensures ∙ sym (byte-table _ c.if-p-lt128.false (inr c.if-p-lt256.false))

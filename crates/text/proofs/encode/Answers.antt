@@ -26,4 +26,4 @@ pub returns-in-Refused : goal.returns-in-Refused
 unfolding encodeWriting
 returns-in-Refused c =
     let s : List ℕ = c.args.src.now in
-    same-writing (in-limit s (encodedFrom 0 0 s) c.if-src-gt-LIMIT.false) (counted-refused (encodedFrom 0 0 s) ?)
+    same-writing (in-limit s (encodedFrom 0 0 s) c.if-src-gt-LIMIT.false) (counted-refused (encodedFrom 0 0 s) (sym c.encoded_length.ensures ∙ c.in-Refused.is))

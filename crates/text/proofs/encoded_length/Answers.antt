@@ -1,4 +1,4 @@
-use Rattle.std.proofs.Common.{sym, ap, ◌∙◌, ℕ, List, arith, add-zero}
+use Rattle.std.proofs.Common.{sym, ap, ◌∙◌, arith, add-zero}
 use Rattle.refusal.specs.declared.Written.TheVariants.{Done}
 use Rattle.text.proofs.Back.{char-low, encoded-end, encoded-wrong, counting-turn}
 use Rattle.text.specs.Text.{counted}
@@ -11,16 +11,17 @@ pub loop-at-preserved-then-latin_at-ne0 : goal.loop-at-preserved-then-latin_at-n
 loop-at-preserved-then-latin_at-ne0 c = (counting-turn c.loop-at.invariant (c.latin_at.ensures c.if-latin_at-ne0.true)).more
 
 pub overflow_add-at-in-Is : goal.overflow_add-at-in-Is
-overflow_add-at-in-Is c = ?
+overflow_add-at-in-Is c = omega (arith, (counting-turn c.loop-at.invariant (sym c.char_at.ensures ∙ c.in-Is.is)).inside)
 
 pub loop-at-smaller : goal.loop-at-smaller
-loop-at-smaller c = ?
+loop-at-smaller c = omega (arith, (counting-turn c.loop-at.invariant (sym c.char_at.ensures ∙ c.in-Is.is)).some)
 
 pub loop-at-preserved : goal.loop-at-preserved
-loop-at-preserved c = ?
+loop-at-preserved c = (counting-turn c.loop-at.invariant (sym c.char_at.ensures ∙ c.in-Is.is)).more
 
 pub returns-in-Wrong : goal.returns-in-Wrong
-returns-in-Wrong c = ?
+returns-in-Wrong c =
+    sym (ap (counted c.loop-at.n) (encoded-wrong c.args.src.now c.loop-at.at c.loop-at-test.true (sym c.char_at.ensures ∙ c.in-Wrong.is))) ∙ c.loop-at.invariant.left
 
 pub returns : goal.returns
 returns c =

@@ -1,5 +1,4 @@
-use Rattle.std.proofs.Common.{◌≡◌, ℕ, ◌+◌, refl, sym, ap, ◌∙◌, arith, get_or, eqb}
-use Rattle.le.specs.Le.{if◌then◌else◌}
+use Rattle.std.proofs.Common.{◌≡◌, ℕ, ◌+◌, refl, sym, ap, ◌∙◌, arith, get_or, eqb, if◌then◌else◌}
 use Rattle.text.proofs.Byte.{sum_to, sum_is, sum_step, sum-is, sum-some}
 use Rattle.text.specs.Text.{points}
 use Rattle.text.proofs.find.Goals as goal
@@ -13,8 +12,8 @@ unfolding points
 loop-i-preserved c =
     let i : ℕ = c.loop-i.i in
     let p : ℕ = c.args.p in
-    let e : c.if_here.result ≡ (if eqb (get_or points i 0) p then 128 + i else 0) = simp (← c.loop-i.invariant.byte) c.if_here.ensures.0 in
-    record { inside = omega arith; byte = omega arith; sum = simp (sum_step i p, ← c.loop-i.invariant.sum, e); few = omega (arith, c.if_here.ensures.1) }
+    let e : c.if_here-sum.result ≡ (if eqb (get_or points i 0) p then 128 + i else 0) = simp (← c.loop-i.invariant.byte) c.if_here-sum.ensures.0 in
+    record { inside = omega arith; byte = omega arith; sum = simp (sum_step i p, ← c.loop-i.invariant.sum, e); few = omega (arith, c.if_here-sum.ensures.1) }
 
 pub returns-then-sum-eq0 : goal.returns-then-sum-eq0
 returns-then-sum-eq0 c =

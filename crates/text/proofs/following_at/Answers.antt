@@ -1,5 +1,5 @@
-use Rattle.std.proofs.Common.{◌≡◌, refl, sym, ◌∙◌, ◌-◌, arith, drop, get_or}
-use Rattle.std.proofs.lemmas.Bool.Decides.{le-leb, lt-leb}
+use Rattle.std.proofs.Common.{refl, sym, ◌∙◌, ◌-◌, arith, drop, get_or, le-leb}
+use Rattle.std.proofs.lemmas.Bool.{lt-leb}
 use Rattle.text.proofs.Utf8.{room-first, room_next, room_most, following-end, following-byte, following-done}
 use Rattle.text.proofs.following_at.Goals as goal
 
@@ -40,7 +40,7 @@ loop-left-preserved c =
     record {
       counted = omega arith;
       fits = room_next l.left l.p (get_or c.args.s.now l.at 0) c.loop-left-test.true l.invariant.fits;
-      rest = sym (simp (le-leb _ _ c.if-b-low.false, le-leb _ _ c.if-high-b.false) at e) ∙ l.invariant.rest
+      rest = sym (simp (le-leb _ _ c.if-b-low.false, le-leb _ _ c.if-high-b.false) at e) ∙ l.invariant.rest;
     }
 
 pub returns : goal.returns

@@ -7,5 +7,5 @@ use Rattle.text.proofs.highest.Goals as goal
 pub returns-then-n-le32 : goal.returns-then-n-le32
 returns-then-n-le32 c =
     let s = c.args.s.now in
-    let all = both_ends (λ (k : ℕ). get_or s k 0 ≤ c.larger.result) (length s - 16) (length s) (omega arith) (omega arith) (λ k h. omega (arith, c.highest_of.ensures k h)) (λ k h. omega (arith, c.highest_of-2.ensures k h)) in
+    let all = both_ends (λ (k : ℕ). get_or s k 0 ≤ c.larger.result) (length s - 16) (length s) (omega arith) (omega arith) (λ k h. omega (arith, c.highest_of.ensures k h)) (λ k h. omega (arith, c.highest_of-then-n-le32.ensures k h)) in
     λ k. ⊎_elim (λ l. omega (arith, get_or-eq_default s 0 {n = k} l)) (λ l. all k l) (le-or-lt (length s) k)

@@ -18,5 +18,5 @@ put_byte-at-requires-clause-b_in_bounds c = omega (arith, decoded-room c.args.sr
 pub loop-i-preserved : goal.loop-i-preserved
 loop-i-preserved c = record {
   inside = omega arith;
-  wrote = same_bytes (decoded-more c.args.src.now c.loop-i.i c.loop-i-test.true) (after c.loop-i.invariant.wrote c.put_byte-at.ensures)
+  wrote = same_bytes (decoded-more c.args.src.now c.loop-i.i c.loop-i-test.true) (after c.loop-i.invariant.wrote c.put_byte-at.ensures);
 }

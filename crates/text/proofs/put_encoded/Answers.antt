@@ -24,13 +24,22 @@ loop-at-preserved-then-latin-ne0 c =
     (going-turn c.loop-at.invariant c.requires c.loop-at-test.true (c.latin_at-latin.ensures c.if-latin-ne0.true) c.if-out-needed.false).more
 
 pub overflow_cast-out : goal.overflow_cast-out
-overflow_cast-out c = ?
+overflow_cast-out c = omega (arith, (going-turn c.loop-at.invariant c.requires c.loop-at-test.true (sym c.char_at.ensures ∙ c.in-Is.is) c.if-out-needed.false).byte)
+
+pub bounds-out-n-in-Is : goal.bounds-out-n-in-Is
+bounds-out-n-in-Is c = omega (arith, (going-turn c.loop-at.invariant c.requires c.loop-at-test.true (sym c.char_at.ensures ∙ c.in-Is.is) c.if-out-needed.false).room)
+
+pub overflow_add-at-in-Is : goal.overflow_add-at-in-Is
+overflow_add-at-in-Is c = omega (arith, (going-turn c.loop-at.invariant c.requires c.loop-at-test.true (sym c.char_at.ensures ∙ c.in-Is.is) c.if-out-needed.false).inside)
+
+pub loop-at-smaller : goal.loop-at-smaller
+loop-at-smaller c = omega (arith, (going-turn c.loop-at.invariant c.requires c.loop-at-test.true (sym c.char_at.ensures ∙ c.in-Is.is) c.if-out-needed.false).some)
 
 pub loop-at-preserved : goal.loop-at-preserved
-loop-at-preserved c = ?
+loop-at-preserved c = (going-turn c.loop-at.invariant c.requires c.loop-at-test.true (sym c.char_at.ensures ∙ c.in-Is.is) c.if-out-needed.false).more
 
 pub returns-in-Wrong : goal.returns-in-Wrong
-returns-in-Wrong c = ?
+returns-in-Wrong c = absurd (going-right c.loop-at.invariant c.requires c.loop-at-test.true (sym c.char_at.ensures ∙ c.in-Wrong.is))
 
 pub returns : goal.returns
 returns c = going_end c.loop-at.invariant c.loop-at-test.false

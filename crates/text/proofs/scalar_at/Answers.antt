@@ -1,4 +1,3 @@
-use Rattle.std.proofs.Common.{arith}
 use Rattle.text.proofs.Utf8.{at_front, lead-1, lead-2, lead-3, lead-4, lead_low, lead-over}
 use Rattle.text.proofs.scalar_at.Goals as goal
 
@@ -14,12 +13,12 @@ returns-then-b-lt224 c = rw (at_front c.args.s.now c.args.at c.requires, lead-2 
 pub returns-then-b-lt240 : goal.returns-then-b-lt240
 returns-then-b-lt240 c =
     rw (at_front c.args.s.now c.args.at c.requires, lead-3 _ _ c.if-b-lt224.false c.if-b-lt240.true)
-    (simp (c.boundary-lower.ensures, c.boundary-upper.ensures) at c.following_at-2.ensures)
+    (simp (c.boundary-lower.ensures, c.boundary-upper.ensures) at c.following_at-then-b-lt240.ensures)
 
 pub returns-then-b-lt245 : goal.returns-then-b-lt245
 returns-then-b-lt245 c =
     rw (at_front c.args.s.now c.args.at c.requires, lead-4 _ _ c.if-b-lt240.false c.if-b-lt245.true)
-    (simp (c.boundary-lower-2.ensures, c.boundary-upper-2.ensures) at c.following_at-3.ensures)
+    (simp (c.boundary-lower-then-b-lt245.ensures, c.boundary-upper-then-b-lt245.ensures) at c.following_at-then-b-lt245.ensures)
 
 pub returns : goal.returns
 returns c = rw (at_front c.args.s.now c.args.at c.requires, lead-over _ _ c.if-b-lt245.false)

@@ -6,7 +6,7 @@ abbrev pub invariant-loop-i : goal.invariant-loop-i
 invariant-loop-i l = record {
   inside : l.i ≤ l.count;
   sum : length (decoded (take l.from l.s)) + l.n ≡ length (decoded (take (l.from + l.i) l.s));
-  few : l.n ≤ 3 * l.i
+  few : l.n ≤ 3 * l.i;
 }
 
 abbrev pub decreases-loop-i : goal.decreases-loop-i
