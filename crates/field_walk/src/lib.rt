@@ -1,4 +1,6 @@
 // Walks an upload of fields, with the same steps as the symbol walker.
+#![tactic(auto, unfolding(crate::specs::Walk::fieldStep))]
+
 ghost use Rattle.std.specs.Prelude.{◌≡◌};
 ghost use Rattle.entry.specs.Walk.{boundedWalk};
 ghost use Rattle.field_walk.specs.Walk.{fieldStep, step_of};
