@@ -1,14 +1,15 @@
 // One input through text::decode or text::encode, with every buffer that tells something; what comes back is printed or tallied.
 use refusal::{Figures, Written};
+use std::io;
 
-#[derive(Drop)]
+#[derive(Clone, Copy)]
 pub enum Way {
     Decode,
     Encode,
 }
 
 // How the runs of a group ended, and a checksum over all that they answered and left in the buffer.
-#[derive(Drop)]
+#[derive(Clone, Copy)]
 pub struct Tally {
     pub done: u64,
     pub small: u64,
@@ -18,7 +19,7 @@ pub struct Tally {
 }
 
 // A group is printed run by run, or only tallied.
-#[derive(Drop)]
+#[derive(Clone, Copy)]
 pub struct Group {
     pub shown: bool,
     pub tally: Tally,
@@ -65,41 +66,23 @@ fn mix(sum: u64, x: u64) -> u64 {
     (sum % 4294967291 * 16777619 + x % 4294967291) % 4294967291
 }
 
-fn wide(b: u8) -> u64 {
-    b as u64
-}
-
 fn mix_bytes(sum: u64, s: &[u8]) -> u64 {
     let mut r = sum;
-    let mut i: usize = 0;
-    while i < s.len() {
-        r = mix(r, wide(s[i]));
-        i += 1;
+    for b in s {
+        r = mix(r, *b as u64);
     }
     r
 }
 
-fn fill(s: &mut [u8]) {
-    let mut i: usize = 0;
-    while i < s.len() {
-        s[i] = 0xEE;
-        i += 1;
-    }
-}
-
 fn plus(n: u64, one: bool) -> u64 {
-    if one {
-        std::num::wrapping_add_u64(n, 1)
-    } else {
-        n
-    }
+    if one { n.wrapping_add(1) } else { n }
 }
 
-fn is_text(f: Figures, kind: usize) -> bool {
-    if f.number == 11 { f.got == kind } else { false }
+fn is_text(f: &Figures, kind: usize) -> bool {
+    f.number == 11 && f.got == kind
 }
 
-fn tallied(t: Tally, f: Figures, lent: usize, left: &[u8]) -> Tally {
+fn tallied(t: Tally, f: &Figures, lent: usize, left: &[u8]) -> Tally {
     let named = mix(mix(t.sum, lent as u64), f.number as u64);
     let said = mix(mix(named, f.expected as u64), f.got as u64);
     Tally {
@@ -111,100 +94,109 @@ fn tallied(t: Tally, f: Figures, lent: usize, left: &[u8]) -> Tally {
     }
 }
 
-fn show_bytes(s: &[u8]) {
-    if s.len() == 0 {
-        io::write_all(1, b"-");
+fn show_bytes(rt: &impl Print, s: &[u8]) -> io::Result<()> {
+    if s.is_empty() {
+        return print!(rt; "-");
     }
-    let mut i: usize = 0;
-    while i < s.len() {
-        io::print_hex(1, wide(s[i]), 2);
-        i += 1;
+    for b in s {
+        print!(rt; "{b:02x}")?;
     }
+    Ok(())
 }
 
-fn show_number(n: u64) {
-    io::write_all(1, b" ");
-    io::print_decimal(1, n);
-}
-
-fn show_way(way: Way) {
+fn name_of(way: Way) -> &'static str {
     match way {
-        Way::Decode => {
-            io::write_all(1, b"decode ");
-        }
-        Way::Encode => {
-            io::write_all(1, b"encode ");
-        }
+        Way::Decode => "decode",
+        Way::Encode => "encode",
     }
 }
 
-fn show_run(way: Way, src: &[u8], lent: usize, f: Figures, left: &[u8]) {
-    show_way(way);
-    show_bytes(src);
-    show_number(lent as u64);
-    show_number(f.number as u64);
-    show_number(f.expected as u64);
-    show_number(f.got as u64);
-    io::write_all(1, b" ");
-    show_bytes(left);
-    io::write_all(1, b"\n");
+fn show_run(
+    rt: &impl Print,
+    way: Way,
+    src: &[u8],
+    lent: usize,
+    f: &Figures,
+    left: &[u8],
+) -> io::Result<()> {
+    print!(rt; "{} ", name_of(way))?;
+    show_bytes(rt, src)?;
+    print!(rt; " {lent} {} {} {} ", f.number, f.expected, f.got)?;
+    show_bytes(rt, left)?;
+    println!(rt)
 }
 
 // One run with so many bytes lent, each of them the guard byte before.
-fn run(way: Way, src: &[u8], work: &mut [u8], lent: usize, g: Group) -> Ran {
+fn run(
+    rt: &impl Print,
+    way: Way,
+    src: &[u8],
+    work: &mut [u8],
+    lent: usize,
+    g: Group,
+) -> io::Result<Ran> {
     if work.len() < lent {
-        return Ran {
+        return Ok(Ran {
             group: g,
             figures: Figures {
                 number: 99,
                 expected: 0,
                 got: 0,
             },
-        };
+        });
     }
-    fill(&mut work[0..lent]);
-    let f = answer(way, src, &mut work[0..lent]);
+    let out = &mut work[..lent];
+    out.fill(0xEE);
+    let figures = answer(way, src, out);
     if g.shown {
-        show_run(way, src, lent, f, &work[0..lent]);
+        show_run(rt, way, src, lent, &figures, out)?;
     }
-    let t = tallied(g.tally, f, lent, &work[0..lent]);
-    Ran {
+    let tally = tallied(g.tally, &figures, lent, out);
+    Ok(Ran {
         group: Group {
             shown: g.shown,
-            tally: t,
+            tally,
         },
-        figures: f,
-    }
+        figures,
+    })
 }
 
 // One byte less than is needed, exactly that, and three more.
-fn sized(way: Way, src: &[u8], work: &mut [u8], needed: usize, g: Group) -> Group {
+fn sized(
+    rt: &impl Print,
+    way: Way,
+    src: &[u8],
+    work: &mut [u8],
+    needed: usize,
+    g: Group,
+) -> io::Result<Group> {
     if needed == 0 {
-        return g;
+        return Ok(g);
     }
     if 1000 < needed {
-        return g;
+        return Ok(g);
     }
-    let less = run(way, src, work, needed - 1, g);
-    let exact = run(way, src, work, needed, less.group);
-    run(way, src, work, needed + 3, exact.group).group
+    let less = run(rt, way, src, work, needed - 1, g)?;
+    let exact = run(rt, way, src, work, needed, less.group)?;
+    Ok(run(rt, way, src, work, needed + 3, exact.group)?.group)
 }
 
 // Nothing lent first: 11 comes before 6, and 6 says what is needed.
-pub fn case(way: Way, src: &[u8], work: &mut [u8], g: Group) -> Group {
-    let first = run(way, src, work, 0, g);
+pub fn case(rt: &impl Print, way: Way, src: &[u8], work: &mut [u8], g: Group) -> io::Result<Group> {
+    let first = run(rt, way, src, work, 0, g)?;
     if first.figures.number == 6 {
-        return sized(way, src, work, first.figures.expected, first.group);
+        return sized(rt, way, src, work, first.figures.expected, first.group);
     }
-    run(way, src, work, 12, first.group).group
+    Ok(run(rt, way, src, work, 12, first.group)?.group)
 }
 
-pub fn end(name: &[u8], g: Group) {
-    io::write_all(1, name);
-    show_number(g.tally.done);
-    show_number(g.tally.small);
-    show_number(g.tally.not_utf8);
-    show_number(g.tally.no_byte);
-    show_number(g.tally.sum);
-    io::write_all(1, b"\n");
+pub fn end(rt: &impl Print, name: &str, g: Group) -> io::Result<()> {
+    let Tally {
+        done,
+        small,
+        not_utf8,
+        no_byte,
+        sum,
+    } = g.tally;
+    println!(rt; "{name} {done} {small} {not_utf8} {no_byte} {sum}")
 }

@@ -2,7 +2,7 @@
 ghost use Rattle.std.specs.Prelude.{◌≤◌, length};
 
 // Up to four bytes.
-#[derive(Drop)]
+#[derive(Clone, Copy)]
 pub struct Spelt {
     pub n: usize,
     pub a: u8,
@@ -12,14 +12,14 @@ pub struct Spelt {
 }
 
 // How many bytes of an input were drawn, and the counter after.
-#[derive(Drop)]
+#[derive(Clone, Copy)]
 pub struct Drawn {
     pub n: usize,
     pub state: u64,
 }
 
 // What a group tries, the k-th of it.
-#[derive(Drop)]
+#[derive(Clone, Copy)]
 pub enum Inputs {
     Sequences { n: usize },
     Edges,
@@ -144,7 +144,7 @@ fn mark(k: u32) -> Spelt {
 
 fn edge(k: u32) -> u32 {
     let i = (k / 3 % 41) as usize;
-    std::num::wrapping_sub_u32(std::num::wrapping_add_u32(EDGES[i], k % 3), 1)
+    EDGES[i].wrapping_add(k % 3).wrapping_sub(1)
 }
 
 // A byte after the first, mostly from 80 to BF.
@@ -253,11 +253,9 @@ fn characters(text: &mut [u8], first: u64) -> Drawn
 {
     let mut state = first;
     let mut at: usize = 0;
-    let mut k: usize = 0;
-    while k < 16 {
+    for _ in 0..16 {
         at = append(text, at, character(number(state)));
         state = on(state);
-        k += 1;
     }
     if number(state) % 4 != 0 {
         return Drawn {
@@ -291,11 +289,9 @@ fn bytes(text: &mut [u8], first: u64) -> Drawn
 {
     let n = (number(first) % 41) as usize;
     let mut state = on(first);
-    let mut i: usize = 0;
-    while i < text.len() {
-        text[i] = byte(number(state));
+    for b in text.iter_mut() {
+        *b = byte(number(state));
         state = on(state);
-        i += 1;
     }
     if text.len() < n {
         return Drawn { n: 0, state };
@@ -315,10 +311,8 @@ pub fn string(decoded: bool, text: &mut [u8], state: u64) -> Drawn
 
 // The bytes 0 to 255.
 pub fn every(s: &mut [u8]) {
-    let mut i: usize = 0;
-    while i < s.len() {
-        s[i] = (i % 256) as u8;
-        i += 1;
+    for (i, b) in s.iter_mut().enumerate() {
+        *b = (i % 256) as u8;
     }
 }
 
@@ -338,10 +332,8 @@ pub fn every_point(text: &mut [u8]) -> usize
     ensures { result ≤ length text.new }
 {
     let mut at: usize = 0;
-    let mut b: usize = 0;
-    while b < 256 {
+    for b in 0..256 {
         at = append(text, at, spell(point(b)));
-        b += 1;
     }
     at
 }
