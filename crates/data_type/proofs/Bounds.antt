@@ -15,7 +15,7 @@ use Rattle.field.specs.declared.AdsFieldInfo.{AdsFieldInfo}
 use Rattle.field.specs.declared.FieldAnswer.TheVariants as field
 use Rattle.field.specs.declared.Tail.{Tail}
 use Rattle.data_type.specs.declared.AdsDataTypeInfo.{AdsDataTypeInfo}
-use Rattle.data_type.specs.DataType.{Member, Tree, Read, Refused, Ended, brings, itemsFrom, arraysEnd, entryWith, tooDeep, itemBy, typeEntry}
+use Rattle.data_type.specs.DataType.{Member, Tree, Read, Ended, brings, itemsFrom, arraysEnd, entryWith, tooDeep, itemBy, typeEntry}
 use Rattle.data_type.specs.Told.{item_at}
 use Rattle.data_type.proofs.Accepted.{never, accepted, tree_is, first, item-read, claim-fits}
 

@@ -1,5 +1,5 @@
 -- What is read is read alike where there may be more levels, and, if it was read in the checked mode, in the present one.
-use Prim.Native.Nat.{ℕ, zero, suc, ◌+◌, ◌-◌}
+use Prim.Native.Nat.{ℕ, zero, suc, ◌+◌}
 use native.Mathlib.Omega.{arith}
 use native.Mathlib.Nat.{zero-add, suc-add}
 use mathlib.Core.Path.{◌≡◌, refl, ap, ◌∙◌}

@@ -1,4 +1,6 @@
 // A data type entry's own bytes, read with all that it holds (W-202). Crate data_type_info offers the direct parse and what can be asked of an entry.
+#![tactic(auto, unfolding(crate::specs::DataType::arraysEnd, crate::specs::DataType::itemClaim, crate::specs::Told::type_of))]
+
 ghost use Rattle.std.specs.Prelude.{◌≡◌, ◌≤◌, length};
 ghost use Rattle.le.specs.Le.{le2};
 ghost use Rattle.field.specs.Field.{stringsEnd};
@@ -156,7 +158,8 @@ fn read_items(e: &[u8], checked: bool, left: usize, first: usize) -> ItemsAnswer
     let mut todo = le::wide(le::u16_at(e, 40));
     while 0 < todo {
         todo = todo - 1;
-        if left == 0 {
+        let deepest = left == 0;
+        if deepest {
             return ItemsAnswer::Refused(Refusal::TooDeep);
         }
         match item_claim(e, at) {
