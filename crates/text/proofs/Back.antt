@@ -12,9 +12,9 @@ use Rattle.le.specs.Put.{Wrote}
 use Rattle.le.proofs.Laws.{put_one, wrote, wrote_none, after, same_bytes}
 use Rattle.refusal.specs.Writing.{Writing, Bytes, Refuse, Writes}
 use Rattle.refusal.specs.declared.Refusal.{Refusal}
-use Rattle.refusal.specs.declared.Refusal.TheVariants.{BadText, OutputTooSmall}
+use Rattle.refusal.specs.declared.Refusal.TheVariants.{BadText}
 use Rattle.refusal.specs.declared.Written.TheVariants.{Done, Refused}
-use Rattle.text.proofs.Laws.{same-writing, writes-none, writes-small, writes-done}
+use Rattle.text.proofs.Laws.{same-writing, writes-none, writes-done}
 use Rattle.text.proofs.Utf8.{utf8-some, at_front, lead-1, lead-2, following-byte}
 use Rattle.text.proofs.Exact.{point-starts}
 use Rattle.text.proofs.Byte.{byte_low, byte_high, seek-sound}
@@ -203,12 +203,6 @@ module _ {s old out : List ℕ} {n at : ℕ} (g : Going s old out n at) where
           }
 
 -- ---- what the count says of the answer
-pub counted-small : {old : List ℕ} {needed : ℕ} (w : Writing) → counted 0 w ≡ Done needed → length old < needed → Writes w old old (Refused (OutputTooSmall needed (length old)))
-counted-small {old} {needed} (Bytes bs) e h =
-    let n : 0 + length bs ≡ needed = cc in
-    writes-small (omega arith) h
-counted-small (Refuse why) e h = let z : ◌≡◌ {A = ℕ} 0 1 = cc in absurd (omega arith)
-
 pub counted-refused : {old : List ℕ} {why : Refusal} (w : Writing) → counted 0 w ≡ Refused why → Writes w old old (Refused why)
 counted-refused (Bytes bs) e = let z : ◌≡◌ {A = ℕ} 0 1 = cc in absurd (omega arith)
 counted-refused {old} {why} (Refuse other) e = let q : other ≡ why = cc in same-writing (ap Refuse q) writes-none
