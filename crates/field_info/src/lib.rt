@@ -1,4 +1,6 @@
 // Field entries, parsed directly from bytes of any kind, in the present or the checked mode. The Rust's field_info.rs; crate field has what stands below, and the record, and field_writer is its to_vec.
+#![tactic(auto, unfolding(field::specs::Field::fieldRead, field::specs::Questions::fieldName, field::specs::Questions::fieldTypeName, field::specs::Questions::fieldComment, field::specs::Questions::fieldNameAt, field::specs::Questions::fieldTypeNameAt, field::specs::Questions::fieldCommentAt, field::specs::Questions::fieldAttribute, field::specs::Questions::fieldAttributeNamed))]
+
 ghost use Rattle.std.specs.Prelude.{◌≡◌};
 ghost use Rattle.le.specs.Place.{Behind};
 ghost use Rattle.field.specs.Field.{fieldRead};
