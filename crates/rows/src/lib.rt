@@ -1,4 +1,6 @@
 // Rows of a listing: a refused step and an entry, as text at a place of a lent buffer.
+#![tactic(auto)]
+
 ghost use Rattle.std.specs.Prelude.{◌+◌, ◌*◌, ◌≤◌, length};
 ghost use Rattle.digits.specs.Text.{Put};
 ghost use Rattle.rows.specs.Rows.{placed, refusalLine, addressed, counts, names, entryLine};
@@ -27,30 +29,25 @@ pub fn put_refusal(out: &mut [u8], at: usize, number: usize, start: usize, why: 
     digits::put_field(out, u, figures.got, b'\n')
 }
 
-fn put_address(out: &mut [u8], at: usize, info: AdsSymbolInfo) -> usize
+fn put_address(out: &mut [u8], at: usize, info: &AdsSymbolInfo) -> usize
     requires { at + 105 ≤ length out.old }
-    ensures { Put 105 out.old at (addressed info) out.new result }
+    ensures { Put 105 out.old at (addressed info.now) out.new result }
 {
-    let group = info.index_group;
-    let offset = info.index_offset;
     let p = digits::put_field(out, at, info.length, b' ');
-    let q = digits::put_field(out, p, group.0 as usize, b' ');
-    let t = digits::put_field(out, q, offset.0 as usize, b' ');
+    let q = digits::put_field(out, p, info.index_group.0 as usize, b' ');
+    let t = digits::put_field(out, q, info.index_offset.0 as usize, b' ');
     let u = digits::put_field(out, t, info.size as usize, b' ');
     digits::put_field(out, u, info.data_type_id as usize, b' ')
 }
 
-fn put_counts(out: &mut [u8], at: usize, info: AdsSymbolInfo) -> usize
+fn put_counts(out: &mut [u8], at: usize, info: &AdsSymbolInfo) -> usize
     requires { at + 84 ≤ length out.old }
-    ensures { Put 84 out.old at (counts info) out.new result }
+    ensures { Put 84 out.old at (counts info.now) out.new result }
 {
-    let flags = info.flags;
-    let attributes = info.attributes;
-    let refactor_infos = info.refactor_infos;
-    let p = digits::put_field(out, at, flags.0 as usize, b' ');
+    let p = digits::put_field(out, at, info.flags.0 as usize, b' ');
     let q = digits::put_field(out, p, info.unread, b' ');
-    let t = digits::put_field(out, q, attributes.count, b' ');
-    digits::put_field(out, t, refactor_infos.count, b' ')
+    let t = digits::put_field(out, q, info.attributes.count, b' ');
+    digits::put_field(out, t, info.refactor_infos.count, b' ')
 }
 
 fn put_names(out: &mut [u8], at: usize, e: &[u8], checked: bool) -> usize
@@ -76,8 +73,8 @@ pub fn put_entry(
     ensures { Put (length e.now * 4 + 256) out.old at (entryLine checked number start info e.now) out.new result }
 {
     let p = put_place(out, at, number, start);
-    let q = put_address(out, p, info);
-    let t = put_counts(out, q, info);
+    let q = put_address(out, p, &info);
+    let t = put_counts(out, q, &info);
     let u = put_names(out, t, e, checked);
     digits::put_field(out, u, info.high as usize, b'\n')
 }
