@@ -2,7 +2,7 @@
 """Makes crates/index_rig/stdout: run at the project's root, `tools/index_rig.py > crates/index_rig/stdout`.
 
 An upload like the program's is laid out, walked and searched here by 01's, W-201's and W-206's text alone (Walking, the
-symbol layout, the refusal numbers, names in capitals, room), without a look at the proved code. rt check runs the program
+symbol layout, the refusal numbers, names in capitals, room), without a look at the proved code. rt ci runs the program
 and compares.
 """
 import struct

@@ -5,7 +5,7 @@
     tools/list_odd.py --check  says whether these files are what it would write
     tools/list_odd.py FILE     prints the listing of a file of hexadecimal lines
 
-`rt check list_odd` then runs the proved program on that stdin and compares. The reader below follows 01's text,
+`rt ci` then runs the proved program on that stdin and compares. The reader below follows 01's text,
 W-205's and the layouts of TcAdsDef.h; it shares nothing with the crates.
 """
 import struct
