@@ -15,7 +15,7 @@ use Rattle.refusal.specs.declared.Refusal.{Refusal}
 use Rattle.refusal.specs.declared.Refusal.TheVariants.{TooLarge, ZeroEntryLength}
 use Rattle.refusal.proofs.Laws.{passed}
 use Rattle.refusal.proofs.DoneBy.{done-by}
-use Rattle.refusal.specs.declared.Written.TheVariants.{Done, Refused}
+use Rattle.refusal.specs.declared.Written.TheVariants.{Done}
 use Rattle.entry.specs.Entry.{claimAt}
 use Rattle.entry.specs.declared.Claimed.{Claimed}
 use Rattle.entry.specs.declared.Met.TheVariants as met

@@ -1,4 +1,6 @@
 // The index of starts, and finding a symbol by name. In the present mode neither reads an entry's sections: its header and the lengths of its strings decide whether it is accepted.
+#![tactic(auto)]
+
 ghost use Rattle.std.specs.Prelude.{◌≡◌, ◌≤◌, true, false, length, if◌then◌else◌};
 ghost use Rattle.refusal.specs.Refusal.{limit};
 ghost use Rattle.refusal.specs.Writing.{Writes};
@@ -63,6 +65,7 @@ fn accepts(e: &[u8], checked: bool) -> bool
     true
 }
 
+#[tactic(auto, unfolding(crate::specs::Inside::lookAt, crate::specs::Steps::accepted, crate::specs::Inside::accepts, walk::specs::Walk::symbolStep))]
 pub fn look_at(bytes: &[u8], at: usize, checked: bool) -> Looked
     ensures { result ≡ lookAt checked bytes.now at }
 {
@@ -86,6 +89,7 @@ pub fn look_at(bytes: &[u8], at: usize, checked: bool) -> Looked
 }
 
 // A first look, which settles most places: small, so that the compiler puts it into the loop.
+#[tactic(auto, unfolding(crate::specs::Inside::likely))]
 fn likely(bytes: &[u8], at: usize, name: &[u8]) -> bool
     ensures { result ≡ likely bytes.now name.now at }
 {
@@ -100,6 +104,7 @@ fn likely(bytes: &[u8], at: usize, name: &[u8]) -> bool
 }
 
 // The same for a walk from length to length, with the length and the low bits as one number: one test is guessed wrong less often than two, and the walk leaves time to look at the byte every time. Within the limit the number has room.
+#[tactic(auto, unfolding(crate::specs::Inside::likely))]
 fn likely_at_once(bytes: &[u8], at: usize, name: &[u8]) -> bool
     requires { length bytes.now ≤ limit }
     ensures { result ≡ likely bytes.now name.now at }
