@@ -1,4 +1,6 @@
 // Field entries, written into a lent buffer. The Rust's AdsFieldInfo::to_vec and wire_size.
+#![tactic(auto, unfolding(crate::specs::Writing::numbersOf, crate::specs::Writing::headerOf, crate::specs::Writing::guidOf, crate::specs::Writing::mask_of, crate::specs::Writing::sectionsOf, crate::specs::Writing::fieldBytes, crate::specs::Writing::fieldChecked, crate::specs::Writing::fieldSize))]
+
 ghost use Rattle.std.specs.Prelude.{◌≡◌, true, ◌+◌, ◌≤◌, length};
 ghost use Rattle.le.specs.Put.{Wrote};
 ghost use Rattle.refusal.specs.Writing.{Writes};
@@ -10,7 +12,7 @@ use flags::type_flags::AdsTypeFlags;
 use refusal::{Checked, Written};
 
 // What a field has besides its GUID's bytes, its strings and its attributes.
-#[derive(Drop)]
+#[derive(Clone, Copy)]
 pub struct FieldNumbers {
     pub version: u32,
     pub hash_value: u32,
