@@ -1,4 +1,6 @@
 // Walks an upload of data types, with the same steps as the field walker (W-202).
+#![tactic(auto, unfolding(crate::specs::Walk::typeStep))]
+
 ghost use Rattle.std.specs.Prelude.{◌≡◌};
 ghost use Rattle.entry.specs.Walk.{boundedWalk};
 ghost use Rattle.data_type_walk.specs.Walk.{typeStep, step_of};
