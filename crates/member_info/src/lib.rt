@@ -1,4 +1,6 @@
 // A member of a data type by its number (W-202): the root's sub-items and all that they hold, parents before children, the root not among them.
+#![tactic(auto, unfolding(crate::specs::Seek::under, crate::specs::Seek::found_at))]
+
 ghost use Rattle.std.specs.Prelude.{◌≡◌, ◌+◌, ◌<◌, ◌≤◌, length};
 ghost use Rattle.le.specs.Le.{le2};
 ghost use Rattle.refusal.specs.Refusal.{limit};
