@@ -1,4 +1,6 @@
 // Symbol entries, parsed directly from bytes of any kind, in the present or the checked mode. The Rust's symbol_info.rs; crate symbol has what stands below, and the record.
+#![tactic(auto, unfolding(symbol::specs::Symbol::symbolRead, symbol::specs::Questions::symbolName, symbol::specs::Questions::symbolTypeName, symbol::specs::Questions::symbolComment, symbol::specs::Questions::symbolNameAt, symbol::specs::Questions::symbolTypeNameAt, symbol::specs::Questions::symbolCommentAt, symbol::specs::Questions::symbolAttribute, symbol::specs::Questions::symbolAttributeNamed, symbol::specs::Questions::symbolRefactor))]
+
 ghost use Rattle.std.specs.Prelude.{◌≡◌};
 ghost use Rattle.le.specs.Place.{Behind};
 ghost use Rattle.symbol.specs.Symbol.{symbolRead};
