@@ -1,4 +1,6 @@
 // The Rust's borrowing iterator: a walker that holds the upload and its cursor together, thin functions above the step by value.
+#![tactic(auto)]
+
 ghost use Rattle.std.specs.Prelude.{◌≡◌};
 ghost use Rattle.walk.specs.Walk.{symbolStep};
 ghost use Rattle.walker.specs.Walker.{begun, moved};
