@@ -1,4 +1,6 @@
 // The text of a listing, formed in lent buffers. 01, "Listing".
+#![tactic(auto)]
+
 ghost use Rattle.std.specs.Prelude.{◌≡◌, ◌+◌, ◌-◌, ◌*◌, ◌/◌, ◌≤◌, ◌<◌, length};
 ghost use Rattle.refusal.specs.Writing.{Writes, Bytes};
 ghost use Rattle.digits.specs.Text.{Put};
