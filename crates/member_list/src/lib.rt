@@ -1,4 +1,6 @@
 // All members of a data type in one pass into lent slots (W-202): for each its place, its depth and its offset from the root's start, three slots a member.
+#![tactic(auto)]
+
 ghost use Rattle.std.specs.Prelude.{◌≡◌, ◌∷◌, [], ◌+◌, ◌≤◌, length};
 ghost use Rattle.le.specs.Put.{Wrote};
 ghost use Rattle.refusal.specs.Ends.{presentMode};
