@@ -1,4 +1,6 @@
 // How many slots to set aside for the index of an upload, by its length alone (W-206).
+#![tactic(auto, unfolding(crate::specs::Room::room_for))]
+
 ghost use Rattle.std.specs.Prelude.{◌≡◌};
 ghost use Rattle.room.specs.Room.{room_for};
 
