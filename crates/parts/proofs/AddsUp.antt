@@ -17,10 +17,10 @@ use Rattle.listing.proofs.Cut.{input-cut}
 use Rattle.parts.specs.Parts.{joined, Reading, reading, largest, nextNumber, held_of, lineText, ended, holding, partText, after, partsText, printed, AddsUp}
 
 -- the line's buffer has its length, what is held is in it, and the numbers of so many more lines fit 64 bits
-record Fits (r : Reading) (k : ℕ) : Type 0 where
-  long : 32768 < length r.line
-  some : r.held ≤ length r.line
-  few : r.number + k ≤ largest
+pub record Fits (r : Reading) (k : ℕ) : Type 0 where
+  pub long : 32768 < length r.line
+  pub some : r.held ≤ length r.line
+  pub few : r.number + k ≤ largest
 
 next-is : (n k : ℕ) → n + suc k ≤ largest → nextNumber n ≡ n + 1
 unfolding nextNumber
@@ -54,7 +54,7 @@ unfolding holding
 held_on mode r c k t f = held_by mode (ltb r.held (length r.line)) r c k t refl f
 
 -- what is printed of a part, and what is printed of the rest of the input from where the program then stands
-abbrev Adds : Bool → Reading → ℕ → List ℕ → List ℕ → List ℕ → Reading → Type 0
+abbrev pub Adds : Bool → Reading → ℕ → List ℕ → List ℕ → List ℕ → Reading → Type 0
 Adds mode r k s t text q = (Fits q k) × (inputText mode r.number (held_of r) (s ++ t) ≡ text ++ inputText mode q.number (held_of q) t)
 
 adds-by : (mode b : Bool) (r : Reading) (c k : ℕ) (s t : List ℕ) → Fits r (suc (length s + k))
@@ -76,7 +76,7 @@ adds-by mode false r c k s t f below =
     let a = below (holding r c) h.0 in
     (a.0, h.1 ∙ a.1)
 
-part-adds : (mode : Bool) (s t : List ℕ) (k : ℕ) (r : Reading) → Fits r (length s + k) → Adds mode r k s t (partText mode r s) (after r s)
+pub part-adds : (mode : Bool) (s t : List ℕ) (k : ℕ) (r : Reading) → Fits r (length s + k) → Adds mode r k s t (partText mode r s) (after r s)
 unfolding inputText partText after
 part-adds mode [] t k r f = (record { long = f.long; some = f.some; few = omega (arith, f.few) }, refl)
 part-adds mode (c ∷ s) t k r f =

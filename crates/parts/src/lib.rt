@@ -1,4 +1,6 @@
 // The lines of an input that comes in parts, listed part by part. 01, "Listing".
+#![tactic(auto, unfolding(crate::specs::Parts::nextNumber))]
+
 ghost use Rattle.std.specs.Prelude.{◌≡◌, ◌+◌, ◌*◌, ◌/◌, ◌<◌, ◌≤◌, length, take};
 ghost use Rattle.listing.specs.Listing.{ListsLine};
 ghost use Rattle.parts.specs.Parts.{reading, nextNumber, EndsLine, ListsPart};
