@@ -1,4 +1,6 @@
 // Data type entries, parsed directly from bytes of any kind, in the present or the checked mode (W-202). Crate data_type has what stands below, and the record.
+#![tactic(auto, unfolding(crate::specs::Arrays::typeArray, data_type::specs::DataType::typeRead, data_type::specs::Questions::typeName, data_type::specs::Questions::typeTypeName, data_type::specs::Questions::typeComment, data_type::specs::Questions::typeAttribute, data_type::specs::Questions::typeAttributeNamed))]
+
 ghost use Rattle.std.specs.Prelude.{◌≡◌};
 ghost use Rattle.le.specs.Place.{Behind};
 ghost use Rattle.attr.specs.Attribute.{nameIn, valueIn, name_at, value_at};

@@ -1,0 +1,10 @@
+use Rattle.std.proofs.Common.{ap}
+use Rattle.le.proofs.Place.{at_place, at-start}
+use Rattle.attr.specs.Attribute.{name_at}
+use Rattle.data_type_info.proofs.There.{attribute-begun}
+use Rattle.data_type_info.proofs.attribute_name.Goals as goal
+
+pub returns-clause-behind : goal.returns-clause-behind
+returns-clause-behind c =
+    let o = c.own_bytes.ensures in
+    at-start o.behind (at_place c.name_in.ensures.behind (ap name_at c.attribute.ensures) (simp o.result_value (attribute-begun c.args.checked c.args.bytes.now c.args.number).0))

@@ -1,0 +1,10 @@
+use Rattle.std.proofs.Common.{sym, ◌∙◌}
+use Rattle.field_asked.proofs.Begins.{type-name-begins}
+use Rattle.data_type.specs.Questions.{typeTypeNameAt}
+use Rattle.data_type_info.proofs.There.{strings-there}
+use Rattle.data_type_info.proofs.type_name.Goals as goal
+
+pub returns-clause-behind : goal.returns-clause-behind
+unfolding typeTypeNameAt
+returns-clause-behind c =
+    simp (← c.answer_to.ensures) (rw (type-name-begins _ _ (λ info h. strings-there _ _ info (sym c.answer_to.ensures ∙ h))) at c.type_name.ensures.behind)
