@@ -1,6 +1,5 @@
 -- Array records by number are those that stand behind the strings: proved.
-use Rattle.std.specs.Prelude.{if◌then◌else◌}
-use Prim.Native.Nat.{ℕ, ◌+◌, ◌*◌, ◌<◌, ◌≤◌}
+use Prim.Native.Nat.{ℕ, ◌+◌, ◌≤◌}
 use native.Mathlib.Omega.{arith}
 use mathlib.Core.Path.{◌≡◌, sym, ap, ◌∙◌}
 use mathlib.Core.Bool.{Bool}
@@ -8,7 +7,7 @@ use mathlib.Core.List.{List}
 use borrow.Author.Tests.{lt-ltb, le-ltb}
 use Rattle.le.specs.Le.{le2, part}
 use Rattle.le.proofs.Laws.{le2-part}
-use Rattle.field.specs.Field.{stringsEnd, infoOf, fieldEntry}
+use Rattle.field.specs.Field.{stringsEnd, infoOf}
 use Rattle.field.specs.declared.AdsFieldInfo.{AdsFieldInfo}
 use Rattle.field.specs.declared.FieldRead.{FieldRead}
 use Rattle.field.proofs.Inside.{accepted}
