@@ -2,19 +2,18 @@
 use crate::say::{hex, is_listed, number, refused, word};
 use field::{AdsFieldInfo, FieldAnswer};
 
-fn numbers(out: &mut [u8], at: usize, info: AdsFieldInfo) -> usize {
+fn numbers(out: &mut [u8], at: usize, info: &AdsFieldInfo) -> usize {
     let p = number(out, at, info.length);
     let q = number(out, p, info.version as usize);
     let r = number(out, q, info.hash_value as usize);
     number(out, r, info.type_hash_value as usize)
 }
 
-fn more_numbers(out: &mut [u8], at: usize, info: AdsFieldInfo) -> usize {
-    let flags = info.flags;
+fn more_numbers(out: &mut [u8], at: usize, info: &AdsFieldInfo) -> usize {
     let p = number(out, at, info.size as usize);
     let q = number(out, p, info.offset as usize);
     let r = number(out, q, info.type_id as usize);
-    number(out, r, flags.0 as usize)
+    number(out, r, info.flags.0 as usize)
 }
 
 fn strings(out: &mut [u8], at: usize, e: &[u8]) -> usize {
@@ -33,26 +32,23 @@ fn attribute_if(out: &mut [u8], at: usize, e: &[u8], i: usize, count: usize) -> 
 
 fn attributes(out: &mut [u8], from: usize, e: &[u8], count: usize) -> usize {
     let mut at = number(out, from, count);
-    let mut i = 0;
-    while i < count {
+    for i in 0..count {
         at = attribute_if(out, at, e, i, count);
-        i += 1;
     }
     at
 }
 
-fn header(out: &mut [u8], at: usize, e: &[u8], info: AdsFieldInfo) -> usize {
+fn header(out: &mut [u8], at: usize, e: &[u8], info: &AdsFieldInfo) -> usize {
     let p = word(out, at, b"ok");
     let q = numbers(out, p, info);
     let r = more_numbers(out, q, info);
     strings(out, r, e)
 }
 
-fn record(out: &mut [u8], at: usize, e: &[u8], info: AdsFieldInfo, guid: [u8; 16]) -> usize {
-    let shown = info.attributes;
+fn record(out: &mut [u8], at: usize, e: &[u8], info: &AdsFieldInfo, guid: [u8; 16]) -> usize {
     let p = header(out, at, e, info);
     let q = crate::say::guid(out, p, info.has_guid, &guid);
-    attributes(out, q, e, shown.count)
+    attributes(out, q, e, info.attributes.count)
 }
 
 pub(crate) fn direct(out: &mut [u8], at: usize, d: &[u8]) -> usize {
@@ -60,7 +56,7 @@ pub(crate) fn direct(out: &mut [u8], at: usize, d: &[u8]) -> usize {
     let answer = read.answer;
     let guid = read.guid;
     match answer {
-        FieldAnswer::Record(info) => record(out, at, d, info, guid),
+        FieldAnswer::Record(info) => record(out, at, d, &info, guid),
         FieldAnswer::Refused(why) => refused(out, at, why),
     }
 }

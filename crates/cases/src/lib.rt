@@ -1,5 +1,7 @@
 // Cases of the comparison with the Rust, answered: a line of text in, a line of text out. tools/oracle/README.md has the format.
 // A test program's inside: proved to be safe and to end, and no more. What it calls is what is compared.
+#![tactic(auto)]
+
 pub mod fields;
 pub mod line;
 pub mod records;

@@ -178,10 +178,8 @@ fn chain_record_if(out: &mut [u8], at: usize, d: &[u8], i: usize, count: usize) 
 
 fn chain_records(out: &mut [u8], from: usize, d: &[u8], count: usize) -> usize {
     let mut at = number(out, from, count);
-    let mut i = 0;
-    while i < count {
+    for i in 0..count {
         at = chain_record_if(out, at, d, i, count);
-        i += 1;
     }
     at
 }

@@ -11,10 +11,8 @@ pub(crate) fn byte(out: &mut [u8], at: usize, b: u8) -> usize {
 
 pub(crate) fn word(out: &mut [u8], from: usize, src: &[u8]) -> usize {
     let mut at = byte(out, from, b' ');
-    let mut i = 0;
-    while i < src.len() {
-        at = byte(out, at, src[i]);
-        i += 1;
+    for b in src {
+        at = byte(out, at, *b);
     }
     at
 }

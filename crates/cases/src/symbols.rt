@@ -7,19 +7,16 @@ use refactor::RefactorAnswer;
 use symbol::{AdsSymbolInfo, ExtendedFlags, SymbolAnswer};
 use walk::{Cursor, Step};
 
-fn address(out: &mut [u8], at: usize, info: AdsSymbolInfo) -> usize {
-    let group = info.index_group;
-    let offset = info.index_offset;
+fn address(out: &mut [u8], at: usize, info: &AdsSymbolInfo) -> usize {
     let p = number(out, at, info.length);
-    let q = number(out, p, group.0 as usize);
-    number(out, q, offset.0 as usize)
+    let q = number(out, p, info.index_group.0 as usize);
+    number(out, q, info.index_offset.0 as usize)
 }
 
-fn kind(out: &mut [u8], at: usize, info: AdsSymbolInfo) -> usize {
-    let flags = info.flags;
+fn kind(out: &mut [u8], at: usize, info: &AdsSymbolInfo) -> usize {
     let p = number(out, at, info.size as usize);
     let q = number(out, p, info.data_type_id as usize);
-    let r = number(out, q, flags.0 as usize);
+    let r = number(out, q, info.flags.0 as usize);
     number(out, r, info.high as usize)
 }
 
@@ -39,10 +36,8 @@ fn attribute_if(out: &mut [u8], at: usize, e: &[u8], i: usize, count: usize) -> 
 
 fn attributes(out: &mut [u8], from: usize, e: &[u8], count: usize) -> usize {
     let mut at = number(out, from, count);
-    let mut i = 0;
-    while i < count {
+    for i in 0..count {
         at = attribute_if(out, at, e, i, count);
-        i += 1;
     }
     at
 }
@@ -68,40 +63,34 @@ fn refactor_if(out: &mut [u8], at: usize, e: &[u8], i: usize, count: usize) -> u
 
 fn refactors(out: &mut [u8], from: usize, e: &[u8], count: usize) -> usize {
     let mut at = number(out, from, count);
-    let mut i = 0;
-    while i < count {
+    for i in 0..count {
         at = refactor_if(out, at, e, i, count);
-        i += 1;
     }
     at
 }
 
-fn extended(out: &mut [u8], at: usize, section: ExtendedFlags) -> usize {
-    let flags = section.flags;
+fn extended(out: &mut [u8], at: usize, section: &ExtendedFlags) -> usize {
     if section.here {
-        return number(out, at, flags.0 as usize);
+        return number(out, at, section.flags.0 as usize);
     }
     word(out, at, b"-")
 }
 
-fn header(out: &mut [u8], at: usize, e: &[u8], info: AdsSymbolInfo) -> usize {
+fn header(out: &mut [u8], at: usize, e: &[u8], info: &AdsSymbolInfo) -> usize {
     let p = word(out, at, b"ok");
     let q = address(out, p, info);
     let r = kind(out, q, info);
     strings(out, r, e)
 }
 
-fn sections(out: &mut [u8], at: usize, e: &[u8], info: AdsSymbolInfo) -> usize {
-    let shown = info.attributes;
-    let section = info.extended;
-    let chain = info.refactor_infos;
-    let p = attributes(out, at, e, shown.count);
-    let q = extended(out, p, section);
-    let r = refactors(out, q, e, chain.count);
+fn sections(out: &mut [u8], at: usize, e: &[u8], info: &AdsSymbolInfo) -> usize {
+    let p = attributes(out, at, e, info.attributes.count);
+    let q = extended(out, p, &info.extended);
+    let r = refactors(out, q, e, info.refactor_infos.count);
     number(out, r, info.unread)
 }
 
-fn record(out: &mut [u8], at: usize, e: &[u8], info: AdsSymbolInfo, guid: [u8; 16]) -> usize {
+fn record(out: &mut [u8], at: usize, e: &[u8], info: &AdsSymbolInfo, guid: [u8; 16]) -> usize {
     let p = header(out, at, e, info);
     let q = crate::say::guid(out, p, info.has_guid, &guid);
     sections(out, q, e, info)
@@ -112,7 +101,7 @@ pub(crate) fn direct(out: &mut [u8], at: usize, d: &[u8]) -> usize {
     let answer = read.answer;
     let guid = read.guid;
     match answer {
-        SymbolAnswer::Record(info) => record(out, at, d, info, guid),
+        SymbolAnswer::Record(info) => record(out, at, d, &info, guid),
         SymbolAnswer::Refused(why) => refused(out, at, why),
     }
 }
@@ -154,7 +143,7 @@ fn step(out: &mut [u8], at: usize, d: &[u8], from: usize) -> Went {
             arrive(out, r, from, cursor.at, true)
         }
         Step::Record(info) => {
-            let r = record(out, q, le::part_of(d, from, info.length), info, guid);
+            let r = record(out, q, le::part_of(d, from, info.length), &info, guid);
             arrive(out, r, from, cursor.at, false)
         }
         Step::Refused(why) => {
@@ -168,9 +157,7 @@ fn step(out: &mut [u8], at: usize, d: &[u8], from: usize) -> Went {
 fn walk(out: &mut [u8], from: usize, d: &[u8], start: usize) -> usize {
     let mut at = from;
     let mut cursor = start;
-    let mut left = d.len() + 1;
-    while 0 < left {
-        left = left - 1;
+    for _ in 0..=d.len() {
         let s = step(out, at, d, cursor);
         at = s.said;
         cursor = s.cursor;
