@@ -1,4 +1,6 @@
 // Symbol entries, written into a lent buffer. The Rust has no symbol writer; 01's "Writing" decides.
+#![tactic(auto, unfolding(crate::specs::Writing::numbersOf, crate::specs::Writing::headerOf, crate::specs::Writing::guidOf, crate::specs::Writing::extendedOf, crate::specs::Writing::sectionsOf, crate::specs::Writing::symbolBytes, crate::specs::Writing::agreeing, crate::specs::Writing::symbolChecked, crate::specs::Writing::symbolSize))]
+
 ghost use Rattle.std.specs.Prelude.{◌≡◌, true, ◌+◌, ◌≤◌, length, if◌then◌else◌};
 ghost use Rattle.le.specs.Put.{Wrote};
 ghost use Rattle.refusal.specs.Writing.{Writes};
@@ -12,7 +14,7 @@ use flags::symbol_flags::{AdsSymbol2Flags, AdsSymbolFlags};
 use refusal::{Checked, Refusal, Written};
 
 // What a symbol has besides its GUID's bytes, its strings, its attributes and its refactor records.
-#[derive(Drop)]
+#[derive(Clone, Copy)]
 pub struct SymbolNumbers {
     pub index_group: IndexGroup,
     pub index_offset: IndexOffset,
