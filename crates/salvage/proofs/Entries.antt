@@ -14,7 +14,7 @@ use Rattle.refusal.specs.Refusal.{limit}
 use Rattle.entry.specs.Entry.{claimAt}
 use Rattle.entry.specs.declared.Met.{Met}
 use Rattle.entry.specs.declared.Met.TheVariants as met
-use Rattle.entry.specs.Tells.{Tells, Entry, Refused, End}
+use Rattle.entry.specs.Tells.{Tells, Entry, End}
 use Rattle.entry.proofs.Whole.{Whole, claim-whole}
 use Rattle.entry.proofs.Claims.{meets, own-whole}
 use Rattle.entry.proofs.Demand3.{tells, tells-end, tells-entry}

@@ -14,7 +14,7 @@ use Rattle.refusal.specs.Refusal.{limit}
 use Rattle.refusal.specs.declared.Refusal.{Refusal}
 use Rattle.refusal.specs.declared.Refusal.TheVariants.{TooLarge, OutputTooSmall}
 use Rattle.entry.specs.Entry.{claimAt}
-use Rattle.entry.specs.Walk.{stands, steps}
+use Rattle.entry.specs.Walk.{stands}
 use Rattle.entry.proofs.Claims.{moves-on, moves-within}
 use Rattle.index.specs.Steps.{accepted}
 use Rattle.index.proofs.Laws.{rest, whole, rest_end, rest-step}

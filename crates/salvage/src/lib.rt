@@ -1,4 +1,6 @@
 // Salvages an upload (W-203): every accepted entry of a damaged upload into a new one, and beside it what was dropped.
+#![tactic(auto)]
+
 ghost use Rattle.std.specs.Prelude.{◌≡◌, ◌+◌, ◌≤◌, ◌<◌, ◌∷◌, [], length};
 ghost use Rattle.le.specs.Put.{put, Wrote};
 ghost use Rattle.refusal.specs.Refusal.{limit, figuresOf};
@@ -26,6 +28,7 @@ struct Needed {
 }
 
 // Where the piece of a step ends. A zero claim would stay where it is: all that is left goes with it.
+#[tactic(auto, unfolding(crate::specs::Pieces::pieceEnd))]
 fn piece_end(bytes: &[u8], at: usize, next: usize) -> usize
     requires { next ≡ (claimAt bytes.now at).next }
     ensures { result ≡ pieceEnd bytes.now at }
@@ -54,6 +57,7 @@ fn number_read(read: SymbolRead) -> u32
 }
 
 // Asked only of a step that is refused, so that a step which gives a record is looked at as lightly as an index does.
+#[tactic(auto, unfolding(crate::specs::Pieces::droppedWith, walk::specs::Walk::symbolStep))]
 fn number_at(bytes: &[u8], at: usize, checked: bool) -> u32
     ensures { result ≡ droppedWith checked bytes.now at }
 {
