@@ -1,5 +1,5 @@
 -- What the members of a data type are, and that all ways to ask for them tell the same: proved.
-use Prim.Native.Nat.{ℕ, zero, suc, ◌+◌, ◌-◌, ◌*◌, ◌<◌, ◌≤◌}
+use Prim.Native.Nat.{ℕ, zero, suc, ◌+◌, ◌-◌, ◌*◌, ◌≤◌}
 use native.Mathlib.Omega.{arith}
 use native.Mathlib.Nat.{zero-add, add-zero}
 use native.Mathlib.Numerals.{add-one}
@@ -35,12 +35,6 @@ unfolding nth slots_of part
 slots-part [] k m h = absurd (let z : ◌≡◌ {A = ℕ} 0 1 = cc in omega arith)
 slots-part (x ∷ ms) zero m h = let s : x ≡ m = cc in simp s
 slots-part (x ∷ ms) (suc k) m h = let n : 3 * suc k ≡ suc (suc (suc (3 * k))) = omega arith in simp n (slots-part ms k m h)
-
-asked-nth : (ms : List Member) (k : ℕ) (m : Member) → nth ms k ≡ some m → k < length ms
-unfolding nth
-asked-nth [] k m h = absurd (let z : ◌≡◌ {A = ℕ} 0 1 = cc in omega arith)
-asked-nth (x ∷ ms) zero m h = omega arith
-asked-nth (x ∷ ms) (suc k) m h = omega (arith, asked-nth ms k m h)
 
 -- places laid into slots that have room for them stand there
 laid-take : (slots : List ℕ) (at : ℕ) (places : List ℕ) → at + length places ≤ length slots → take (at + length places) (laid slots at places) ≡ take at slots ++ places
