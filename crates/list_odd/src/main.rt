@@ -1,5 +1,14 @@
 // `list` on odd frames: crates/list_odd/stdin and stdout are written by tools/list_odd.py.
-fn main() {
+#![tactic(auto)]
+
+use std::io;
+
+fn main(rt: HostRuntime) -> io::Result<()> {
     // The listing program is of the present mode.
-    lister::run(false);
+    lister::list(
+        &mut rt.stdin(),
+        &mut rt.stdout(),
+        rt.alloc(),
+        refusal::PRESENT,
+    )
 }
