@@ -1,9 +1,7 @@
--- A writer's call keeps the writer's promise; a bool that is cast to a number.
+-- A writer's call keeps the writer's promise.
 use Prim.Native.Nat.{ℕ}
-use mathlib.Core.Path.{◌≡◌, refl, sym, ◌∙◌}
-use mathlib.Core.Bool.{Bool, true, false}
+use mathlib.Core.Path.{◌≡◌, sym, ◌∙◌}
 use mathlib.Core.List.{List}
-use mir.Val.{bool_byte}
 use Rattle.refusal.specs.declared.Written.{Written}
 use Rattle.refusal.specs.Refusal.{figuresOf}
 use Rattle.refusal.specs.declared.Figures.{Figures}
@@ -12,7 +10,6 @@ use Rattle.refusal.specs.Writing.{Writing, Refuse, Writes}
 use Rattle.salvage.specs.declared.Salvaged.{Salvaged}
 use Rattle.salvage.specs.Both.{Writings, WritesBoth}
 use Rattle.told.specs.Told.{Tells, writtenTold, WritesTold, salvagedTold, WritesBothTold}
-use Rattle.told.specs.Slots.{bit}
 
 pub told-written : {w : Writing} {old new : List ℕ} {x : Written} {status : ℕ} {answer : List ℕ}
     → Writes w old new x → Tells (writtenTold x) status answer → WritesTold w old new status answer
@@ -25,10 +22,6 @@ told-refused t e = record { tells = simp e t; left = simp e }
 pub told-both : {w : Writings} {out runs out' runs' : List ℕ} {x : Salvaged} {status : ℕ} {answer : List ℕ}
     → WritesBoth w out runs out' runs' x → Tells (salvagedTold x) status answer → WritesBothTold w out runs out' runs' status answer
 told-both p t = record { tells = simp (← p.said) t; left-bytes = p.left-bytes; left-slots = p.left-slots }
-
-pub as-bit : (t : Bool) → bool_byte t ≡ bit t
-as-bit true = refl
-as-bit false = refl
 
 -- two statuses and two answers, and two buffers, that one promise allows are equal
 pub one-telling : {f : Figures} {status status' : ℕ} {answer answer' : List ℕ} → Tells f status answer → Tells f status' answer' → (status ≡ status') × (answer ≡ answer')

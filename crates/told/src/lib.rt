@@ -1,4 +1,6 @@
 // Answers told in numbers: a status, two figures, and slots that the caller lends. What crosses to C is made here.
+#![tactic(auto, unfolding(crate::specs::Slots::symbolSlots, crate::specs::Slots::fieldSlots))]
+
 ghost use Rattle.std.specs.Prelude.{◌≡◌, ◌+◌};
 ghost use Rattle.refusal.specs.Refusal.{numbered, figuresOf};
 ghost use Rattle.walk.specs.Walk as walks;
