@@ -1,4 +1,6 @@
 // Answers about data types, told in numbers: what crosses to C is made here, over what crate told has.
+#![tactic(auto, unfolding(crate::specs::Slots::typeSlots, told::specs::Slots::fieldSlots))]
+
 ghost use Rattle.std.specs.Prelude.{◌≡◌, ◌∷◌};
 ghost use Rattle.data_type_walk.specs.Walk.{stepIs};
 ghost use Rattle.told.specs.Told.{Tells};
@@ -14,8 +16,9 @@ fn type_slots(info: AdsDataTypeInfo) -> [u64; 21]
     ensures { result ≡ typeSlots info }
 {
     let field = info.field;
-    let f = told::field_slots(field);
+    let comment = field.comment_len;
     let strings = told::third_at(45, field.name_len, field.type_name_len);
+    let f = told::field_slots(field);
     [
         f[0],
         f[1],
@@ -34,7 +37,7 @@ fn type_slots(info: AdsDataTypeInfo) -> [u64; 21]
         f[14],
         f[15],
         f[16],
-        strings + (field.comment_len as u64),
+        strings + (comment as u64),
         info.array_count as u64,
         info.sub_item_count as u64,
         info.members as u64,
