@@ -1,36 +1,29 @@
 // Builds an index over a sample rig, finds every name of it both ways, and prints what was answered; then the room for
 // uploads of some lengths, and the index of one that needs all of it.
 // tools/index_rig.py makes the expected output, crates/index_rig/stdout, by a walk of its own.
+#![tactic(auto)]
+
 ghost use Rattle.std.specs.Prelude.{◌<◌};
 
 use index::FindAnswer;
 use refusal::{Refusal, Written};
 use room::RoomAnswer;
-
-fn text(bytes: &[u8]) {
-    io::write_all(1, bytes);
-}
-
-fn number(n: usize) {
-    io::print_decimal(1, n as u64);
-}
+use std::io;
 
 // 01's number and figures.
-fn refusal(why: Refusal) {
+fn refusal(rt: &impl Print, why: Refusal) -> io::Result<()> {
     let figures = why.figures();
-    text(b"refused ");
-    number(figures.number as usize);
-    text(b" ");
-    number(figures.expected);
-    text(b" ");
-    number(figures.got);
+    print!(rt;
+        "refused {} {} {}",
+        figures.number, figures.expected, figures.got
+    )
 }
 
-fn answer(found: FindAnswer) {
-    text(b" ");
+fn answer(rt: &impl Print, found: FindAnswer) -> io::Result<()> {
+    print!(rt; " ")?;
     match found {
-        FindAnswer::Found(at) => number(at),
-        FindAnswer::Refused(why) => refusal(why),
+        FindAnswer::Found(at) => print!(rt; "{at}"),
+        FindAnswer::Refused(why) => refusal(rt, why),
     }
 }
 
@@ -74,119 +67,105 @@ fn put_entry(rig: &mut [u8; 1600], i: usize)
     rig[at + 32] = name[2];
 }
 
-fn find_both(rig: &[u8], slots: &[u32], name: &[u8]) {
-    text(name);
-    answer(index::find(rig, refusal::PRESENT, name));
-    answer(index::find_indexed(rig, refusal::PRESENT, slots, name));
-    text(b"\n");
+fn find_both(rt: &impl Print, rig: &[u8], slots: &[u32], name: &[u8]) -> io::Result<()> {
+    rt.write_all(name)?;
+    answer(rt, index::find(rig, refusal::PRESENT, name))?;
+    answer(rt, index::find_indexed(rig, refusal::PRESENT, slots, name))?;
+    println!(rt)
 }
 
-fn find_letters(rig: &[u8], slots: &[u32], n: u8)
+fn find_letters(rt: &impl Print, rig: &[u8], slots: &[u32], n: u8) -> io::Result<()>
     requires { n < 100 }
 {
-    find_both(rig, slots, &name_of(b'v', n));
-    find_both(rig, slots, &name_of(b'V', n));
-    find_both(rig, slots, &name_of(b'{', n));
-    find_both(rig, slots, &name_of(b'[', n));
+    find_both(rt, rig, slots, &name_of(b'v', n))?;
+    find_both(rt, rig, slots, &name_of(b'V', n))?;
+    find_both(rt, rig, slots, &name_of(b'{', n))?;
+    find_both(rt, rig, slots, &name_of(b'[', n))
 }
 
-fn find_all(rig: &[u8], slots: &[u32]) {
-    let mut n = 0;
-    while n < 23 {
-        find_letters(rig, slots, n);
-        n += 1;
+fn find_all(rt: &impl Print, rig: &[u8], slots: &[u32]) -> io::Result<()> {
+    for n in 0..23 {
+        find_letters(rt, rig, slots, n)?;
     }
-    find_both(rig, slots, &name_of(b'w', 0));
+    find_both(rt, rig, slots, &name_of(b'w', 0))
 }
 
-fn survey(rig: &[u8; 1600], slots: &mut [u32]) {
+fn survey(rt: &impl Print, rig: &[u8; 1600], slots: &mut [u32]) -> io::Result<()> {
     match index::build(rig, refusal::PRESENT, slots) {
         Written::Done(n) => {
-            text(b"index ");
-            number(n);
-            text(b"\n");
-            find_all(rig, &slots[0..n]);
+            println!(rt; "index {n}")?;
+            find_all(rt, rig, &slots[..n])
         }
         Written::Refused(why) => {
-            refusal(why);
-            text(b"\n");
-            find_all(rig, slots);
+            refusal(rt, why)?;
+            println!(rt)?;
+            find_all(rt, rig, slots)
         }
     }
 }
 
-fn room_for(length: usize) {
-    text(b"room for ");
-    number(length);
-    text(b" ");
+fn room_for(rt: &impl Print, length: usize) -> io::Result<()> {
+    print!(rt; "room for {length} ")?;
     match room::room(length) {
-        RoomAnswer::Slots(n) => number(n),
-        RoomAnswer::Refused(why) => refusal(why),
+        RoomAnswer::Slots(n) => print!(rt; "{n}")?,
+        RoomAnswer::Refused(why) => refusal(rt, why)?,
     }
-    text(b"\n");
+    println!(rt)
 }
 
-fn rooms() {
-    room_for(0);
-    room_for(32);
-    room_for(33);
-    room_for(65);
-    room_for(66);
-    room_for(refusal::LIMIT);
-    room_for(refusal::LIMIT + 1);
+fn rooms(rt: &impl Print) -> io::Result<()> {
+    room_for(rt, 0)?;
+    room_for(rt, 32)?;
+    room_for(rt, 33)?;
+    room_for(rt, 65)?;
+    room_for(rt, 66)?;
+    room_for(rt, refusal::LIMIT)?;
+    room_for(rt, refusal::LIMIT + 1)
 }
 
 // Claims that lead beyond the end, but for entries of 33 bytes, as many as there is room for.
 fn put_smallest(rig: &mut [u8; 1600]) {
-    *rig = [255u8; 1600];
-    let mut at = 0;
-    while at < 1584 {
+    *rig = [255; 1600];
+    for at in 0..1584 {
         rig[at] = if at % 33 == 0 { 33 } else { 0 };
-        at += 1;
     }
 }
 
-fn build(rig: &[u8], slots: &mut [u32]) {
+fn build(rt: &impl Print, rig: &[u8], slots: &mut [u32]) -> io::Result<()> {
     match index::build(rig, refusal::PRESENT, slots) {
-        Written::Done(n) => {
-            text(b"index ");
-            number(n);
-        }
-        Written::Refused(why) => refusal(why),
+        Written::Done(n) => print!(rt; "index {n}")?,
+        Written::Refused(why) => refusal(rt, why)?,
     }
-    text(b"\n");
+    println!(rt)
 }
 
 // With as many slots as are set aside, and with one fewer.
-fn build_tight(rig: &[u8; 1600], slots: &mut [u32]) {
+fn build_tight(rt: &impl Print, rig: &[u8; 1600], slots: &mut [u32]) -> io::Result<()> {
     match room::room(rig.len()) {
         RoomAnswer::Slots(n) => {
-            if 0 < n {
-                if n <= slots.len() {
-                    build(rig, &mut slots[0..n]);
-                    build(rig, &mut slots[0..n - 1]);
-                }
+            if 0 < n && n <= slots.len() {
+                build(rt, rig, &mut slots[..n])?;
+                build(rt, rig, &mut slots[..n - 1])?;
             }
+            Ok(())
         }
-        RoomAnswer::Refused(why) => refusal(why),
+        RoomAnswer::Refused(why) => refusal(rt, why),
     }
 }
 
-fn main() {
+fn main(rt: HostRuntime) -> io::Result<()> {
     let mut rig = [0u8; 1600];
-    let mut i = 0;
-    while i < 40 {
+    for i in 0..40 {
         put_entry(&mut rig, i);
-        i += 1;
     }
     let mut few = [0u32; 8];
-    survey(&rig, &mut few);
+    survey(&rt, &rig, &mut few)?;
     let mut slots = [0u32; 40];
-    survey(&rig, &mut slots);
+    survey(&rt, &rig, &mut slots)?;
     rig[840] = 0;
-    survey(&rig, &mut slots);
-    rooms();
+    survey(&rt, &rig, &mut slots)?;
+    rooms(&rt)?;
     put_smallest(&mut rig);
     let mut most = [0u32; 64];
-    build_tight(&rig, &mut most);
+    build_tight(&rt, &rig, &mut most)
 }
