@@ -115,6 +115,3 @@ writes count hasNext name h = simp (le-ltb 65535 (length name) h)
 pub block_writes : (count : ℕ) (block : List ℕ) → count ≤ 65535 → refactorsChecked count block ≡ checked.Passed → length block + 2 ≤ limit → blockWriting count block ≡ Bytes (bytes2 count ++ block)
 unfolding blockWriting
 block_writes count block h p k = simp (le-ltb 65535 count h, p, le-ltb limit (length block + 2) k)
-
-pub length-block : (count : ℕ) (block : List ℕ) → length (bytes2 count ++ block) ≡ length block + 2
-length-block count block = simp length-append (omega arith)
