@@ -1,11 +1,14 @@
 // Writes a rig of 120 symbols, grows every entry, cuts the upload at every place, walks each result and prints what it found.
 // tools/fit_rig.py makes the expected output, crates/fit_rig/stdout, by a writer and a walk of its own.
+#![tactic(auto)]
+
 ghost use Rattle.std.specs.Prelude.{◌≤◌, ◌<◌, length};
 
 use flags::index_group::IndexGroup;
 use flags::index_offset::IndexOffset;
 use flags::symbol_flags::{AdsSymbol2Flags, AdsSymbolFlags};
 use refusal::Written;
+use std::io;
 use symbol::AdsSymbolInfo;
 use symbol_writer::SymbolNumbers;
 use walk::{Cursor, Step};
@@ -18,22 +21,14 @@ const BLOCK: [u8; 20] = [
 // Two refactor records, the first with a follower and the name A.
 const CHAIN: [u8; 15] = [1, 0, 0, 1, 1, 0, 65, 0, 16, 0, 0, 0, 0, 0, 0];
 
-#[derive(Drop)]
-pub struct Seen {
-    pub records: usize,
-    pub refusals: usize,
-    pub number: usize,
-    pub expected: usize,
-    pub got: usize,
-}
-
-fn text(bytes: &[u8]) {
-    io::write_all(1, bytes);
-}
-
-fn number(n: usize) {
-    text(b" ");
-    io::print_decimal(1, n as u64);
+// What a walk answered: how many records and refusals, and the figures of the last refusal.
+#[derive(Clone, Copy)]
+struct Seen {
+    records: usize,
+    refusals: usize,
+    number: u32,
+    expected: usize,
+    got: usize,
 }
 
 // Another number for each symbol, whose two bytes differ.
@@ -100,11 +95,7 @@ fn grow(out: &mut [u8], n: usize, extra: usize) -> usize
     }
     let whole = n + extra;
     le::put_u32(out, 0, (whole % 0x1_0000_0000) as u32);
-    let mut i = n;
-    while i < whole {
-        out[i] = 238;
-        i += 1;
-    }
+    out[n..whole].fill(238);
     whole
 }
 
@@ -121,117 +112,87 @@ fn build(out: &mut [u8]) -> usize
     ensures { result ≤ length out.old }
 {
     let mut at: usize = 0;
-    let mut i: u32 = 0;
-    while i < 120 {
+    for i in 0..120 {
         at += put_one(i, &mut out[at..]);
-        i += 1;
     }
     at
 }
 
 // In the checked mode, in which demand 3 holds too; `show_all` walks in the present one.
 fn walk_all(bytes: &[u8]) -> Seen {
-    let mut records: usize = 0;
-    let mut refusals: usize = 0;
-    let mut number: usize = 0;
-    let mut expected: usize = 0;
-    let mut got: usize = 0;
+    let mut seen = Seen {
+        records: 0,
+        refusals: 0,
+        number: 0,
+        expected: 0,
+        got: 0,
+    };
     let mut cursor = Cursor::new();
-    let mut left: usize = 1000;
-    while 0 < left {
-        left = left - 1;
+    for _ in 0..1000usize {
         let stepped = cursor.step(bytes, refusal::CHECKED);
-        let next = stepped.cursor;
-        cursor = next;
-        let step = stepped.step;
-        match step {
-            Step::Finished => {
-                left = 0;
-            }
-            Step::Record(_) => {
-                records = records + 1;
-            }
+        cursor = stepped.cursor;
+        match stepped.step {
+            Step::Finished => return seen,
+            Step::Record(_) => seen.records += 1,
             Step::Refused(why) => {
-                let f = why.figures();
-                refusals = refusals + 1;
-                number = f.number as usize;
-                expected = f.expected;
-                got = f.got;
+                let figures = why.figures();
+                seen = Seen {
+                    records: seen.records,
+                    refusals: seen.refusals + 1,
+                    number: figures.number,
+                    expected: figures.expected,
+                    got: figures.got,
+                };
             }
         }
     }
-    Seen {
+    seen
+}
+
+fn show_record(rt: &impl Print, r: AdsSymbolInfo) -> io::Result<()> {
+    let offset = r.index_offset.0;
+    let flags = r.flags.0;
+    let attributes = r.attributes.count;
+    let chain = r.refactor_infos.count;
+    print!(rt; "record {} {offset} {} {flags} ", r.length, r.size)?;
+    println!(rt; "{} {attributes} {chain} {}", r.high, r.unread)
+}
+
+fn show_all(rt: &impl Print, bytes: &[u8]) -> io::Result<()> {
+    let mut cursor = Cursor::new();
+    for _ in 0..1000usize {
+        let stepped = cursor.step(bytes, refusal::PRESENT);
+        cursor = stepped.cursor;
+        match stepped.step {
+            Step::Finished => return Ok(()),
+            Step::Record(r) => show_record(rt, r)?,
+            Step::Refused(_) => println!(rt; "refused")?,
+        }
+    }
+    Ok(())
+}
+
+fn show_cut(rt: &impl Print, k: usize, seen: Seen) -> io::Result<()> {
+    let Seen {
         records,
         refusals,
         number,
         expected,
         got,
+    } = seen;
+    println!(rt; "cut {k} {records} {refusals} {number} {expected} {got}")
+}
+
+fn cut_all(rt: &impl Print, bytes: &[u8]) -> io::Result<()> {
+    for k in 0..bytes.len() {
+        show_cut(rt, k, walk_all(&bytes[..k]))?;
     }
+    show_cut(rt, bytes.len(), walk_all(bytes))
 }
 
-fn show_record(r: AdsSymbolInfo) {
-    let offset = r.index_offset;
-    let flags = r.flags;
-    let attributes = r.attributes;
-    let chain = r.refactor_infos;
-    text(b"record");
-    number(r.length);
-    number(offset.0 as usize);
-    number(r.size as usize);
-    number(flags.0 as usize);
-    number(r.high as usize);
-    number(attributes.count);
-    number(chain.count);
-    number(r.unread);
-    text(b"\n");
-}
-
-fn show_all(bytes: &[u8]) {
-    let mut cursor = Cursor::new();
-    let mut left: usize = 1000;
-    while 0 < left {
-        left = left - 1;
-        let stepped = cursor.step(bytes, refusal::PRESENT);
-        let next = stepped.cursor;
-        cursor = next;
-        let step = stepped.step;
-        match step {
-            Step::Finished => {
-                left = 0;
-            }
-            Step::Record(r) => {
-                show_record(r);
-            }
-            Step::Refused(_) => {
-                text(b"refused\n");
-            }
-        }
-    }
-}
-
-fn show_cut(k: usize, seen: Seen) {
-    text(b"cut");
-    number(k);
-    number(seen.records);
-    number(seen.refusals);
-    number(seen.number);
-    number(seen.expected);
-    number(seen.got);
-    text(b"\n");
-}
-
-fn cut_all(bytes: &[u8]) {
-    let mut k: usize = 0;
-    while k < bytes.len() {
-        show_cut(k, walk_all(&bytes[0..k]));
-        k += 1;
-    }
-    show_cut(k, walk_all(bytes));
-}
-
-fn main() {
+fn main(rt: HostRuntime) -> io::Result<()> {
     let mut upload = [0u8; 16384];
     let n = build(&mut upload);
-    show_all(&upload[0..n]);
-    cut_all(&upload[0..n]);
+    show_all(&rt, &upload[..n])?;
+    cut_all(&rt, &upload[..n])
 }
