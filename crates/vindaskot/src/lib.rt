@@ -1,4 +1,6 @@
 // The interface for the studio's own software, which is not Rattle: numbers and byte slices, and a status.
+#![tactic(auto)]
+
 mod modes;
 mod types;
 
@@ -339,6 +341,7 @@ pub extern "C" fn vindaskot_refactor_block_write(
     told::written(refactor_info::entries_to_vec(count, block, out), answer)
 }
 
+#[tactic(auto, unfolding(crate::specs::Lent::guidChecked))]
 fn check_guid(present: usize) -> Checked
     ensures { result ≡ guidChecked present }
 {
