@@ -71,6 +71,11 @@ shape red_zone_index                    # = 136
         movb    $1, (%rsp,%rcx)
         ret
 ends red_zone_index
+shape red_zone_read                     # = 80
+        mov     %rax, -72(%rsp)
+        movzwl  -72(%rsp,%rcx), %eax
+        ret
+ends red_zone_read
 shape frame_index                       # = 144
         push    %rbp
         mov     %rsp, %rbp
