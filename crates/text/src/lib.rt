@@ -124,11 +124,10 @@ fn put_decoded(src: &[u8], out: &mut [u8]) -> usize
     requires { length (decoded src.now) ≤ length out.old }
     ensures { Wrote out.old 0 (decoded src.now) out.new result }
 {
-    let table = POINTS;
     let mut at: usize = 0;
     let mut i: usize = 0;
     while i < src.len() {
-        at = put_byte(out, at, &table, src[i]);
+        at = put_byte(out, at, &POINTS, src[i]);
         i += 1;
     }
     at
