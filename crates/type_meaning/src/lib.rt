@@ -1,2 +1,37 @@
 // What the members of a data type are, stated and proved by the bytes; there is nothing to run.
 #![tactic(auto)]
+
+ghost use Rattle.type_meaning.specs.Stand.{TypesStand};
+ghost use Rattle.type_meaning.specs.Meaning.{TypesMeant, TypesAsFields, ArraysMeant, TypesPresent, TypesChecked};
+
+// The theorems. Each is the contract of a function that does nothing, so that none goes unnoticed if its proof does.
+
+// Exactly what stands in the bytes as the layout says is read as a data type, as it stands.
+pub fn types_stand()
+    ensures { TypesStand }
+{}
+
+// The members of a data type that is read are the entries within its bytes, and all ways to ask for them tell the same.
+pub fn types_meant()
+    ensures { TypesMeant }
+{}
+
+// What is read as a data type is read as a field, with the same record and GUID.
+pub fn types_as_fields()
+    ensures { TypesAsFields }
+{}
+
+// An array record by its number is what stands behind the strings, 8 bytes each; past their count it is 14.
+pub fn arrays_meant()
+    ensures { ArraysMeant }
+{}
+
+// What the checked mode reads the present mode reads alike.
+pub fn types_present()
+    ensures { TypesPresent }
+{}
+
+// What the present mode reads the checked mode reads alike, or refuses by an end byte that is not 0.
+pub fn types_checked()
+    ensures { TypesChecked }
+{}
