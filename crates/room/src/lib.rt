@@ -3,6 +3,7 @@
 
 ghost use Rattle.std.specs.Prelude.{◌≡◌};
 ghost use Rattle.room.specs.Room.{room_for};
+ghost use Rattle.room.specs.Meaning.{RoomMeant};
 
 use refusal::Refusal;
 
@@ -23,3 +24,10 @@ pub fn room(length: usize) -> RoomAnswer
     }
     RoomAnswer::Slots(length / LEAST)
 }
+
+// The theorems. Each is the contract of a function that does nothing, so that none goes unnoticed if its proof does.
+
+// So many slots are enough for the index of every upload of that length, fewer are not, what is refused no index takes; and no other operation is so.
+pub fn room_meant()
+    ensures { RoomMeant }
+{}
