@@ -9,6 +9,7 @@ ghost use Rattle.walk.specs.Walk.{stepIs};
 ghost use Rattle.salvage.specs.Both.{WritesBoth};
 ghost use Rattle.salvage.specs.Pieces.{pieceEnd, refusedWith, droppedWith};
 ghost use Rattle.salvage.specs.Salvage.{kept, dropped, salvaging, neededBy};
+ghost use Rattle.salvage.specs.Meaning.{SalvageMeant, CoverOnce};
 
 use entry::Met;
 use refusal::Refusal;
@@ -166,3 +167,15 @@ pub fn salvage(bytes: &[u8], checked: bool, out: &mut [u8], runs: &mut [u32]) ->
         slots: needed.slots,
     }
 }
+
+// The theorems. Each is the contract of a function that does nothing, so that none goes unnoticed if its proof does.
+
+// What a salvage wrote covers the upload, each entry kept and the rest listed; the walk over it tells the same records, and a second salvage drops nothing.
+pub fn salvage_meant()
+    ensures { SalvageMeant }
+{}
+
+// There is one cover of an upload from a place: it decides what is kept and what is listed.
+pub fn cover_once()
+    ensures { CoverOnce }
+{}
