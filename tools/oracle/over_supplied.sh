@@ -29,6 +29,8 @@ mkdir -p "$build/src" "$build/home"
 cp -r "$package/Cargo.toml" "$package/src" "$glue/bitflags" "$build/src/"
 [ ! -f "$package/build.rs" ] || cp "$package/build.rs" "$build/src/"
 [ -d "$build/src/src/ads" ] || cp -r "$glue/src/ads" "$build/src/src/"
+# rt ci refuses a link anywhere in the repository, so they go when the program is built.
+trap 'rm -f "$build/src/supplied" "$build/src/bindings"' EXIT
 ln -s "$supplied" "$build/src/supplied"
 ln -s "$root/bindings" "$build/src/bindings"
 cd "$build/src"
