@@ -1,27 +1,11 @@
--- A writer's call keeps the writer's promise.
+-- What one promise of a call allows is one: status, answer and buffers.
 use Prim.Native.Nat.{ℕ}
 use mathlib.Core.Path.{◌≡◌, sym, ◌∙◌}
 use mathlib.Core.List.{List}
-use Rattle.refusal.specs.declared.Written.{Written}
-use Rattle.refusal.specs.Refusal.{figuresOf}
 use Rattle.refusal.specs.declared.Figures.{Figures}
-use Rattle.refusal.specs.declared.Refusal.{Refusal}
-use Rattle.refusal.specs.Writing.{Writing, Refuse, Writes}
-use Rattle.salvage.specs.declared.Salvaged.{Salvaged}
-use Rattle.salvage.specs.Both.{Writings, WritesBoth}
-use Rattle.told.specs.Told.{Tells, writtenTold, WritesTold, salvagedTold, WritesBothTold}
-
-pub told-written : {w : Writing} {old new : List ℕ} {x : Written} {status : ℕ} {answer : List ℕ}
-    → Writes w old new x → Tells (writtenTold x) status answer → WritesTold w old new status answer
-told-written p t = record { tells = simp (← p.said) t; left = p.left }
-
-pub told-refused : {w : Writing} {why : Refusal} {old : List ℕ} {status : ℕ} {answer : List ℕ}
-    → Tells (figuresOf why) status answer → w ≡ Refuse why → WritesTold w old old status answer
-told-refused t e = record { tells = simp e t; left = simp e }
-
-pub told-both : {w : Writings} {out runs out' runs' : List ℕ} {x : Salvaged} {status : ℕ} {answer : List ℕ}
-    → WritesBoth w out runs out' runs' x → Tells (salvagedTold x) status answer → WritesBothTold w out runs out' runs' status answer
-told-both p t = record { tells = simp (← p.said) t; left-bytes = p.left-bytes; left-slots = p.left-slots }
+use Rattle.refusal.specs.Writing.{Writing}
+use Rattle.salvage.specs.Both.{Writings}
+use Rattle.told.specs.Told.{Tells, WritesTold, WritesBothTold}
 
 -- two statuses and two answers, and two buffers, that one promise allows are equal
 pub one-telling : {f : Figures} {status status' : ℕ} {answer answer' : List ℕ} → Tells f status answer → Tells f status' answer' → (status ≡ status') × (answer ≡ answer')

@@ -40,7 +40,7 @@ impl<'a> AdsSymbolInfoIterator<'a> {
     }
 }
 
-// From an upload: a walker is made, and lent to `next` with the mode. Whoever calls this needs no proof by hand.
+// From an upload: a walker is made, and lent to `next` with the mode.
 pub fn first(bytes: &[u8], checked: bool) -> Stepped
     ensures { result ≡ symbolStep checked bytes.now 0 }
 {
