@@ -1,10 +1,10 @@
-// The index offset of a symbol, a kind of its own: a record can't take an index group for it. The Rust's index_offset.rs.
+//! The index offset of a symbol, a kind of its own: a record can't take an index group for it. The Rust's index_offset.rs.
 ghost use Rattle.std.specs.Prelude.{◌≡◌};
 ghost use Rattle.le.specs.Le.{le4, bytes4};
 
 use crate::bytes_of_u32;
 
-#[derive(Clone, Copy)]
+#[derive(Clone, Copy, Debug, PartialEq, Eq)]
 pub struct IndexOffset(pub u32);
 
 impl IndexOffset {

@@ -1,7 +1,8 @@
-// Flag words and the two parts of an address, each a kind of its own over its number.
-#![tactic(auto, unfolding(crate::specs::Flags::symbolFlagsFrom, crate::specs::Flags::symbol2FlagsFrom, crate::specs::Flags::typeFlagsFrom))]
+//! Flag words and the two parts of an address, each a kind of its own over its number.
+#![tactic(auto, unfolding(crate::specs::Flags::symbol_flags_of, crate::specs::Flags::symbol2_flags_of, crate::specs::Flags::type_flags_of))]
 
 ghost use Rattle.std.specs.Prelude.{◌≡◌};
+ghost use Rattle.flags.specs.RoundTrip.{WordsComeBack};
 ghost use Rattle.le.specs.Le.{bytes4};
 
 pub mod index_group;
@@ -18,3 +19,8 @@ pub(crate) fn bytes_of_u32(x: u32) -> [u8; 4]
     let d = (x / 256 / 256 / 256 % 256) as u8;
     [a, b, c, d]
 }
+
+/// The theorem, as the contract of a function that does nothing: a word's own bytes are read back as that word, with every bit kept.
+pub fn words_come_back()
+    ensures { WordsComeBack }
+{}

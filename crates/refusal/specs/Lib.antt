@@ -3,3 +3,5 @@ pub mod Writing
 pub mod Asked
 pub mod Ends
 pub mod EndsMeant
+pub mod EndBytes
+pub mod Text

@@ -32,20 +32,20 @@ deepest = 16
 abbrev pub numbered : ℕ → ℕ → ℕ → Figures
 numbered number e g = record { number = number; expected = e; got = g }
 
-abbrev pub figuresOf : Refusal → Figures
-figuresOf (UnexpectedLength needed present) = numbered 1 needed present
-figuresOf (TooShort needed present) = numbered 2 needed present
-figuresOf (EntryLengthMismatch needed available) = numbered 3 needed available
-figuresOf (ClaimBelowHeader header claim) = numbered 4 header claim
-figuresOf (TooLarge length) = numbered 5 limit length
-figuresOf (OutputTooSmall needed lent) = numbered 6 needed lent
-figuresOf (TooLong most actual) = numbered 7 most actual
-figuresOf (SectionsDisagree section) = numbered 8 section 0
-figuresOf (BadBlock count good) = numbered 9 count good
-figuresOf ZeroEntryLength = numbered 10 1 0
-figuresOf (BadText place kind) = numbered 11 place kind
-figuresOf BadHexadecimal = numbered 12 0 0
-figuresOf NameNotFound = numbered 13 0 0
-figuresOf (NoSuchNumber count asked) = numbered 14 count asked
-figuresOf TooDeep = numbered 15 deepest (deepest + 1)
-figuresOf (EndByte place byte) = numbered 16 place byte
+abbrev pub figures_of : Refusal → Figures
+figures_of (UnexpectedLength needed present) = numbered 1 needed present
+figures_of (TooShort needed present) = numbered 2 needed present
+figures_of (EntryLengthMismatch needed available) = numbered 3 needed available
+figures_of (ClaimBelowHeader header claim) = numbered 4 header claim
+figures_of (TooLarge length) = numbered 5 limit length
+figures_of (OutputTooSmall needed lent) = numbered 6 needed lent
+figures_of (TooLong most actual) = numbered 7 most actual
+figures_of (SectionsDisagree section) = numbered 8 section 0
+figures_of (BadBlock count good) = numbered 9 count good
+figures_of ZeroEntryLength = numbered 10 1 0
+figures_of (BadText place kind) = numbered 11 place kind
+figures_of BadHexadecimal = numbered 12 0 0
+figures_of NameNotFound = numbered 13 0 0
+figures_of (NoSuchNumber count asked) = numbered 14 count asked
+figures_of TooDeep = numbered 15 deepest (deepest + 1)
+figures_of (EndByte place byte) = numbered 16 place byte

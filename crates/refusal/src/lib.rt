@@ -1,10 +1,15 @@
 // The numbered refusals of 01, and what a writer answers. The Rust's error.rs.
-#![tactic(auto, unfolding(crate::specs::Ends::endsMet, crate::specs::Writing::exactly))]
+#![tactic(auto, unfolding(crate::specs::EndBytes::ended, crate::specs::Ends::endsMet, crate::specs::Writing::exactly))]
 
-ghost use Rattle.std.specs.Prelude.{◌≡◌, ◌∷◌, [], ◌+◌};
-ghost use Rattle.refusal.specs.Refusal.{figuresOf, numbered};
+ghost use Rattle.std.specs.Prelude.{◌≡◌, ◌∷◌, [], ◌+◌, Some};
+ghost use Rattle.refusal.specs.Refusal.{figures_of, numbered};
+ghost use Rattle.refusal.specs.Text.{text_of};
 ghost use Rattle.refusal.specs.Writing.{exactly};
+ghost use Rattle.refusal.specs.EndBytes.{ended};
 ghost use Rattle.refusal.specs.Ends.{endsMet};
+
+use std::error::Error;
+use std::fmt;
 
 // The largest input, and the largest entry that is written.
 pub const LIMIT: usize = 16777216;
@@ -17,7 +22,17 @@ pub const PRESENT: bool = false;
 
 pub const CHECKED: bool = true;
 
-#[derive(Drop)]
+/// Whether an end byte that is not 0 refuses.
+#[derive(Clone, Copy, Debug, PartialEq, Eq)]
+pub enum Mode {
+    /// End bytes are not looked at.
+    Present,
+    /// An end byte other than 0 refuses.
+    Checked,
+}
+
+/// Why a reader or a writer refuses: one case for each number, with what its two figures are made of.
+#[derive(Clone, Copy, Debug, PartialEq, Eq)]
 pub enum Refusal {
     UnexpectedLength { needed: usize, present: usize },
     TooShort { needed: usize, present: usize },
@@ -38,7 +53,7 @@ pub enum Refusal {
 }
 
 // A refusal as 01 writes it: its number and its two figures.
-#[derive(Drop)]
+#[derive(Clone, Copy, Debug, PartialEq, Eq)]
 pub struct Figures {
     pub number: u32,
     pub expected: usize,
@@ -68,7 +83,7 @@ pub enum Written {
 
 impl Refusal {
     pub fn figures(self) -> Figures
-        ensures { result ≡ figuresOf self }
+        ensures { result ≡ figures_of self }
     {
         match self {
             Refusal::UnexpectedLength { needed, present } => numbered(1, needed, present),
@@ -90,6 +105,69 @@ impl Refusal {
         }
     }
 }
+
+impl fmt::Display for Refusal {
+    ghost output = { λ why. Some (text_of why) };
+
+    fn fmt<W: fmt::Write>(&self, f: &mut fmt::Formatter<W>) -> fmt::Result {
+        match self {
+            Refusal::UnexpectedLength { needed, present } => write!(
+                f,
+                "unexpected length: {needed} needed, {present} present"
+            ),
+            Refusal::TooShort { needed, present } => write!(
+                f,
+                "too short: {needed} needed, {present} present"
+            ),
+            Refusal::EntryLengthMismatch { needed, available } => write!(
+                f,
+                "entry length mismatch: {needed} claimed or needed, {available} available"
+            ),
+            Refusal::ClaimBelowHeader { header, claim } => write!(
+                f,
+                "claim below the header: {header} in the header, {claim} claimed"
+            ),
+            Refusal::TooLarge { length } => write!(
+                f,
+                "too large: 16777216 at most, {length} given"
+            ),
+            Refusal::OutputTooSmall { needed, lent } => write!(
+                f,
+                "output too small: {needed} needed, {lent} lent"
+            ),
+            Refusal::TooLong { most, actual } => write!(
+                f,
+                "string or count too long: {most} at most, {actual} given"
+            ),
+            Refusal::SectionsDisagree { section } => write!(
+                f,
+                "symbol flags and sections disagree: section {section}"
+            ),
+            Refusal::BadBlock { count, good } => write!(
+                f,
+                "block is not its count of good records: {count} counted, {good} good at its start"
+            ),
+            Refusal::ZeroEntryLength => write!(f, "zero entry length: 1 at least, 0 claimed"),
+            Refusal::BadText { place, kind } => write!(f, "text: fault {kind} at byte {place}"),
+            Refusal::BadHexadecimal => write!(f, "bad hexadecimal line"),
+            Refusal::NameNotFound => write!(f, "name not found"),
+            Refusal::NoSuchNumber { count, asked } => write!(
+                f,
+                "no such number: {count} there, {asked} asked"
+            ),
+            Refusal::TooDeep => write!(
+                f,
+                "data type entries nest too deep: 16 deep at most, 17 deep met"
+            ),
+            Refusal::EndByte { place, byte } => write!(
+                f,
+                "end byte is not 0: {byte} at byte {place}"
+            ),
+        }
+    }
+}
+
+impl Error for Refusal {}
 
 fn numbered(number: u32, expected: usize, got: usize) -> Figures
     ensures { result ≡ numbered number expected got }
@@ -115,8 +193,19 @@ pub fn check_exact(count: usize, found: Counted, length: usize) -> Checked
     Checked::Refused(Refusal::BadBlock { count, good })
 }
 
+/// Refuses the byte that ends a string, at a place of an entry, unless it is 0.
+#[inline(always)]
+pub fn check_end(place: usize, byte: u8) -> Result<(), Refusal>
+    ensures { result ≡ ended ((place, byte) ∷ []) }
+{
+    if byte != 0 {
+        return Err(Refusal::EndByte { place, byte });
+    }
+    Ok(())
+}
+
 // The end byte so far behind a place, which refuses unless it is 0.
-pub fn check_end(s: &[u8], at: usize, n: usize) -> Checked
+pub fn check_end_at(s: &[u8], at: usize, n: usize) -> Checked
     ensures { result ≡ endsMet s.now ((at + n) ∷ []) }
 {
     if s.len() <= at {
@@ -139,8 +228,8 @@ pub fn check_end(s: &[u8], at: usize, n: usize) -> Checked
 pub fn check_two_ends(s: &[u8], first: usize, n: usize, second: usize, v: usize) -> Checked
     ensures { result ≡ endsMet s.now ((first + n) ∷ (second + v) ∷ []) }
 {
-    match check_end(s, first, n) {
-        Checked::Passed => check_end(s, second, v),
+    match check_end_at(s, first, n) {
+        Checked::Passed => check_end_at(s, second, v),
         Checked::Refused(why) => Checked::Refused(why),
     }
 }

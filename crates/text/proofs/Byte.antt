@@ -1,4 +1,5 @@
 -- The byte of a code point: laws of the search, and the rule of the table. Assumes nothing.
+use Rattle.std.specs.Prelude.{None, Option, Some}
 use Rattle.std.specs.Prelude.{if◌then◌else◌}
 use mathlib.Core.Path.{◌≡◌, refl, sym, ap, ◌∙◌}
 use mathlib.Core.Logic.{◌⊎◌, inl, inr, ⊎_elim}
@@ -14,82 +15,80 @@ use borrow.Author.Tests.{le-ltb, eq-eqb, ne_eqb, eqb-true}
 use Rattle.text.proofs.Table.{both, both_left, both_right, at}
 use Rattle.text.proofs.Utf8.{le-or-lt, utf8-most}
 use Rattle.text.proofs.Laws.{point-low, point-mid, point-high}
-use Rattle.text.specs.Text.{points, codePoint, decoded, seek, byte_of}
+use Rattle.text.specs.Text.{points, code_point, decoded, seek, byte_of}
 use Rattle.text.specs.Utf8.{utf8}
-use Rattle.text.specs.declared.Found.{Found}
-use Rattle.text.specs.declared.Found.TheVariants.{Byte, Nothing}
 
 -- ---- the search
 -- no byte of the n from b on has the code point p
-abbrev pub None : ℕ → ℕ → ℕ → Type 0
-None n b p = (k : ℕ) → k < n → codePoint (b + k) ≡ p → ⊥
+abbrev pub Absent : ℕ → ℕ → ℕ → Type 0
+Absent n b p = (k : ℕ) → k < n → code_point (b + k) ≡ p → ⊥
 
-module _ (n b p : ℕ) (h : None (suc n) b p) where
-  none_first : codePoint b ≡ p → ⊥
-  none_first e = h 0 (omega arith) (ap codePoint (add-zero b) ∙ e)
+module _ (n b p : ℕ) (h : Absent (suc n) b p) where
+  none_first : code_point b ≡ p → ⊥
+  none_first e = h 0 (omega arith) (ap code_point (add-zero b) ∙ e)
 
-  none_rest : None n (b + 1) p
+  none_rest : Absent n (b + 1) p
   none_rest k l e =
       let q : b + suc k ≡ b + 1 + k = omega arith in
-      h (suc k) (omega arith) (ap codePoint q ∙ e)
+      h (suc k) (omega arith) (ap code_point q ∙ e)
 
 -- bytes before, and bytes after, that don't have it
-pub seek-skip : (m n b p : ℕ) → None m b p → seek (m + n) b p ≡ seek n (b + m) p
+pub seek-skip : (m n b p : ℕ) → Absent m b p → seek (m + n) b p ≡ seek n (b + m) p
 unfolding seek
 seek-skip zero n b p h = simp (zero-add, add-zero)
 seek-skip (suc m) n b p h =
     let q : b + 1 + m ≡ b + suc m = omega arith in
-    simp (suc-add, ne_eqb (codePoint b) p (none_first m b p h), seek-skip m n (b + 1) p (none_rest m b p h), q)
+    simp (suc-add, ne_eqb (code_point b) p (none_first m b p h), seek-skip m n (b + 1) p (none_rest m b p h), q)
 
-seek-none : (n b p : ℕ) → None n b p → seek n b p ≡ Nothing
+seek-none : (n b p : ℕ) → Absent n b p → seek n b p ≡ None
 unfolding seek
 seek-none n b p h = ap (λ (k : ℕ). seek k b p) (sym (add-zero n)) ∙ seek-skip n 0 b p h
 
-pub seek-front : (m n b p : ℕ) → None n (b + m) p → seek (m + n) b p ≡ seek m b p
+pub seek-front : (m n b p : ℕ) → Absent n (b + m) p → seek (m + n) b p ≡ seek m b p
 unfolding seek
 seek-front zero n b p h = simp (zero-add, seek-none n b p (simp add-zero at h))
 seek-front (suc m) n b p h =
     let q : b + suc m ≡ b + 1 + m = omega arith in
     simp (suc-add, seek-front m n (b + 1) p (rw q at h))
 
-pub seek-step : (n b p : ℕ) → 0 < n → seek n b p ≡ (if eqb (codePoint b) p then Byte b else seek (n - 1) (b + 1) p)
+pub seek-step : (n b p : ℕ) → 0 < n → seek n b p ≡ (if eqb (code_point b) p then Some b else seek (n - 1) (b + 1) p)
 unfolding seek
 seek-step zero b p h = absurd (omega arith)
 seek-step (suc n) b p h = simp sub-one
 
-seek-at : (m n b p : ℕ) → None m b p → 0 < n → codePoint (b + m) ≡ p → seek (m + n) b p ≡ Byte (b + m)
-seek-at m n b p h l e = seek-skip m n b p h ∙ seek-step n (b + m) p l ∙ simp (eq-eqb (codePoint (b + m)) p e)
+seek-at : (m n b p : ℕ) → Absent m b p → 0 < n → code_point (b + m) ≡ p → seek (m + n) b p ≡ Some (b + m)
+seek-at m n b p h l e = seek-skip m n b p h ∙ seek-step n (b + m) p l ∙ simp (eq-eqb (code_point (b + m)) p e)
 
 -- what is found has the code point
-seek-either : (t : Bool) (n b p c : ℕ) → eqb (codePoint b) p ≡ t → (seek n (b + 1) p ≡ Byte c → (codePoint c ≡ p) × (c < b + 1 + n)) → (if t then Byte b else seek n (b + 1) p) ≡ Byte c → (codePoint c ≡ p) × (c < b + suc n)
+seek-either : (t : Bool) (n b p c : ℕ) → eqb (code_point b) p ≡ t → (seek n (b + 1) p ≡ Some c → (code_point c ≡ p) × (c < b + 1 + n)) → (if t then Some b else seek n (b + 1) p) ≡ Some c → (code_point c ≡ p) × (c < b + suc n)
 seek-either true n b p c u rest v =
     let q : b ≡ c = cc in
-    (ap codePoint (sym q) ∙ eqb-true (codePoint b) p u, omega arith)
+    (ap code_point (sym q) ∙ eqb-true (code_point b) p u, omega arith)
 seek-either false n b p c u rest v =
     let r = rest v in
     (r.0, omega arith)
 
-pub seek-sound : (n b p c : ℕ) → seek n b p ≡ Byte c → (codePoint c ≡ p) × (c < b + n)
+pub seek-sound : (n b p c : ℕ) → seek n b p ≡ Some c → (code_point c ≡ p) × (c < b + n)
 unfolding seek
 seek-sound zero b p c e = let z : ◌≡◌ {A = ℕ} 0 1 = cc in absurd (omega arith)
-seek-sound (suc n) b p c e = seek-either (eqb (codePoint b) p) n b p c refl (seek-sound n (b + 1) p c) e
+seek-sound (suc n) b p c e = seek-either (eqb (code_point b) p) n b p c refl (seek-sound n (b + 1) p c) e
 
-from_either : (t : Bool) (n b p c : ℕ) → (seek n (b + 1) p ≡ Byte c → b + 1 ≤ c) → (if t then Byte b else seek n (b + 1) p) ≡ Byte c → b ≤ c
+from_either : (t : Bool) (n b p c : ℕ) → (seek n (b + 1) p ≡ Some c → b + 1 ≤ c) → (if t then Some b else seek n (b + 1) p) ≡ Some c → b ≤ c
 from_either true n b p c rest v = let q : b ≡ c = cc in omega arith
 from_either false n b p c rest v = omega (arith, rest v)
 
-seek-from : (n b p c : ℕ) → seek n b p ≡ Byte c → b ≤ c
+seek-from : (n b p c : ℕ) → seek n b p ≡ Some c → b ≤ c
 unfolding seek
 seek-from zero b p c e = let z : ◌≡◌ {A = ℕ} 0 1 = cc in absurd (omega arith)
-seek-from (suc n) b p c e = from_either (eqb (codePoint b) p) n b p c (seek-from n (b + 1) p c) e
+seek-from (suc n) b p c e = from_either (eqb (code_point b) p) n b p c (seek-from n (b + 1) p c) e
 
 -- ---- the table's rule, at all of its entries: above 7F, outside A0 to FF, below the surrogates, and found at its own place
 outside : ℕ → Bool
 outside x = if ltb x 0xA0 then true else leb 0x100 x
 
-is_byte : Found → ℕ → Bool
-is_byte (Byte b) c = eqb b c
-is_byte Nothing c = false
+is_byte : Option ℕ → ℕ → Bool
+is_byte (Some b) c = eqb b c
+is_byte None c = false
 
 rule : ℕ → ℕ → Bool
 rule k x = both (leb 0x80 x) (both (outside x) (both (ltb x 0xD800) (is_byte (seek 32 0x80 x) (0x80 + k))))
@@ -98,16 +97,16 @@ pub record Ruled (k x : ℕ) : Type 0 where
   pub high : 128 ≤ x
   pub apart : (x < 160) ⊎ (256 ≤ x)
   pub below : x < 0xD800
-  pub found : seek 32 128 x ≡ Byte (128 + k)
+  pub found : seek 32 128 x ≡ Some (128 + k)
 
 side : (x : ℕ) → T (outside x) → (x < 160) ⊎ (256 ≤ x)
 unfolding outside
 side x t = ⊎_elim (λ h. inr (leb→le 256 x (rw (le-ltb x 160 h) at t))) inl (le-or-lt 160 x)
 
-is-byte : (f : Found) (c : ℕ) → T (is_byte f c) → f ≡ Byte c
+is-byte : (f : Option ℕ) (c : ℕ) → T (is_byte f c) → f ≡ Some c
 unfolding is_byte
-is-byte (Byte b) c t = ap Byte (eqb→eq b c t)
-is-byte Nothing c t = absurd t
+is-byte (Some b) c t = ap Some (eqb→eq b c t)
+is-byte None c t = absurd t
 
 ruled : (k x : ℕ) → T (rule k x) → Ruled k x
 unfolding rule
@@ -123,15 +122,15 @@ ruled k x t =
     }
 
 pub points-ruled : (k : ℕ) → k < 32 → Ruled k (get_or points k 0)
-unfolding points rule outside is_byte seek codePoint
+unfolding points rule outside is_byte seek code_point
 points-ruled k h = ruled k (get_or points k 0) (at rule points tt k h)
 
-table-point : (i : ℕ) → i < 32 → codePoint (128 + i) ≡ get_or points i 0
+table-point : (i : ℕ) → i < 32 → code_point (128 + i) ≡ get_or points i 0
 table-point i h = point-mid {b = 128 + i} (omega arith) (omega arith) ∙ ap (λ (j : ℕ). get_or points j 0) (add-sub_cancel_left 128 i)
 
 -- what a look at the table gives for a byte from 80 to 9F
 pub record Looked (table : List ℕ) (b : ℕ) : Type 0 where
-  pub is : get_or table (b - 128) 0 ≡ codePoint b
+  pub is : get_or table (b - 128) 0 ≡ code_point b
   pub high : 128 ≤ get_or table (b - 128) 0
 
 pub looked : {table : List ℕ} → table ≡ points → (b : ℕ) → 128 ≤ b → b < 160 → Looked table b
@@ -149,9 +148,9 @@ unfolding sum_to
 sum_step i p = simp add-one
 
 -- a sum of 0 is no byte
-abbrev pub sum_is : ℕ → Found
-sum_is zero = Nothing
-sum_is (suc n) = Byte (suc n)
+abbrev pub sum_is : ℕ → Option ℕ
+sum_is zero = None
+sum_is (suc n) = Some (suc n)
 
 summed : ℕ → ℕ → Bool
 summed k x = eqb (sum_to 32 x) (128 + k)
@@ -160,52 +159,52 @@ sum-here : (k : ℕ) → k < 32 → sum_to 32 (get_or points k 0) ≡ 128 + k
 unfolding points summed sum_to
 sum-here k h = eqb→eq (sum_to 32 (get_or points k 0)) (128 + k) (at summed points tt k h)
 
-sum-none : (p i : ℕ) → i ≤ 32 → None 32 128 p → sum_to i p ≡ 0
+sum-none : (p i : ℕ) → i ≤ 32 → Absent 32 128 p → sum_to i p ≡ 0
 unfolding sum_to
 sum-none p zero l h = refl
 sum-none p (suc i) l h = simp (sum-none p i (omega arith) h, ne_eqb (get_or points i 0) p (λ e. h i (omega arith) (table-point i (omega arith) ∙ e)))
 
-pub sum-some : (b : ℕ) → 0 < b → sum_is b ≡ Byte b
+pub sum-some : (b : ℕ) → 0 < b → sum_is b ≡ Some b
 sum-some zero h = absurd (omega arith)
 sum-some (suc n) h = refl
 
-by-seek : (p : ℕ) (f : Found) → seek 32 128 p ≡ f → sum_is (sum_to 32 p) ≡ f
-by-seek p (Byte b) e =
+by-seek : (p : ℕ) (f : Option ℕ) → seek 32 128 p ≡ f → sum_is (sum_to 32 p) ≡ f
+by-seek p (Some b) e =
     let k : ℕ = b - 128 in
     let s = seek-sound 32 128 p b e in
     let l = seek-from 32 128 p b e in
     let q : get_or points k 0 ≡ p = sym (point-mid l s.1) ∙ s.0 in
     let r : 128 + k ≡ b = omega arith in
     ap sum_is (ap (sum_to 32) (sym q) ∙ sum-here k (omega (arith, s.1, l)) ∙ r) ∙ sum-some b (omega (arith, l))
-by-seek p Nothing e = ap sum_is (sum-none p 32 (omega arith) (λ k h q. absurd (let z : ◌≡◌ {A = ℕ} 0 1 = cc ((points-ruled k h).found, e, sym (table-point k h) ∙ q) in omega arith)))
+by-seek p None e = ap sum_is (sum-none p 32 (omega arith) (λ k h q. absurd (let z : ◌≡◌ {A = ℕ} 0 1 = cc ((points-ruled k h).found, e, sym (table-point k h) ∙ q) in omega arith)))
 
 pub sum-is : (p : ℕ) → sum_is (sum_to 32 p) ≡ seek 32 128 p
 sum-is p = by-seek p (seek 32 128 p) refl
 
 -- no code point of the table is above FFFF
-pub table-above : (p : ℕ) → 65535 < p → seek 32 128 p ≡ Nothing
+pub table-above : (p : ℕ) → 65535 < p → seek 32 128 p ≡ None
 table-above p h = seek-none 32 128 p (λ k l e. absurd (let q : get_or points k 0 ≡ p = sym (table-point k l) ∙ e in omega (arith, (points-ruled k l).below)))
 
 -- ---- the byte of a code point
 module _ (p : ℕ) where
-  none_below : (n : ℕ) → n ≤ 128 → n ≤ p → None n 0 p
+  none_below : (n : ℕ) → n ≤ 128 → n ≤ p → Absent n 0 p
   none_below n h l k i e = omega (arith, point-low {b = 0 + k} (omega arith))
 
-  none-table : 160 ≤ p → p < 256 → None 32 128 p
+  none-table : 160 ≤ p → p < 256 → Absent 32 128 p
   none-table h l k i e =
       let q : get_or points k 0 ≡ p = sym (table-point k i) ∙ e in
       ⊎_elim (λ a. omega arith) (λ a. omega arith) (points-ruled k i).apart
 
-  none_above : (n b : ℕ) → 160 ≤ b → ((k : ℕ) → k < n → b + k ≡ p → ⊥) → None n b p
+  none_above : (n b : ℕ) → 160 ≤ b → ((k : ℕ) → k < n → b + k ≡ p → ⊥) → Absent n b p
   none_above n b h l k i e = l k i (sym (point-high {b = b + k} (omega arith)) ∙ e)
 
-  pub byte_low : p < 128 → byte_of p ≡ Byte p
+  pub byte_low : p < 128 → byte_of p ≡ Some p
   unfolding byte_of
   byte_low h =
       let n : 256 ≡ p + (256 - p) = omega arith in
-      ap (λ (k : ℕ). seek k 0 p) n ∙ seek-at p (256 - p) 0 p (none_below p (omega arith) (omega arith)) (omega arith) (point-low (omega arith) ∙ zero-add p) ∙ ap Byte (zero-add p)
+      ap (λ (k : ℕ). seek k 0 p) n ∙ seek-at p (256 - p) 0 p (none_below p (omega arith) (omega arith)) (omega arith) (point-low (omega arith) ∙ zero-add p) ∙ ap Some (zero-add p)
 
-  pub byte_high : 160 ≤ p → p < 256 → byte_of p ≡ Byte p
+  pub byte_high : 160 ≤ p → p < 256 → byte_of p ≡ Some p
   unfolding byte_of
   byte_high h l =
       let n : 96 ≡ (p - 160) + (256 - p) = omega arith in
@@ -214,7 +213,7 @@ module _ (p : ℕ) where
       ∙ seek-skip 32 96 128 p (none-table h l)
       ∙ ap (λ (k : ℕ). seek k 160 p) n
       ∙ seek-at (p - 160) (256 - p) 160 p (none_above (p - 160) 160 (omega arith) (λ k i e. omega arith)) (omega arith) (point-high {b = 160 + (p - 160)} (omega arith) ∙ q)
-      ∙ ap Byte q
+      ∙ ap Some q
 
   -- any other is looked for in the table
   pub byte-table : 128 ≤ p → (p < 160) ⊎ (256 ≤ p) → byte_of p ≡ seek 32 128 p
@@ -225,18 +224,18 @@ module _ (p : ℕ) where
 
 -- ---- every byte has a code point that is a scalar value, and is the byte of it
 pub record Own (b : ℕ) : Type 0 where
-  pub below : codePoint b < 0xD800
-  pub byte : byte_of (codePoint b) ≡ Byte b
+  pub below : code_point b < 0xD800
+  pub byte : byte_of (code_point b) ≡ Some b
 
-own_same : (b : ℕ) → b < 256 → codePoint b ≡ b → byte_of b ≡ Byte b → Own b
+own_same : (b : ℕ) → b < 256 → code_point b ≡ b → byte_of b ≡ Some b → Own b
 own_same b h e f = record { below = omega arith; byte = ap byte_of e ∙ f }
 
 own-table : (b : ℕ) → 128 ≤ b → b < 160 → Own b
 own-table b h l =
-    let e : codePoint b ≡ get_or points (b - 128) 0 = point-mid h l in
+    let e : code_point b ≡ get_or points (b - 128) 0 = point-mid h l in
     let r = points-ruled (b - 128) (omega arith) in
     let q : 128 + (b - 128) ≡ b = omega arith in
-    record { below = omega arith; byte = ap byte_of e ∙ byte-table (get_or points (b - 128) 0) r.high r.apart ∙ r.found ∙ ap Byte q }
+    record { below = omega arith; byte = ap byte_of e ∙ byte-table (get_or points (b - 128) 0) r.high r.apart ∙ r.found ∙ ap Some q }
 
 pub own : (b : ℕ) → b < 256 → Own b
 own b h = ⊎_elim (λ i. ⊎_elim (λ j. own_same b h (point-high j) (byte_high b j h)) (λ j. own-table b i j) (le-or-lt 160 b)) (λ i. own_same b h (point-low i) (byte_low b i)) (le-or-lt 128 b)
@@ -245,4 +244,4 @@ own b h = ⊎_elim (λ i. ⊎_elim (λ j. own_same b h (point-high j) (byte_high
 pub decoded-most : (s : List ℕ) → ((k : ℕ) → get_or s k 0 < 256) → length (decoded s) ≤ 3 * length s
 unfolding decoded
 decoded-most [] h = omega arith
-decoded-most (b ∷ s) h = omega (arith, length-append (utf8 (codePoint b)) (decoded s), utf8-most (codePoint b) (omega (arith, (own b (h 0)).below)), decoded-most s (λ k. h (suc k)))
+decoded-most (b ∷ s) h = omega (arith, length-append (utf8 (code_point b)) (decoded s), utf8-most (code_point b) (omega (arith, (own b (h 0)).below)), decoded-most s (λ k. h (suc k)))

@@ -11,7 +11,7 @@ use lib.Dec.{leb, eqb}
 use lib.ListN.{length, drop}
 use borrow.Author.Tests.{le-leb, leb-true, eqb-true, eqb-false}
 use Rattle.text.proofs.Utf8.{le-or-lt, utf8-1, utf8-2, utf8-3, utf8-4, lead-1, lead-2, lead-3, lead-4, lead_low, lead-over}
-use Rattle.text.specs.Utf8.{utf8, following, scalarOf}
+use Rattle.text.specs.Utf8.{utf8, following, scalar_of}
 use Rattle.text.specs.declared.Scalar.TheVariants.{Point, Bad}
 
 -- a Unicode scalar value: below 110000 and no surrogate
@@ -127,7 +127,7 @@ module _ (b : ℕ) (l : List ℕ) (q w : ℕ) where
       at (ap (λ (m : List ℕ). c.byte ∷ d.byte ∷ m) (sym f.is) ∙ ap (λ (m : List ℕ). c.byte ∷ m) (sym d.is) ∙ sym c.is) (last _ _ _ _ _ q w f.rest)
       (starts-4 b c.byte d.byte f.byte f.after h k i.0 j.0 i.1 j.1 d.low d.high f.low f.high)
 
-  first : scalarOf (b ∷ l) ≡ Point q w → Starts (b ∷ l) q w
+  first : scalar_of (b ∷ l) ≡ Point q w → Starts (b ∷ l) q w
   first e =
       ⊎_elim
       (λ h.
@@ -141,8 +141,8 @@ module _ (b : ℕ) (l : List ℕ) (q w : ℕ) where
       (λ i. absurd (no-point (sym (lead_low b l h i) ∙ e))) (le-or-lt 194 b))
       (λ h. at refl (let r : Point b 1 ≡ Point q w = sym (lead-1 b l h) ∙ e in ((cc), (cc))) (starts-1 b l h)) (le-or-lt 128 b)
 
-pub point-starts : (l : List ℕ) (q w : ℕ) → scalarOf l ≡ Point q w → Starts l q w
-unfolding scalarOf
+pub point-starts : (l : List ℕ) (q w : ℕ) → scalar_of l ≡ Point q w → Starts l q w
+unfolding scalar_of
 point-starts [] q w e = absurd (no-point e)
 point-starts (b ∷ l) q w e = first b l q w e
 
@@ -172,17 +172,17 @@ digits p =
 
 module _ (p : ℕ) (l : List ℕ) where
   -- the bytes of the value, as they stand in a list
-  reads : {bs : List ℕ} → utf8 p ≡ bs → scalarOf (bs ++ l) ≡ Point p (length bs) → scalarOf (utf8 p ++ l) ≡ Point p (length (utf8 p))
-  reads {bs} e r = subst (λ (x : List ℕ). scalarOf (x ++ l) ≡ Point p (length x)) (sym e) r
+  reads : {bs : List ℕ} → utf8 p ≡ bs → scalar_of (bs ++ l) ≡ Point p (length bs) → scalar_of (utf8 p ++ l) ≡ Point p (length (utf8 p))
+  reads {bs} e r = subst (λ (x : List ℕ). scalar_of (x ++ l) ≡ Point p (length x)) (sym e) r
 
-  reads-2 : 128 ≤ p → p < 2048 → scalarOf (utf8 p ++ l) ≡ Point p (length (utf8 p))
+  reads-2 : 128 ≤ p → p < 2048 → scalar_of (utf8 p ++ l) ≡ Point p (length (utf8 p))
   reads-2 h k =
       let b : ℕ = 192 + p / 64 in
       let c : ℕ = 128 + p % 64 in
       let e : b % 32 * 64 + c % 64 ≡ p = omega arith in
       reads (utf8-2 h k) (lead-2 b (c ∷ l) (omega arith) (omega arith) ∙ takes 0 0x80 0xBF (b % 32) 1 c l (omega arith) (omega arith) ∙ done 0x80 0xBF (b % 32 * 64 + c % 64) 2 l e)
 
-  reads-3 : 2048 ≤ p → p < 65536 → (p < 0xD800) ⊎ (0xE000 ≤ p) → scalarOf (utf8 p ++ l) ≡ Point p (length (utf8 p))
+  reads-3 : 2048 ≤ p → p < 65536 → (p < 0xD800) ⊎ (0xE000 ≤ p) → scalar_of (utf8 p ++ l) ≡ Point p (length (utf8 p))
   reads-3 h k plain =
       let b : ℕ = 224 + p / 4096 in
       let c : ℕ = 128 + p / 64 % 64 in
@@ -198,7 +198,7 @@ module _ (p : ℕ) (l : List ℕ) where
       ∙ takes 0 0x80 0xBF (b % 16 * 64 + c % 64) 2 d l (omega arith) (omega arith)
       ∙ done 0x80 0xBF ((b % 16 * 64 + c % 64) * 64 + d % 64) 3 l e)
 
-  reads-4 : 65536 ≤ p → p < 0x110000 → scalarOf (utf8 p ++ l) ≡ Point p (length (utf8 p))
+  reads-4 : 65536 ≤ p → p < 0x110000 → scalar_of (utf8 p ++ l) ≡ Point p (length (utf8 p))
   reads-4 h k =
       let b : ℕ = 240 + p / 262144 in
       let c : ℕ = 128 + p / 4096 % 64 in
@@ -220,11 +220,11 @@ module _ (p : ℕ) (l : List ℕ) where
       ∙ takes 0 0x80 0xBF ((b % 8 * 64 + c % 64) * 64 + d % 64) 3 f l (omega arith) (omega arith)
       ∙ done 0x80 0xBF (((b % 8 * 64 + c % 64) * 64 + d % 64) * 64 + f % 64) 4 l e)
 
-  pub encoded-point : Valid p → scalarOf (utf8 p ++ l) ≡ Point p (length (utf8 p))
+  pub encoded-point : Valid p → scalar_of (utf8 p ++ l) ≡ Point p (length (utf8 p))
   encoded-point v =
       ⊎_elim (λ h. ⊎_elim (λ i. ⊎_elim (λ j. reads-4 j v.below) (λ j. reads-3 i j v.plain) (le-or-lt 65536 p)) (λ i. reads-2 h i) (le-or-lt 2048 p))
       (λ h. reads (utf8-1 h) (lead-1 p l h)) (le-or-lt 128 p)
 
 -- the theorem: the decoder gives the value p of w bytes at the front of a list exactly where the list starts with the encoder's w bytes of p
-pub exact : (l : List ℕ) (p w : ℕ) → (scalarOf l ≡ Point p w → Starts l p w) × (Starts l p w → scalarOf l ≡ Point p w)
-exact l p w = (point-starts l p w, λ s. ap scalarOf s.here ∙ encoded-point p (drop w l) s.valid ∙ ap (Point p) (sym s.wide))
+pub exact : (l : List ℕ) (p w : ℕ) → (scalar_of l ≡ Point p w → Starts l p w) × (Starts l p w → scalar_of l ≡ Point p w)
+exact l p w = (point-starts l p w, λ s. ap scalar_of s.here ∙ encoded-point p (drop w l) s.valid ∙ ap (Point p) (sym s.wide))

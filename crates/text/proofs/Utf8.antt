@@ -10,7 +10,7 @@ use lib.Dec.{eqb}
 use lib.ListN.{length, drop, get_or, drop_of_length-le}
 use lib.Seq.{drop-cons}
 use borrow.Author.Tests.{lt-ltb, le-ltb, le-leb, lt-leb}
-use Rattle.text.specs.Utf8.{utf8, within, following, scalarOf}
+use Rattle.text.specs.Utf8.{utf8, within, following, scalar_of}
 use Rattle.text.specs.declared.Scalar.TheVariants.{Point, Bad}
 
 pub le-or-lt : (a b : ℕ) → (a ≤ b) ⊎ (b < a)
@@ -45,28 +45,28 @@ utf8-most p k = ⊎_elim (λ h. ⊎_elim (λ i. omega (arith, ap length (utf8-3 
 
 -- ---- the decoder at a first byte
 module _ (b : ℕ) (l : List ℕ) where
-  pub lead-1 : b < 128 → scalarOf (b ∷ l) ≡ Point b 1
-  unfolding scalarOf
+  pub lead-1 : b < 128 → scalar_of (b ∷ l) ≡ Point b 1
+  unfolding scalar_of
   lead-1 h = simp (lt-ltb b 128 h)
 
-  pub lead-2 : 194 ≤ b → b < 224 → scalarOf (b ∷ l) ≡ following 1 0x80 0xBF (b % 32) 1 l
-  unfolding scalarOf
+  pub lead-2 : 194 ≤ b → b < 224 → scalar_of (b ∷ l) ≡ following 1 0x80 0xBF (b % 32) 1 l
+  unfolding scalar_of
   lead-2 h k = simp (le-ltb b 128 (omega arith), le-leb 194 b h, le-leb b 223 (omega arith))
 
-  pub lead-3 : 224 ≤ b → b < 240 → scalarOf (b ∷ l) ≡ following 2 (if eqb b 0xE0 then 0xA0 else 0x80) (if eqb b 0xED then 0x9F else 0xBF) (b % 16) 1 l
-  unfolding scalarOf
+  pub lead-3 : 224 ≤ b → b < 240 → scalar_of (b ∷ l) ≡ following 2 (if eqb b 0xE0 then 0xA0 else 0x80) (if eqb b 0xED then 0x9F else 0xBF) (b % 16) 1 l
+  unfolding scalar_of
   lead-3 h k = simp (le-ltb b 128 (omega arith), le-leb 194 b (omega arith), lt-leb b 223 (omega arith), le-leb 224 b h, le-leb b 239 (omega arith))
 
-  pub lead-4 : 240 ≤ b → b < 245 → scalarOf (b ∷ l) ≡ following 3 (if eqb b 0xF0 then 0x90 else 0x80) (if eqb b 0xF4 then 0x8F else 0xBF) (b % 8) 1 l
-  unfolding scalarOf
+  pub lead-4 : 240 ≤ b → b < 245 → scalar_of (b ∷ l) ≡ following 3 (if eqb b 0xF0 then 0x90 else 0x80) (if eqb b 0xF4 then 0x8F else 0xBF) (b % 8) 1 l
+  unfolding scalar_of
   lead-4 h k = simp (le-ltb b 128 (omega arith), le-leb 194 b (omega arith), lt-leb b 223 (omega arith), le-leb 224 b (omega arith), lt-leb b 239 (omega arith), le-leb 240 b h, le-leb b 244 (omega arith))
 
-  pub lead_low : 128 ≤ b → b < 194 → scalarOf (b ∷ l) ≡ Bad
-  unfolding scalarOf
+  pub lead_low : 128 ≤ b → b < 194 → scalar_of (b ∷ l) ≡ Bad
+  unfolding scalar_of
   lead_low h k = simp (le-ltb b 128 h, lt-leb 194 b k, lt-leb 224 b (omega arith), lt-leb 240 b (omega arith))
 
-  pub lead-over : 245 ≤ b → scalarOf (b ∷ l) ≡ Bad
-  unfolding scalarOf
+  pub lead-over : 245 ≤ b → scalar_of (b ∷ l) ≡ Bad
+  unfolding scalar_of
   lead-over h = simp (le-ltb b 128 (omega arith), le-leb 194 b (omega arith), lt-leb b 223 (omega arith), le-leb 224 b (omega arith), lt-leb b 239 (omega arith), le-leb 240 b (omega arith), lt-leb b 244 (omega arith))
 
 -- ---- the decoder inside a sequence, at a place of a list

@@ -23,9 +23,9 @@ following (suc needed) lower upper p seen (b ∷ l) =
     if within lower upper b then following needed 0x80 0xBF (p * 64 + b % 64) (seen + 1) l else Bad
 
 -- the decoder: the scalar value at the front of the list and how many bytes it takes, or that there is none
-unfoldable pub scalarOf : List ℕ → Scalar
-scalarOf [] = Bad
-scalarOf (b ∷ l) =
+unfoldable pub scalar_of : List ℕ → Scalar
+scalar_of [] = Bad
+scalar_of (b ∷ l) =
     if ltb b 0x80 then Point b 1
     else if within 0xC2 0xDF b then following 1 0x80 0xBF (b % 32) 1 l
     else if within 0xE0 0xEF b then following 2 (if eqb b 0xE0 then 0xA0 else 0x80) (if eqb b 0xED then 0x9F else 0xBF) (b % 16) 1 l

@@ -1,15 +1,16 @@
-// Windows-1252 bytes to UTF-8 text and back, into a lent buffer. The Rust's calls of encoding_rs.
+//! Windows-1252 bytes to UTF-8 text and back, into a lent buffer: what the Rust asks encoding_rs for (docs/FORMAT.md, "Text").
 #![tactic(auto)]
 
 ghost use Rattle.std.specs.Prelude.{◌≡◌, ℕ, ◌+◌, ◌≤◌, ◌<◌, length, take, drop, get_or, eqb, if◌then◌else◌};
 ghost use Rattle.std.specs.Int.Bits.{bit_and};
 ghost use Rattle.le.specs.Put.{Wrote};
 ghost use Rattle.refusal.specs.Refusal.{limit};
-ghost use Rattle.refusal.specs.Writing.{Writes, Bytes};
-ghost use Rattle.text.specs.Utf8.{utf8, following, scalarOf};
-ghost use Rattle.text.specs.Text.{points, codePoint, decoded, decodeWriting, seek, byte_of, charOf, encodedFrom, counted, encodeWriting};
+ghost use Rattle.writing.specs.Writing.{Writes};
+ghost use Rattle.text.specs.Utf8.{utf8, following, scalar_of};
+ghost use Rattle.text.specs.RoundTrip.{BytesComeBack, TextComesBack};
+ghost use Rattle.text.specs.Text.{points, code_point, decoded, decoding, seek, byte_of, char_of, encoded_from, counted, encoding};
 
-use refusal::{LIMIT, Refusal, Written};
+use refusal::{LIMIT, Refusal};
 
 // The numbers of these enums are words also where a byte would do: a copy of a byte beside the tag waits for its store.
 
@@ -18,13 +19,6 @@ use refusal::{LIMIT, Refusal, Written};
 enum Scalar {
     Point { p: usize, width: usize },
     Bad,
-}
-
-// The byte of a code point.
-#[derive(Drop)]
-enum Found {
-    Byte(usize),
-    Nothing,
 }
 
 // The character at a place of a text.
@@ -49,10 +43,10 @@ fn one_like(b: u8, mask: u8, value: u8) -> u8
 }
 
 // How many bytes the text of a byte takes: one, one more from 80 on, and one more for the bytes whose code point is above 7FF, 84 to 87
-// and 94 to 97; 89, 8B, 99 and 9B; 80 and 82; 91 and 93; 92. By comparisons and not by a copy of the table (02, W-204), so that the
-// compiler takes many bytes at once.
+// and 94 to 97; 89, 8B, 99 and 9B; 80 and 82; 91 and 93; 92. By comparisons and not by a copy of the table, so that the
+// compiler takes many bytes at once and little stack is used.
 fn byte_width(b: u8) -> u8
-    ensures { (result ≡ length (utf8 (codePoint b))) × (result ≤ 3) }
+    ensures { (result ≡ length (utf8 (code_point b))) × (result ≤ 3) }
 {
     let most = one_like(b, 0xEC, 0x84) + one_like(b, 0xED, 0x89);
     let rest = one_like(b, 0xFD, 0x80) + one_like(b, 0xFD, 0x91) + one_like(b, 0xFF, 0x92);
@@ -79,8 +73,8 @@ fn put_point(out: &mut [u8], at: usize, p: u16) -> usize
 // The three ways write apart, so that only the bytes 80 to 9F look at the table and at their width.
 fn put_byte(out: &mut [u8], at: usize, table: &[u16; 32], b: u8) -> usize
     requires table_value { table.now ≡ points }
-    requires b_in_bounds { at + length (utf8 (codePoint b)) ≤ length out.old }
-    ensures { Wrote out.old at (utf8 (codePoint b)) out.new result }
+    requires b_in_bounds { at + length (utf8 (code_point b)) ≤ length out.old }
+    ensures { Wrote out.old at (utf8 (code_point b)) out.new result }
 {
     if b < 0x80 {
         return le::put_u8(out, at, b);
@@ -167,41 +161,41 @@ fn highest(s: &[u8]) -> u8
 }
 
 // Bytes below 80 are the same on both sides.
-fn put_same(src: &[u8], out: &mut [u8]) -> Written
-    ensures { Writes (Bytes src.now) out.old out.new result }
+fn put_same(src: &[u8], out: &mut [u8]) -> Result<usize, Refusal>
+    ensures { Writes (Ok src.now) out.old out.new result }
 {
     let needed = src.len();
     if out.len() < needed {
-        return Written::Refused(Refusal::OutputTooSmall {
+        return Err(Refusal::OutputTooSmall {
             needed,
             lent: out.len(),
         });
     }
-    Written::Done(le::put_bytes(out, 0, src))
+    Ok(le::put_bytes(out, 0, src))
 }
 
-// Windows-1252 bytes to UTF-8 text.
-pub fn decode(src: &[u8], out: &mut [u8]) -> Written
-    ensures { Writes (decodeWriting src.now) out.old out.new result }
+/// Windows-1252 bytes to UTF-8 text. Refuses with 5 above the limit, and then with 6.
+pub fn decode(src: &[u8], out: &mut [u8]) -> Result<usize, Refusal>
+    ensures { Writes (decoding src.now) out.old out.new result }
 {
     if LIMIT < src.len() {
-        return Written::Refused(Refusal::TooLarge { length: src.len() });
+        return Err(Refusal::TooLarge { length: src.len() });
     }
     if highest(src) < 0x80 {
         return put_same(src, out);
     }
     // No byte takes more than three: where so much is lent, the count would only cost time.
     if src.len() * 3 <= out.len() {
-        return Written::Done(put_decoded(src, out));
+        return Ok(put_decoded(src, out));
     }
     let needed = decoded_length(src);
     if out.len() < needed {
-        return Written::Refused(Refusal::OutputTooSmall {
+        return Err(Refusal::OutputTooSmall {
             needed,
             lent: out.len(),
         });
     }
-    Written::Done(put_decoded(src, out))
+    Ok(put_decoded(src, out))
 }
 
 fn boundary(b: u8, x: u8, here: u8, other: u8) -> u8
@@ -244,7 +238,7 @@ fn following_at(s: &[u8], from: usize, needed: usize, lower: u8, upper: u8, star
 
 fn scalar_at(s: &[u8], at: usize) -> Scalar
     requires { at < length s.now }
-    ensures { result ≡ scalarOf (drop at s.now) }
+    ensures { result ≡ scalar_of (drop at s.now) }
 {
     let b = s[at];
     let next = at + 1;
@@ -281,7 +275,7 @@ fn if_here(here: bool, byte: u16) -> u16
 
 // The byte of a code point, looked for in the table. It looks at all 32, so that the compiler takes many at once: no code point
 // stands there twice, so the sum is the byte of the one that is equal. All places are known, so that no copy of the table is made.
-fn find(p: u16) -> Found
+fn find(p: u16) -> Option<usize>
     ensures { result ≡ seek 32 0x80 p }
 {
     let table = POINTS;
@@ -294,38 +288,38 @@ fn find(p: u16) -> Found
         i += 1;
     }
     if sum == 0 {
-        return Found::Nothing;
+        return None;
     }
-    Found::Byte(sum as usize)
+    Some(sum as usize)
 }
 
-fn byte_of(p: usize) -> Found
+fn byte_of(p: usize) -> Option<usize>
     ensures { result ≡ byte_of p }
 {
     if p < 0x80 {
-        return Found::Byte(p);
+        return Some(p);
     }
     if p < 0xA0 {
         return find(p as u16);
     }
     if p < 0x100 {
-        return Found::Byte(p);
+        return Some(p);
     }
     if 0xFFFF < p {
-        return Found::Nothing;
+        return None;
     }
     find(p as u16)
 }
 
 fn char_at(s: &[u8], at: usize) -> Char
     requires { at < length s.now }
-    ensures { result ≡ charOf (drop at s.now) }
+    ensures { result ≡ char_of (drop at s.now) }
 {
     match scalar_at(s, at) {
         Scalar::Bad => Char::Wrong { kind: 1 },
         Scalar::Point { p, width } => match byte_of(p) {
-            Found::Byte(byte) => Char::Is { byte, width },
-            Found::Nothing => Char::Wrong { kind: 2 },
+            Some(byte) => Char::Is { byte, width },
+            None => Char::Wrong { kind: 2 },
         },
     }
 }
@@ -334,7 +328,7 @@ fn char_at(s: &[u8], at: usize) -> Char
 // Most that are not ASCII are such, and this is small enough to stand in the loops.
 fn latin_at(s: &[u8], at: usize) -> u8
     requires { at < length s.now }
-    ensures { (result ≡ 0 → ⊥) → charOf (drop at s.now) ≡ Char.Is result 2 }
+    ensures { (result ≡ 0 → ⊥) → char_of (drop at s.now) ≡ Char.Is result 2 }
 {
     let next = at + 1;
     if s.len() <= next {
@@ -360,8 +354,8 @@ fn latin_at(s: &[u8], at: usize) -> u8
 }
 
 // How many bytes a text takes, or its first fault.
-fn encoded_length(src: &[u8]) -> Written
-    ensures { result ≡ counted 0 (encodedFrom 0 0 src.now) }
+fn encoded_length(src: &[u8]) -> Result<usize, Refusal>
+    ensures { result ≡ counted 0 (encoded_from 0 0 src.now) }
 {
     let mut n: usize = 0;
     let mut at: usize = 0;
@@ -379,21 +373,21 @@ fn encoded_length(src: &[u8]) -> Written
                     at += width;
                 }
                 Char::Wrong { kind } => {
-                    return Written::Refused(Refusal::BadText { place: at, kind });
+                    return Err(Refusal::BadText { place: at, kind });
                 }
             }
         }
     }
-    Written::Done(n)
+    Ok(n)
 }
 
 // The bytes of a text that was counted, and so has no fault.
-fn put_encoded(src: &[u8], out: &mut [u8], needed: usize) -> Written
-    requires { counted 0 (encodedFrom 0 0 src.now) ≡ Written.Done needed }
-    ensures { Writes (encodedFrom 0 0 src.now) out.old out.new result }
+fn put_encoded(src: &[u8], out: &mut [u8], needed: usize) -> Result<usize, Refusal>
+    requires { counted 0 (encoded_from 0 0 src.now) ≡ Ok needed }
+    ensures { Writes (encoded_from 0 0 src.now) out.old out.new result }
 {
     if out.len() < needed {
-        return Written::Refused(Refusal::OutputTooSmall {
+        return Err(Refusal::OutputTooSmall {
             needed,
             lent: out.len(),
         });
@@ -420,28 +414,38 @@ fn put_encoded(src: &[u8], out: &mut [u8], needed: usize) -> Written
                         at += width;
                     }
                     Char::Wrong { kind: _ } => {
-                        return Written::Done(n);
+                        return Ok(n);
                     }
                 }
             }
         }
     }
-    Written::Done(n)
+    Ok(n)
 }
 
-// UTF-8 text to Windows-1252 bytes.
-pub fn encode(src: &[u8], out: &mut [u8]) -> Written
-    ensures { Writes (encodeWriting src.now) out.old out.new result }
+/// UTF-8 text to Windows-1252 bytes. Refuses with 5 above the limit, with 11 at the first fault of the text, and then with 6.
+pub fn encode(src: &[u8], out: &mut [u8]) -> Result<usize, Refusal>
+    ensures { Writes (encoding src.now) out.old out.new result }
 {
     if LIMIT < src.len() {
-        return Written::Refused(Refusal::TooLarge { length: src.len() });
+        return Err(Refusal::TooLarge { length: src.len() });
     }
     if highest(src) < 0x80 {
         return put_same(src, out);
     }
-    // 11 is looked for in the whole text, before 6.
-    match encoded_length(src) {
-        Written::Done(needed) => put_encoded(src, out, needed),
-        Written::Refused(why) => Written::Refused(why),
-    }
+    // A fault is looked for in the whole text before the room is.
+    let needed = encoded_length(src)?;
+    put_encoded(src, out, needed)
 }
+
+// The theorems. Each is the contract of a function that does nothing, so that none goes unnoticed if its proof does.
+
+/// Bytes are told as a text that gives these bytes back, where the text is within the limit.
+pub fn bytes_come_back()
+    ensures { BytesComeBack }
+{}
+
+/// A text that is accepted is the text of the bytes that it is written as.
+pub fn text_comes_back()
+    ensures { TextComesBack }
+{}

@@ -1,5 +1,5 @@
 // One input through text::decode or text::encode, with every buffer that tells something; what comes back is printed or tallied.
-use refusal::{Figures, Written};
+use refusal::{Figures, Refusal};
 use std::io;
 
 #[derive(Clone, Copy)]
@@ -44,14 +44,14 @@ pub fn begin(shown: bool) -> Group {
     }
 }
 
-fn figures_of(w: Written) -> Figures {
+fn figures_of(w: Result<usize, Refusal>) -> Figures {
     match w {
-        Written::Done(n) => Figures {
+        Ok(n) => Figures {
             number: 0,
             expected: n,
             got: 0,
         },
-        Written::Refused(why) => why.figures(),
+        Err(why) => why.figures(),
     }
 }
 

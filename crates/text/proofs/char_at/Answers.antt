@@ -1,14 +1,14 @@
-use Rattle.text.specs.Text.{charOf}
+use Rattle.text.specs.Text.{char_of}
 use Rattle.text.proofs.char_at.Goals as goal
 
 pub returns-in-Bad : goal.returns-in-Bad
-unfolding charOf
+unfolding char_of
 returns-in-Bad c = simp (← c.scalar_at.ensures, c.in-Bad.is)
 
-pub returns-in-Byte : goal.returns-in-Byte
-unfolding charOf
-returns-in-Byte c = simp (← c.scalar_at.ensures, c.in-Point.is, ← c.byte_of.ensures, c.in-Byte.is)
+pub returns-in-Some : goal.returns-in-Some
+unfolding char_of
+returns-in-Some c = simp (← c.scalar_at.ensures, c.in-Point.is, ← c.byte_of.ensures, c.in-Some.is)
 
-pub returns-in-Nothing : goal.returns-in-Nothing
-unfolding charOf
-returns-in-Nothing c = simp (← c.scalar_at.ensures, c.in-Point.is, ← c.byte_of.ensures, c.in-Nothing.is)
+pub returns-in-None : goal.returns-in-None
+unfolding char_of
+returns-in-None c = simp (← c.scalar_at.ensures, c.in-Point.is, ← c.byte_of.ensures, c.in-None.is)

@@ -1,39 +1,39 @@
+use Rattle.std.specs.Prelude.{Ok}
 use Rattle.std.proofs.Common.{ℕ, List, ap, ◌∙◌, arith}
-use Rattle.refusal.specs.Writing.{Bytes}
 use Rattle.text.proofs.Byte.{decoded-most}
-use Rattle.text.specs.Text.{decoded, decodeWriting}
+use Rattle.text.specs.Text.{decoded, decoding}
 use Rattle.text.proofs.Laws.{same-writing, too_large, in-limit, writes-none, writes-small, writes-done, decoded-same}
 use Rattle.text.proofs.decode.Goals as goal
 
 pub returns-then-src-gt-LIMIT : goal.returns-then-src-gt-LIMIT
-unfolding decodeWriting
+unfolding decoding
 returns-then-src-gt-LIMIT c =
     let s : List ℕ = c.args.src.now in
-    same-writing (too_large s (Bytes (decoded s)) c.if-src-gt-LIMIT.true) writes-none
+    same-writing (too_large s (Ok (decoded s)) c.if-src-gt-LIMIT.true) writes-none
 
 pub returns-then-highest-lt128 : goal.returns-then-highest-lt128
-unfolding decodeWriting
+unfolding decoding
 returns-then-highest-lt128 c =
     let s : List ℕ = c.args.src.now in
-    same-writing (in-limit s (Bytes (decoded s)) c.if-src-gt-LIMIT.false ∙ ap Bytes (decoded-same s (λ k. omega (arith, c.highest.ensures k)))) c.put_same.ensures
+    same-writing (in-limit s (Ok (decoded s)) c.if-src-gt-LIMIT.false ∙ ap Ok (decoded-same s (λ k. omega (arith, c.highest.ensures k)))) c.put_same.ensures
 
 pub put_decoded-requires : goal.put_decoded-requires
 put_decoded-requires c = omega (arith, decoded-most c.args.src.now (λ k. omega (arith, c.type_inv.src k)))
 
 pub returns-then-src-out : goal.returns-then-src-out
-unfolding decodeWriting
+unfolding decoding
 returns-then-src-out c =
     let s : List ℕ = c.args.src.now in
-    same-writing (in-limit s (Bytes (decoded s)) c.if-src-gt-LIMIT.false) (writes-done c.put_decoded.ensures)
+    same-writing (in-limit s (Ok (decoded s)) c.if-src-gt-LIMIT.false) (writes-done c.put_decoded.ensures)
 
 pub returns-then-out-needed : goal.returns-then-out-needed
-unfolding decodeWriting
+unfolding decoding
 returns-then-out-needed c =
     let s : List ℕ = c.args.src.now in
-    same-writing (in-limit s (Bytes (decoded s)) c.if-src-gt-LIMIT.false) (writes-small c.decoded_length-needed.ensures c.if-out-needed.true)
+    same-writing (in-limit s (Ok (decoded s)) c.if-src-gt-LIMIT.false) (writes-small c.decoded_length-needed.ensures c.if-out-needed.true)
 
 pub returns : goal.returns
-unfolding decodeWriting
+unfolding decoding
 returns c =
     let s : List ℕ = c.args.src.now in
-    same-writing (in-limit s (Bytes (decoded s)) c.if-src-gt-LIMIT.false) (writes-done c.put_decoded-2.ensures)
+    same-writing (in-limit s (Ok (decoded s)) c.if-src-gt-LIMIT.false) (writes-done c.put_decoded-2.ensures)

@@ -1,5 +1,5 @@
+use Rattle.std.specs.Prelude.{Ok}
 use Rattle.std.proofs.Common.{sym, ap, ◌∙◌, arith, add-zero}
-use Rattle.refusal.specs.declared.Written.TheVariants.{Done}
 use Rattle.text.proofs.Back.{char-low, encoded-end, encoded-wrong, counting-turn}
 use Rattle.text.specs.Text.{counted}
 use Rattle.text.proofs.encoded_length.Goals as goal
@@ -25,4 +25,4 @@ returns-in-Wrong c =
 
 pub returns : goal.returns
 returns c =
-    sym (ap (counted c.loop-at.n) (encoded-end c.args.src.now c.loop-at.at c.loop-at-test.false) ∙ ap Done (add-zero c.loop-at.n)) ∙ c.loop-at.invariant.left
+    sym (ap (counted c.loop-at.n) (encoded-end c.args.src.now c.loop-at.at c.loop-at-test.false) ∙ ap Ok (add-zero c.loop-at.n)) ∙ c.loop-at.invariant.left

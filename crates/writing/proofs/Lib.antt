@@ -1,0 +1,4 @@
+pub mod Laws
+pub mod Entry
+pub mod Laid
+pub mod Done

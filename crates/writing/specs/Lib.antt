@@ -1,0 +1,3 @@
+pub mod Writing
+pub mod Layout
+pub mod Checks
