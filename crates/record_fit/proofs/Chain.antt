@@ -18,12 +18,12 @@ use Rattle.refusal.specs.Ends.{endsMet}
 use Rattle.refusal.proofs.Asked.{asks-same}
 use Rattle.refusal.proofs.Ends.{pass-in}
 use Rattle.refusal.proofs.Laws.{passed, check-passed, exact}
-use Rattle.refactor.specs.Refactor.{chainFrom, chainAt, chainEnds, chainRead, chainNth, refactorNth}
-use Rattle.refactor.specs.Writing.{goodRefactor, refactorsChecked, blockWriting}
-use Rattle.refactor.specs.Told.{renamingTold, renamingsIn}
-use Rattle.refactor.proofs.Asked.{asks_read}
-use Rattle.refactor.proofs.Read.{whole, chain-read}
-use Rattle.refactor.proofs.Ends.{section-ends}
+use Rattle.old_refactor.specs.Refactor.{chainFrom, chainAt, chainEnds, chainRead, chainNth, refactorNth}
+use Rattle.old_refactor.specs.Writing.{goodRefactor, refactorsChecked, blockWriting}
+use Rattle.old_refactor.specs.Told.{renamingTold, renamingsIn}
+use Rattle.old_refactor.proofs.Asked.{asks_read}
+use Rattle.old_refactor.proofs.Read.{whole, chain-read}
+use Rattle.old_refactor.proofs.Ends.{section-ends}
 use Rattle.record_fit.specs.Refactors.{Back, EntriesReadBack}
 
 -- the records of a good block, asked for by number

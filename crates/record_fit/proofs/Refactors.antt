@@ -21,16 +21,16 @@ use Rattle.refusal.specs.declared.Refusal.TheVariants.{BadBlock}
 use Rattle.refusal.specs.declared.Counted.{Counted}
 use Rattle.refusal.specs.declared.Checked.TheVariants as checked
 use Rattle.refusal.proofs.Laws.{passed}
-use Rattle.refactor.specs.declared.AdsRefactorInfo.{AdsRefactorInfo}
-use Rattle.refactor.specs.declared.RefactorAnswer.TheVariants.{Record}
+use Rattle.old_refactor.specs.declared.AdsRefactorInfo.{AdsRefactorInfo}
+use Rattle.old_refactor.specs.declared.RefactorAnswer.TheVariants.{Record}
 use Rattle.refusal.specs.Ends.{endsMet}
 use Rattle.refusal.proofs.Ends.{pass-in}
-use Rattle.refactor.specs.Refactor.{mask, follower, refactorOf, refactorAt, end_of, refactorRead}
-use Rattle.refactor.specs.Writing.{packedOf, refactorBytes, refactorWriting, goodRecord, goodRefactor, refactorsChecked}
-use Rattle.refactor.specs.Told.{Renaming, renamingOf, renamingsIn, Former, chainBlock}
-use Rattle.refactor.proofs.Laws.{length-refactor, none_left, good-by, writes}
-use Rattle.refactor.proofs.Read.{shift, inside, refactor-inside, name-inside, good-record}
-use Rattle.refactor.proofs.Mask.{within-mask, told-follower, packed-same}
+use Rattle.old_refactor.specs.Refactor.{mask, follower, refactorOf, refactorAt, end_of, refactorRead}
+use Rattle.old_refactor.specs.Writing.{packedOf, refactorBytes, refactorWriting, goodRecord, goodRefactor, refactorsChecked}
+use Rattle.old_refactor.specs.Told.{Renaming, renamingOf, renamingsIn, Former, chainBlock}
+use Rattle.old_refactor.proofs.Laws.{length-refactor, none_left, good-by, writes}
+use Rattle.old_refactor.proofs.Read.{shift, inside, refactor-inside, name-inside, good-record}
+use Rattle.old_refactor.proofs.Mask.{within-mask, told-follower, packed-same}
 use Rattle.record_fit.specs.Kind.{Each, none, more}
 use Rattle.record_fit.specs.Refactors.{Fits, written, chainWritten, lastCount, formers, Byte, RefactorsReadBack, RefactorBlocks, RefactorsFixed, RefactorBlocksMade}
 use Rattle.record_fit.proofs.Blocks as blocks

@@ -8,8 +8,8 @@ use Rattle.refusal.specs.Writing.{counted, goodFrom, exactly}
 use Rattle.refusal.specs.declared.Checked.TheVariants.{Passed}
 use Rattle.attr.specs.Writing.{goodAttribute, attributesChecked}
 use Rattle.attr.specs.Told.{attributesIn, attributesBlock}
-use Rattle.refactor.specs.Writing.{goodRefactor, refactorsChecked}
-use Rattle.refactor.specs.Told.{renamingsIn, chainBlock}
+use Rattle.old_refactor.specs.Writing.{goodRefactor, refactorsChecked}
+use Rattle.old_refactor.specs.Told.{renamingsIn, chainBlock}
 use Rattle.record_fit.specs.Kind.{Each}
 use Rattle.record_fit.specs.Refactors.{formers, Byte}
 use Rattle.record_fit.proofs.Attributes.{attribute-blocks-made}

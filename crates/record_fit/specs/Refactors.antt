@@ -5,12 +5,12 @@ use Rattle.refusal.specs.Asked.{Given, asks}
 use Rattle.refusal.specs.Writing.{Bytes}
 use Rattle.refusal.specs.declared.Refusal.TheVariants.{BadBlock, NoSuchNumber}
 use Rattle.refusal.specs.declared.Checked.TheVariants as checked
-use Rattle.refactor.specs.declared.RefactorAnswer.{RefactorAnswer}
-use Rattle.refactor.specs.declared.RefactorAnswer.TheVariants.{Refused}
-use Rattle.refactor.specs.declared.ChainAnswer.TheVariants.{Whole}
-use Rattle.refactor.specs.Refactor.{follower, refactorRead, byRefactor, chainRead, chainNth}
-use Rattle.refactor.specs.Writing.{packedOf, refactorBytes, refactorWriting, refactorsChecked, blockWriting}
-use Rattle.refactor.specs.Told.{Renaming, renamingTold, renamingsIn, Former, chainBlock}
+use Rattle.old_refactor.specs.declared.RefactorAnswer.{RefactorAnswer}
+use Rattle.old_refactor.specs.declared.RefactorAnswer.TheVariants.{Refused}
+use Rattle.old_refactor.specs.declared.ChainAnswer.TheVariants.{Whole}
+use Rattle.old_refactor.specs.Refactor.{follower, refactorRead, byRefactor, chainRead, chainNth}
+use Rattle.old_refactor.specs.Writing.{packedOf, refactorBytes, refactorWriting, refactorsChecked, blockWriting}
+use Rattle.old_refactor.specs.Told.{Renaming, renamingTold, renamingsIn, Former, chainBlock}
 use Rattle.record_fit.specs.Kind.{Each, ReadBack, Made}
 
 -- the name within its length field of 2 bytes

@@ -1,7 +1,4 @@
-pub mod Laws
-pub mod Read
-pub mod Asked
-pub mod Mask
-pub mod Shown
-pub mod Ends
+pub mod Turn
+pub mod Again
+pub mod Written
 pub mod Modes

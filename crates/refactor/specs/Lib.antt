@@ -1,5 +1,5 @@
 pub mod Refactor
-pub mod Writing
+pub mod Block
 pub mod Told
-pub mod Inside
+pub mod Writing
 pub mod Modes

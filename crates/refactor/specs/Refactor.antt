@@ -1,113 +1,73 @@
--- 01, "Refactor record": packed 4, name length 2, name, end byte. A chain is records up to the first without a follower.
-use Rattle.std.specs.Prelude.{ℕ, zero, suc, ◌+◌, ◌-◌, Bool, List, [], ◌∷◌, ltb, length, if◌then◌else◌}
-use Rattle.std.specs.Int.Bits.{bit_and}
-use Rattle.le.specs.Le.{le2, le4, has, part}
+-- A refactor record, which tells a former name: packed 4, name length 2, name, end byte. A chain is records up to the first that none follows.
+use Rattle.std.specs.Prelude.{ℕ, zero, suc, ◌+◌, List, [], ◌∷◌, slice_get, ok_or, Result, Ok, Err, ltb, length, get_or, bit_and, if◌then◌else◌}
+use Rattle.std.specs.Borrow.{Bor}
+use Rattle.le.specs.Le.{le2, le4, has}
+use Rattle.part.specs.Slice.{part, after}
+use Rattle.part.specs.Outcome.{outcome, and_then}
 use Rattle.refusal.specs.Refusal.{limit}
-use Rattle.refusal.specs.Ends.{endsIn, byChecked}
+use Rattle.refusal.specs.EndBytes.{ended, in_mode}
+use Rattle.refusal.specs.declared.Mode.{Mode}
 use Rattle.refusal.specs.declared.Refusal.{Refusal}
 use Rattle.refusal.specs.declared.Refusal.TheVariants.{TooShort, TooLarge, NoSuchNumber}
 use Rattle.refactor.specs.declared.AdsRefactorInfo.{AdsRefactorInfo}
-use Rattle.refactor.specs.declared.RefactorAnswer.{RefactorAnswer}
-use Rattle.refactor.specs.declared.RefactorAnswer.TheVariants.{Record, Refused}
-use Rattle.refactor.specs.declared.Chain.{Chain}
-use Rattle.refactor.specs.declared.ChainAnswer.{ChainAnswer}
-use Rattle.refactor.specs.declared.ChainAnswer.TheVariants as chain
+use Rattle.refactor.specs.declared.RefactorInfos.{RefactorInfos}
 
--- count is packed with this mask, which holds the follower's bit
+-- the count is packed with this mask, which holds the follower's bit
 abbrev pub mask : ℕ
 mask = 0x01111111
 
 abbrev pub follower : ℕ
 follower = 0x01000000
 
-abbrev pub refactorOf : ℕ → ℕ → ℕ → AdsRefactorInfo
-refactorOf at packed n =
-    record { refactor_count = bit_and packed mask; next_refactor_info = has packed follower; name = at + 6; name_len = n; next = at + (n + 7) }
+-- one at the start of some bytes, with a name of this length, and the bytes after it. Under 7 bytes, or under the whole: 2
+abbrev pub sized : Bor (List ℕ) → ℕ → Result (AdsRefactorInfo × Bor (List ℕ)) Refusal
+sized s n =
+    if ltb (length s.now) 7 then Err (TooShort 7 (length s.now))
+    else if ltb (length s.now) (n + 7) then Err (TooShort (n + 7) (length s.now))
+    else Ok (record { refactor_count = bit_and (le4 s.now 0) mask; next_refactor_info = has (le4 s.now 0) follower; name = part s 6 n }, after s (n + 7))
 
--- under 7 bytes, or under the whole: 2
-unfoldable pub refactorAt : List ℕ → ℕ → RefactorAnswer
-refactorAt s at =
-    if ltb (length s - at) 7 then Refused (TooShort 7 (length s - at))
-    else if ltb (length s - at) (le2 s (at + 4) + 7) then Refused (TooShort (le2 s (at + 4) + 7) (length s - at))
-    else Record (refactorOf at (le4 s at) (le2 s (at + 4)))
+unfoldable pub first_of : Bor (List ℕ) → Result (AdsRefactorInfo × Bor (List ℕ)) Refusal
+first_of s = sized s (le2 s.now 4)
 
--- the bytes that the length places, none where it was refused or has no name
-abbrev pub nameIn : List ℕ → RefactorAnswer → List ℕ
-nameIn s (Record r) = part s r.name r.name_len
-nameIn s (Refused why) = []
+-- at most so many, one after another, up to one that is refused
+unfoldable pub listed : Bor (List ℕ) → ℕ → List AdsRefactorInfo
+listed s zero = []
+listed s (suc left) = outcome (first_of s) (λ p. p.0 ∷ listed p.1 left) (λ why. [])
 
--- the place where it begins, 0 where it was refused
-abbrev pub name_at : RefactorAnswer → ℕ
-name_at (Record r) = r.name
-name_at (Refused why) = 0
+-- a chain, after so many of its records: how many it has, and the bytes after it. Each takes at least a byte of those that are left
+unfoldable pub chained : Bor (List ℕ) → ℕ → ℕ → Result (ℕ × Bor (List ℕ)) Refusal
+chained s count zero = Err (TooShort 7 0)
+chained s count (suc left) = outcome (first_of s) (λ p. if p.0.next_refactor_info then chained p.1 (count + 1) left else Ok (count + 1, p.1)) Err
 
-abbrev pub byRefactor : {A : Type 0} → RefactorAnswer → (AdsRefactorInfo → A) → (Refusal → A) → A
-byRefactor (Record r) on stop = on r
-byRefactor (Refused why) on stop = stop why
+abbrev pub chain_of : Bor (List ℕ) → Result (ℕ × Bor (List ℕ)) Refusal
+chain_of s = chained s 0 (length s.now)
 
--- W-212: the place of a record's end byte
-abbrev pub end_of : AdsRefactorInfo → ℕ
-end_of r = r.name + r.name_len
+-- with its records
+abbrev pub infos_of : Bor (List ℕ) → Result (RefactorInfos × Bor (List ℕ)) Refusal
+infos_of s = and_then (chain_of s) (λ p. Ok (record { bytes = s; count = p.0 }, p.1))
 
--- a record read alone in a mode, which may be followed by other bytes: its end byte after its lengths
-unfoldable pub refactorRead : Bool → List ℕ → RefactorAnswer
-refactorRead mode s =
-    if ltb limit (length s) then Refused (TooLarge (length s))
-    else byRefactor (refactorAt s 0) (λ r. byChecked (endsIn mode s (end_of r ∷ [])) (Record r) Refused) Refused
-
--- the chain from a place on, after so many records; each takes at least a byte of those that are left
-unfoldable pub chainFrom : List ℕ → ℕ → ℕ → ℕ → ChainAnswer
-chainFrom s at count zero = chain.Refused (TooShort 7 0)
-chainFrom s at count (suc left) =
-    byRefactor (refactorAt s at)
-    (λ r. if r.next_refactor_info then chainFrom s r.next (count + 1) left else chain.Whole (record { count = count + 1; next = r.next }))
-    chain.Refused
-
-unfoldable pub chainAt : List ℕ → ℕ → ChainAnswer
-chainAt s at = chainFrom s at 0 (length s - at)
-
--- the places of the end bytes of its records, up to one that is refused, in the order in which they are met; each takes at least a byte of those that are left
-unfoldable pub chainEndsFrom : List ℕ → ℕ → ℕ → List ℕ
-chainEndsFrom s at zero = []
-chainEndsFrom s at (suc left) =
-    byRefactor (refactorAt s at)
-    (λ r. end_of r ∷ (if r.next_refactor_info then chainEndsFrom s r.next left else []))
+-- the end bytes of its records up to one that is refused, with their places in an entry where the chain begins at a place
+unfoldable pub ends_from : Bor (List ℕ) → ℕ → ℕ → List (ℕ × ℕ)
+ends_from s at zero = []
+ends_from s at (suc left) = outcome (first_of s) (λ p.
+    let n : ℕ = 6 + length p.0.name.now in
+    (at + n, get_or s.now n 0) ∷ (if p.0.next_refactor_info then ends_from p.1 (at + n + 1) left else []))
     (λ why. [])
 
-unfoldable pub chainEnds : List ℕ → ℕ → List ℕ
-chainEnds s at = chainEndsFrom s at (length s - at)
+abbrev pub ends : Bor (List ℕ) → ℕ → List (ℕ × ℕ)
+ends s at = ends_from s at (length s.now)
 
--- a chain read alone in a mode, which may be followed by other bytes: an end byte is met before a later record that is refused
-unfoldable pub chainRead : Bool → List ℕ → ChainAnswer
-chainRead mode s =
-    if ltb limit (length s) then chain.Refused (TooLarge (length s))
-    else byChecked (endsIn mode s (chainEnds s 0)) (chainAt s 0) chain.Refused
+abbrev pub numbered : List AdsRefactorInfo → ℕ → ℕ → Result AdsRefactorInfo Refusal
+numbered all count number = ok_or (slice_get all number) (NoSuchNumber count number)
 
--- a refused chain is dropped whole and moves nothing
-abbrev pub keptChain : ChainAnswer → ℕ → Chain
-keptChain (chain.Whole c) at = c
-keptChain (chain.Refused why) at = record { count = 0; next = at }
+-- one that stands alone, which other bytes may follow, in a mode
+abbrev pub alone : Mode → Bor (List ℕ) → Result AdsRefactorInfo Refusal
+alone mode s =
+    if ltb limit (length s.now) then Err (TooLarge (length s.now))
+    else and_then (first_of s) (λ p. and_then (in_mode mode (ended ((6 + length p.0.name.now, get_or s.now (6 + length p.0.name.now) 0) ∷ []))) (λ _. Ok p.0))
 
--- the chain of an entry, if it is flagged and a byte remains
-unfoldable pub chainSection : List ℕ → ℕ → Bool → Chain
-chainSection s at flagged =
-    if flagged then
-    if ltb at (length s) then keptChain (chainAt s at) at
-    else record { count = 0; next = at }
-    else record { count = 0; next = at }
-
--- the record with a number, counted from 0 at a place
-unfoldable pub refactorNth : List ℕ → ℕ → ℕ → RefactorAnswer
-refactorNth s at zero = refactorAt s at
-refactorNth s at (suc number) = byRefactor (refactorAt s at) (λ r. refactorNth s r.next number) Refused
-
-abbrev pub byChain : {A : Type 0} → ChainAnswer → (Chain → A) → (Refusal → A) → A
-byChain (chain.Whole c) on stop = on c
-byChain (chain.Refused why) on stop = stop why
-
--- the record of a chain with a number: the reading refusals, then 14
-unfoldable pub chainNth : Bool → List ℕ → ℕ → RefactorAnswer
-chainNth mode s number =
-    byChain (chainRead mode s)
-    (λ c. if ltb number c.count then refactorNth s 0 number else Refused (NoSuchNumber c.count number))
-    Refused
+-- and a chain: an end byte is met before a later record that is refused
+abbrev pub chain_alone : Mode → Bor (List ℕ) → Result (RefactorInfos × Bor (List ℕ)) Refusal
+chain_alone mode s =
+    if ltb limit (length s.now) then Err (TooLarge (length s.now))
+    else and_then (in_mode mode (ended (ends s 0))) (λ _. infos_of s)

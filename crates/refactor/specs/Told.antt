@@ -1,36 +1,30 @@
--- What refactor records tell: a count, whether another follows, and a former name.
-use Rattle.std.specs.Prelude.{ℕ, zero, suc, Bool, true, false, List, [], ◌∷◌, ◌++◌}
-use Rattle.le.specs.Le.{part}
-use Rattle.refusal.specs.Refusal.{figuresOf}
-use Rattle.refusal.specs.Asked.{Asked, Given, Refused}
+-- What refactor records tell, wherever they lie: a count, whether another follows, and a former name.
+use Rattle.std.specs.Prelude.{ℕ, ◌<◌, ◌≡◌, Bool, List, ◌++◌, map, Ok, length}
+use Rattle.std.specs.Borrow.{Bor}
+use Rattle.part.specs.Slice.{after}
+use Rattle.refusal.specs.EndBytes.{ended}
 use Rattle.refactor.specs.declared.AdsRefactorInfo.{AdsRefactorInfo}
-use Rattle.refactor.specs.declared.RefactorAnswer.{RefactorAnswer}
-use Rattle.refactor.specs.Refactor.{refactorAt, byRefactor}
-use Rattle.refactor.specs.Writing.{packedOf, refactorBytes}
+use Rattle.refactor.specs.Refactor.{listed, chain_of, ends}
+use Rattle.refactor.specs.Block.{block_checked}
 
-pub record Renaming : Type 0 where
+pub record Told : Type 0 where
   pub count : ℕ
-  pub follows : Bool
+  pub followed : Bool
   pub name : List ℕ
 
--- what a record of these bytes tells
-abbrev pub renamingOf : List ℕ → AdsRefactorInfo → Renaming
-renamingOf s r = record { count = r.refactor_count; follows = r.next_refactor_info; name = part s r.name r.name_len }
+abbrev pub told_of : AdsRefactorInfo → Told
+told_of r = record { count = r.refactor_count; followed = r.next_refactor_info; name = r.name.now }
 
-abbrev pub renamingTold : List ℕ → RefactorAnswer → Asked Renaming
-renamingTold s t = byRefactor t (λ r. Given (renamingOf s r)) (λ why. Refused (figuresOf why))
+abbrev pub told : List AdsRefactorInfo → List Told
+told = map told_of
 
--- the records of a block, at most so many from a place on, up to one that is refused
-unfoldable pub renamingsIn : List ℕ → ℕ → ℕ → List Renaming
-renamingsIn s at zero = []
-renamingsIn s at (suc left) = byRefactor (refactorAt s at) (λ r. renamingOf s r ∷ renamingsIn s r.next left) (λ why. [])
+-- so many records are read of bytes that begin as a block does: those of the block, all of them. Where there are any they are a chain to the block's end, with end bytes 0
+pub record IsRead (count : ℕ) (block s : Bor (List ℕ)) : Type 0 where
+  pub tells : told (listed s count) ≡ told (listed block count)
+  pub long : length (listed s count) ≡ count
+  pub chain : 0 < count → chain_of s ≡ Ok (count, after s (length block.now))
+  pub ended : 0 < count → (place : ℕ) → ended (ends s place) ≡ Ok tt
 
--- what a record is written from; and the records of a chain one after another, each but the last saying that another follows
-pub record Former : Type 0 where
-  pub count : ℕ
-  pub name : List ℕ
-
-unfoldable pub chainBlock : List Former → List ℕ
-chainBlock [] = []
-chainBlock (r ∷ []) = refactorBytes (packedOf r.count false) r.name
-chainBlock (r ∷ next ∷ more) = refactorBytes (packedOf r.count true) r.name ++ chainBlock (next ∷ more)
+-- a block that passes is read wherever it stands, whatever follows it
+abbrev pub BlocksRead : Type 0
+BlocksRead = (count : ℕ) (block s : Bor (List ℕ)) (more : List ℕ) → block_checked count block ≡ Ok tt → s.now ≡ block.now ++ more → IsRead count block s

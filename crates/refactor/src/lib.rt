@@ -1,230 +1,176 @@
-// Refactor records inside an entry or a block: at a place, in a chain, by number, checked. Crate refactor_info offers records and chains that stand alone.
-#![tactic(auto, unfolding(le::specs::Le::part, crate::specs::Refactor::refactorAt, crate::specs::Refactor::chainAt, crate::specs::Refactor::chainEnds, crate::specs::Refactor::chainSection, crate::specs::Writing::goodRecord, crate::specs::Writing::refactorsChecked))]
+//! Refactor records, which tell the info names of a symbol, and chains of them.
+#![tactic(auto, unfolding(crate::specs::Refactor::first_of, crate::specs::Refactor::listed, le::specs::Le::le2, le::specs::Le::le4))]
 
-ghost use Rattle.std.specs.Prelude.{◌≡◌, ◌∷◌, [], ◌+◌};
-ghost use Rattle.le.specs.Place.{Behind, begins};
-ghost use Rattle.refactor.specs.Refactor.{refactorAt, nameIn, name_at, chainAt, chainSection, keptChain, refactorNth, end_of, chainEnds};
-ghost use Rattle.refactor.specs.Writing.{goodRecord, goodRefactor, refactorsChecked};
-ghost use Rattle.refusal.specs.Writing.{goodFrom};
-ghost use Rattle.refusal.specs.Ends.{endsMet};
+ghost use Rattle.std.specs.Prelude.{◌≡◌, ◌+◌, ◌<◌, ◌^◌, length};
+ghost use Rattle.std.specs.Iterator.{YieldsFirst, item_count};
+ghost use Rattle.refusal.specs.EndBytes.{ended};
+ghost use Rattle.refactor.specs.Refactor.{first_of, alone, infos_of, chain_alone, listed, ends, numbered};
 
-use refusal::{Checked, Counted, Refusal};
+mod block;
+pub mod theorems;
+mod writer;
 
-// A record of a slice: its name by place and length, and the place after it.
-#[derive(Clone, Copy)]
-pub struct AdsRefactorInfo {
+pub use block::check_block;
+use refusal::{LIMIT, Mode, Refusal};
+pub use writer::entries_to_vec;
+
+#[derive(Clone, Copy, Debug, PartialEq, Eq)]
+pub struct AdsRefactorInfo<'a> {
     pub refactor_count: u32,
+    /// Whether another record follows.
     pub next_refactor_info: bool,
-    pub name: usize,
-    pub name_len: u16,
-    pub next: usize,
+    pub name: &'a [u8],
 }
 
-#[derive(Drop)]
-pub enum RefactorAnswer {
-    Record(AdsRefactorInfo),
-    Refused(Refusal),
-}
-
-// How many records a chain has, and the place after them.
-#[derive(Drop)]
-pub struct Chain {
+/// The records of a chain, read one by one as they are asked for.
+#[derive(Clone, Copy, Debug)]
+pub struct RefactorInfos<'a> {
+    pub bytes: &'a [u8],
     pub count: usize,
-    pub next: usize,
 }
 
-#[derive(Drop)]
-pub enum ChainAnswer {
-    Whole(Chain),
-    Refused(Refusal),
-}
-
-impl AdsRefactorInfo {
-    pub const MIN_LENGTH: usize = 7;
-
-    pub const REFACTOR_COUNT_MASK: u32 = 0x01111111;
-
-    pub const NEXT_REFACTOR_INFO_MASK: u32 = 0x01000000;
-}
-
-// The record at a place of an entry's or a block's own bytes.
-pub fn refactor_at(s: &[u8], at: usize) -> RefactorAnswer
-    ensures { result ≡ refactorAt s.now at }
+/// The record at the start of some bytes, and the bytes after it.
+pub fn first(bytes: &[u8]) -> Result<(AdsRefactorInfo<'_>, &[u8]), Refusal>
+    ensures { result ≡ first_of bytes.entry }
 {
-    let there = le::room(s.len(), at);
-    if there < 7 {
-        return RefactorAnswer::Refused(Refusal::TooShort {
-            needed: 7,
-            present: there,
+    let present = bytes.len();
+    if present < AdsRefactorInfo::MIN_LENGTH {
+        return Err(Refusal::TooShort {
+            needed: AdsRefactorInfo::MIN_LENGTH,
+            present,
         });
     }
-    let name_len = le::u16_at(s, at + 4);
-    let whole = le::wide(name_len) + 7;
-    if there < whole {
-        return RefactorAnswer::Refused(Refusal::TooShort {
-            needed: whole,
-            present: there,
-        });
+    let name = le::u16_at(bytes, 4) as usize;
+    let needed = name + 7;
+    if present < needed {
+        return Err(Refusal::TooShort { needed, present });
     }
-    let packed = le::u32_at(s, at);
-    RefactorAnswer::Record(AdsRefactorInfo {
+    let packed = le::u32_at(bytes, 0);
+    let info = AdsRefactorInfo {
         refactor_count: packed & AdsRefactorInfo::REFACTOR_COUNT_MASK,
         next_refactor_info: packed / AdsRefactorInfo::NEXT_REFACTOR_INFO_MASK % 2 == 1,
-        name: at + 6,
-        name_len,
-        next: at + whole,
-    })
+        name: &bytes[6..6 + name],
+    };
+    Ok((info, &bytes[needed..]))
 }
 
-pub fn name_in(s: &[u8], answer: RefactorAnswer) -> &[u8]
-    ensures result_value { result.now ≡ nameIn s.now answer }
-    ensures behind { Behind s.entry result (begins s.now (name_at answer)) }
+/// The chain at the start of some bytes, and the bytes after it.
+#[tactic(auto, using(crate::proofs::Turn::room, crate::proofs::Turn::goes_on, crate::proofs::Turn::is_last, crate::proofs::Turn::is_refused))]
+pub fn chain(bytes: &[u8]) -> Result<(RefactorInfos<'_>, &[u8]), Refusal>
+    ensures { result ≡ infos_of bytes.entry }
 {
-    match answer {
-        RefactorAnswer::Record(r) => le::part_of(s, r.name, le::wide(r.name_len)),
-        RefactorAnswer::Refused(_) => &s[..0],
-    }
-}
-
-// The end byte of a record of these bytes.
-pub fn check_record_end(s: &[u8], r: AdsRefactorInfo) -> Checked
-    ensures { result ≡ endsMet s.now (end_of r ∷ []) }
-{
-    refusal::check_end(s, r.name, le::wide(r.name_len))
-}
-
-// The end bytes of the chain from a place on, also of one that is refused at a later record.
-pub fn check_chain_ends(s: &[u8], from: usize) -> Checked
-    ensures { result ≡ endsMet s.now (chainEnds s.now from) }
-{
-    let mut at = from;
-    let mut left = le::room(s.len(), from);
-    while 0 < left {
-        left = left - 1;
-        match refactor_at(s, at) {
-            RefactorAnswer::Record(r) => {
-                if let Checked::Refused(why) = check_record_end(s, r) {
-                    return Checked::Refused(why);
-                }
-                at = r.next;
-                if r.next_refactor_info {
-                    continue;
-                }
-                return Checked::Passed;
-            }
-            RefactorAnswer::Refused(_) => {
-                return Checked::Passed;
-            }
-        }
-    }
-    Checked::Passed
-}
-
-// The chain from a place on. Each record takes bytes, so those that are left fall.
-pub fn chain_from(s: &[u8], from: usize) -> ChainAnswer
-    ensures { result ≡ chainAt s.now from }
-{
-    let mut at = from;
-    let mut count = 0;
+    let mut rest = RefactorInfos { bytes, count: 0 };
     loop {
-        match refactor_at(s, at) {
-            RefactorAnswer::Record(r) => {
-                count = count + 1;
-                at = r.next;
-                if r.next_refactor_info {
-                    continue;
-                }
-                return ChainAnswer::Whole(Chain { count, next: at });
+        let (info, next) = first(rest.bytes)?;
+        rest.bytes = next;
+        rest.count += 1;
+        if !info.next_refactor_info {
+            let count = rest.count;
+            return Ok((RefactorInfos { bytes, count }, rest.bytes));
+        }
+    }
+}
+
+/// Refuses the first end byte that is not 0 of the chain at the start of some bytes, which begin at a place of an entry.
+/// A chain that is refused at a later record has end bytes up to there.
+#[tactic(auto, using(crate::proofs::Turn::room, crate::proofs::Turn::ends_go_on, crate::proofs::Turn::ends_last, crate::proofs::Turn::ends_refused, refusal::proofs::EndBytes::ended_passed, refusal::proofs::EndBytes::ended_refused, refusal::proofs::EndBytes::ended_none))]
+pub fn check_ends(bytes: &[u8], place: usize) -> Result<(), Refusal>
+    requires { place + length bytes.now < 2 ^ 64 }
+    ensures { result ≡ ended (ends bytes.entry place) }
+{
+    let mut rest = RefactorInfos { bytes, count: 0 };
+    let mut at = place;
+    while let Ok((info, next)) = first(rest.bytes) {
+        let end = 6 + info.name.len();
+        refusal::check_end(at + end, rest.bytes[end])?;
+        if !info.next_refactor_info {
+            break;
+        }
+        at += end + 1;
+        rest.bytes = next;
+        rest.count += 1;
+    }
+    Ok(())
+}
+
+impl<'a> AdsRefactorInfo<'a> {
+    /// The fewest bytes that one has: the packed count, the name's length and its end byte.
+    pub const MIN_LENGTH: usize = 7;
+
+    /// What the count is packed with. It contains the bit of `NEXT_REFACTOR_INFO_MASK`.
+    pub const REFACTOR_COUNT_MASK: u32 = 0x0111_1111;
+
+    /// The bit of the packed count that says that another record follows.
+    pub const NEXT_REFACTOR_INFO_MASK: u32 = 0x0100_0000;
+
+    /// Reads a record that stands alone: 5, 2, and in the checked mode 16. Other bytes may follow it.
+    #[tactic(auto, using(crate::proofs::Turn::room))]
+    pub fn parse(bytes: &'a [u8], mode: Mode) -> Result<AdsRefactorInfo<'a>, Refusal>
+        ensures { result ≡ alone mode bytes.entry }
+    {
+        let length = bytes.len();
+        if length > LIMIT {
+            return Err(Refusal::TooLarge { length });
+        }
+        let (info, _) = first(bytes)?;
+        if mode == Mode::Checked {
+            let end = 6 + info.name.len();
+            refusal::check_end(end, bytes[end])?;
+        }
+        Ok(info)
+    }
+}
+
+impl<'a> Iterator for RefactorInfos<'a> {
+    type Item = AdsRefactorInfo<'a>;
+
+    ghost next_gives = { YieldsFirst (λ s. listed s.bytes s.count) };
+
+    ghost remaining = { item_count (λ s. listed s.bytes s.count) };
+
+    fn next(&mut self) -> Option<AdsRefactorInfo<'a>> {
+        if self.count == 0 {
+            return None;
+        }
+        self.count -= 1;
+        match first(self.bytes) {
+            Ok((info, rest)) => {
+                self.bytes = rest;
+                Some(info)
             }
-            RefactorAnswer::Refused(why) => {
-                return ChainAnswer::Refused(why);
+            Err(_) => {
+                self.count = 0;
+                None
             }
         }
     }
 }
 
-// The chain of an entry. One that is refused is dropped whole and moves nothing.
-pub fn chain_section(s: &[u8], at: usize, flagged: bool) -> Chain
-    ensures { result ≡ chainSection s.now at flagged }
-{
-    if flagged {
-        if at < s.len() {
-            return kept(chain_from(s, at), at);
+impl<'a> RefactorInfos<'a> {
+    /// Reads a chain that stands alone, and gives the bytes after it too: 5, in the checked mode the first end byte that is
+    /// not 0, also of a chain that is refused at a later record, and then 2.
+    #[tactic(auto)]
+    pub fn parse(bytes: &'a [u8], mode: Mode) -> Result<(RefactorInfos<'a>, &'a [u8]), Refusal>
+        ensures { result ≡ chain_alone mode bytes.entry }
+    {
+        let length = bytes.len();
+        if length > LIMIT {
+            return Err(Refusal::TooLarge { length });
         }
-    }
-    Chain { count: 0, next: at }
-}
-
-fn kept(answer: ChainAnswer, at: usize) -> Chain
-    ensures { result ≡ keptChain answer at }
-{
-    match answer {
-        ChainAnswer::Whole(chain) => chain,
-        ChainAnswer::Refused(_) => Chain { count: 0, next: at },
-    }
-}
-
-// The record with a number, counted from 0 at a place.
-pub fn refactor_nth(s: &[u8], from: usize, number: usize) -> RefactorAnswer
-    ensures { result ≡ refactorNth s.now from number }
-{
-    let mut at = from;
-    let mut left = number;
-    while 0 < left {
-        left = left - 1;
-        match refactor_at(s, at) {
-            RefactorAnswer::Record(r) => {
-                at = r.next;
-            }
-            RefactorAnswer::Refused(why) => {
-                return RefactorAnswer::Refused(why);
-            }
+        if mode == Mode::Checked {
+            check_ends(bytes, 0)?;
         }
+        chain(bytes)
     }
-    refactor_at(s, at)
-}
 
-fn is_good(s: &[u8], packed: u32, r: AdsRefactorInfo, follows: bool) -> bool
-    ensures { result ≡ goodRecord s.now packed r follows }
-{
-    if packed == r.refactor_count {
-        if r.next_refactor_info == follows {
-            return le::zero_at(s, r.name, le::wide(r.name_len));
-        }
+    /// The record with a number, counted from 0.
+    pub fn get(mut self, number: usize) -> Result<AdsRefactorInfo<'a>, Refusal>
+        ensures { result ≡ numbered (listed self.entry.bytes self.entry.count) self.entry.count number }
+    {
+        let count = self.count;
+        self.nth(number).ok_or(Refusal::NoSuchNumber {
+            count,
+            asked: number,
+        })
     }
-    false
-}
-
-// Good records at a block's start, at most so many.
-fn good_from(s: &[u8], count: usize) -> Counted
-    ensures { result ≡ goodFrom (goodRefactor s.now) 0 0 count }
-{
-    let mut at = 0;
-    let mut good = 0;
-    let mut left = count;
-    while 0 < left {
-        left = left - 1;
-        match refactor_at(s, at) {
-            RefactorAnswer::Record(r) => {
-                let packed = le::u32_at(s, at);
-                if is_good(s, packed, r, 0 < left) {
-                    at = r.next;
-                    good = good + 1;
-                } else {
-                    return Counted { good, next: at };
-                }
-            }
-            RefactorAnswer::Refused(_) => {
-                return Counted { good, next: at };
-            }
-        }
-    }
-    Counted { good, next: at }
-}
-
-// Whether a block is exactly its count of good records.
-pub fn check_refactors(count: usize, block: &[u8]) -> Checked
-    ensures { result ≡ refactorsChecked count block.now }
-{
-    refusal::check_exact(count, good_from(block, count), block.len())
 }

@@ -1,0 +1,6 @@
+pub mod Room
+pub mod Laws
+pub mod Again
+pub mod Written
+pub mod Fit
+pub mod Modes

@@ -1,0 +1,6 @@
+pub mod Attribute
+pub mod Block
+pub mod Told
+pub mod Writing
+pub mod Fit
+pub mod Modes

@@ -1,0 +1,204 @@
+//! Attributes: a name and a value each, as parts of the bytes that they were read from.
+#![tactic(auto, unfolding(crate::specs::Attribute::first_of, crate::specs::Attribute::listed, crate::specs::Attribute::after_listed))]
+
+ghost use Rattle.std.specs.Prelude.{◌≡◌, ◌+◌, ◌<◌, ◌^◌, length};
+ghost use Rattle.std.specs.Iterator.{YieldsFirst, item_count};
+ghost use Rattle.refusal.specs.EndBytes.{ended};
+ghost use Rattle.attribute.specs.Attribute.{first_of, listed, after_listed, stopped, ends, numbered, named, alone};
+
+mod block;
+pub mod theorems;
+mod writer;
+
+pub use block::check_block;
+use refusal::{LIMIT, Mode, Refusal};
+
+#[derive(Clone, Copy, Debug, PartialEq, Eq)]
+pub struct AdsAttribute<'a> {
+    pub name: &'a [u8],
+    pub value: &'a [u8],
+}
+
+/// The attributes of an entry, read one by one as they are asked for.
+#[derive(Clone, Copy, Debug)]
+pub struct Attributes<'a> {
+    pub bytes: &'a [u8],
+    pub count: usize,
+}
+
+/// The attribute at the start of some bytes, and the bytes after it.
+pub fn first(bytes: &[u8]) -> Result<(AdsAttribute<'_>, &[u8]), Refusal>
+    ensures { result ≡ first_of bytes.entry }
+{
+    let present = bytes.len();
+    if present < AdsAttribute::MIN_LENGTH {
+        return Err(Refusal::TooShort {
+            needed: AdsAttribute::MIN_LENGTH,
+            present,
+        });
+    }
+    let name = bytes[0] as usize;
+    let value = bytes[1] as usize;
+    let needed = name + value + 4;
+    if present < needed {
+        return Err(Refusal::UnexpectedLength { needed, present });
+    }
+    let attribute = AdsAttribute {
+        name: &bytes[2..name + 2],
+        value: &bytes[name + 3..name + 3 + value],
+    };
+    Ok((attribute, &bytes[needed..]))
+}
+
+impl<'a> AdsAttribute<'a> {
+    /// The fewest bytes that one has: two lengths and two end bytes.
+    pub const MIN_LENGTH: usize = 4;
+
+    /// Reads an attribute that stands alone. Other bytes may follow it.
+    #[tactic(auto)]
+    pub fn parse(bytes: &'a [u8], mode: Mode) -> Result<AdsAttribute<'a>, Refusal>
+        ensures { result ≡ alone mode bytes.entry }
+    {
+        let length = bytes.len();
+        if length > LIMIT {
+            return Err(Refusal::TooLarge { length });
+        }
+        let (attribute, _) = first(bytes)?;
+        if mode == Mode::Checked {
+            Attributes { bytes, count: 1 }.check_ends(0)?;
+        }
+        Ok(attribute)
+    }
+}
+
+impl<'a> Iterator for Attributes<'a> {
+    type Item = AdsAttribute<'a>;
+
+    ghost next_gives = { YieldsFirst (λ s. listed s.bytes s.count) };
+
+    ghost remaining = { item_count (λ s. listed s.bytes s.count) };
+
+    fn next(&mut self) -> Option<AdsAttribute<'a>> {
+        if self.count == 0 {
+            return None;
+        }
+        self.count -= 1;
+        match first(self.bytes) {
+            Ok((attribute, rest)) => {
+                self.bytes = rest;
+                Some(attribute)
+            }
+            Err(_) => {
+                self.count = 0;
+                None
+            }
+        }
+    }
+}
+
+/// At most so many attributes, up to one that is refused, and the bytes after them.
+#[tactic(auto, unfolding(crate::specs::Attribute::listed, crate::specs::Attribute::after_listed))]
+pub fn list(bytes: &[u8], most: usize) -> (Attributes<'_>, &[u8])
+    ensures attributes { result.0 ≡ record { bytes = bytes.entry; count = length (listed bytes.entry most) } }
+    ensures rest { result.1 ≡ after_listed bytes.entry most }
+{
+    let mut rest = Attributes { bytes, count: most };
+    let mut count = 0;
+    while rest.count > 0 {
+        let Ok((_, next)) = first(rest.bytes) else {
+            break
+        };
+        rest.bytes = next;
+        rest.count -= 1;
+        count += 1;
+    }
+    (Attributes { bytes, count }, rest.bytes)
+}
+
+/// Attributes, the bytes after them, and why there are no more, if one was refused.
+#[derive(Clone, Copy, Debug)]
+pub struct Listed<'a> {
+    pub attributes: Attributes<'a>,
+    pub rest: &'a [u8],
+    pub stopped: Option<Refusal>,
+}
+
+/// At most so many attributes, up to one that is refused, with its refusal. Where the bytes end after an attribute,
+/// none is missed.
+#[tactic(auto, using(crate::proofs::Laws::nothing_listed, crate::proofs::Laws::nothing_after), unfolding(crate::specs::Attribute::listed, crate::specs::Attribute::after_listed, crate::specs::Attribute::stopped))]
+pub fn list_with_reason(bytes: &[u8], most: usize) -> Listed<'_>
+    ensures attributes { result.attributes ≡ record { bytes = bytes.entry; count = length (listed bytes.entry most) } }
+    ensures rest { result.rest ≡ after_listed bytes.entry most }
+    ensures stopped { result.stopped ≡ stopped bytes.entry most }
+{
+    let mut rest = Attributes { bytes, count: most };
+    let mut count = 0;
+    while rest.count > 0 {
+        match first(rest.bytes) {
+            Ok((_, next)) => {
+                rest.bytes = next;
+                rest.count -= 1;
+                count += 1;
+                if next.is_empty() {
+                    break;
+                }
+            }
+            Err(why) => {
+                return Listed {
+                    attributes: Attributes { bytes, count },
+                    rest: rest.bytes,
+                    stopped: Some(why),
+                };
+            }
+        }
+    }
+    Listed {
+        attributes: Attributes { bytes, count },
+        rest: rest.bytes,
+        stopped: None,
+    }
+}
+
+impl<'a> Attributes<'a> {
+    /// The attribute with a number, counted from 0.
+    pub fn get(mut self, number: usize) -> Result<AdsAttribute<'a>, Refusal>
+        ensures { result ≡ numbered (listed self.entry.bytes self.entry.count) self.entry.count number }
+    {
+        let count = self.count;
+        self.nth(number).ok_or(Refusal::NoSuchNumber {
+            count,
+            asked: number,
+        })
+    }
+
+    /// The first attribute with a name.
+    pub fn named(mut self, name: &[u8]) -> Result<AdsAttribute<'a>, Refusal>
+        ensures { result ≡ named (listed self.entry.bytes self.entry.count) name.now }
+    {
+        self.find(|attribute| attribute.name == name)
+            .ok_or(Refusal::NameNotFound)
+    }
+
+    /// Refuses the first end byte that is not 0, in an entry where the first attribute begins at a place.
+    #[tactic(auto, using(crate::proofs::Room::room, crate::proofs::Room::ends_step, refusal::proofs::EndBytes::ended_passed, refusal::proofs::EndBytes::ended_refused, refusal::proofs::EndBytes::ended_none), unfolding(crate::specs::Attribute::ends))]
+    pub fn check_ends(self, place: usize) -> Result<(), Refusal>
+        requires { place + length self.bytes.now < 2 ^ 64 }
+        ensures { result ≡ ended (ends self.entry.bytes place self.entry.count) }
+    {
+        let mut rest = self;
+        let mut at = place;
+        while rest.count > 0 {
+            let Ok((attribute, next)) = first(rest.bytes) else {
+                break
+            };
+            let name_end = 2 + attribute.name.len();
+            let value_end = name_end + 1 + attribute.value.len();
+            refusal::check_end(at + name_end, rest.bytes[name_end])?;
+            refusal::check_end(at + value_end, rest.bytes[value_end])?;
+            at += value_end + 1;
+            rest.bytes = next;
+            rest.count -= 1;
+        }
+        Ok(())
+    }
+}

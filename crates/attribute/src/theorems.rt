@@ -1,0 +1,35 @@
+//! Theorems. Each is the contract of a function that does nothing, so that none goes unnoticed if its proof does.
+ghost use Rattle.attribute.specs.Told.{BlocksRead};
+ghost use Rattle.attribute.specs.Modes.{AttributesModes};
+ghost use Rattle.attribute.specs.Fit.{AttributesReadBack, AttributeBlocks, AttributesFixed, AttributeBlocksMade};
+
+/// A block that passes is read wherever it stands, whatever follows it.
+pub fn blocks_read()
+    ensures { BlocksRead }
+{}
+
+/// An attribute is written exactly where it fits its length fields. Its bytes, with any bytes after them, are read as what
+/// was written, and only they are taken.
+pub fn attributes_read_back()
+    ensures { AttributesReadBack }
+{}
+
+/// Attributes one after another are a good block of their count, and the block tells them.
+pub fn attribute_blocks()
+    ensures { AttributeBlocks }
+{}
+
+/// A block is that of one list of attributes.
+pub fn attributes_fixed()
+    ensures { AttributesFixed }
+{}
+
+/// A block that passes is the block of the attributes that it tells.
+pub fn attribute_blocks_made()
+    ensures { AttributeBlocksMade }
+{}
+
+/// The modes agree where 0 follows both strings of an attribute, and the checked mode accepts nothing else.
+pub fn attributes_modes()
+    ensures { AttributesModes }
+{}
