@@ -2,41 +2,38 @@
 use Rattle.std.specs.Prelude.{if◌then◌else◌}
 use Prim.Native.Nat.{ℕ, ◌+◌, ◌-◌, ◌<◌, ◌≤◌}
 use native.Mathlib.Omega.{arith}
-use native.Mathlib.Nat.{add-zero}
-use mathlib.Core.Path.{◌≡◌, refl, sym, ap, ◌∙◌}
+use mathlib.Core.Path.{◌≡◌, refl, ap, ◌∙◌}
 use mathlib.Core.Bool.{Bool, true, false}
 use mathlib.Core.List.{List}
 use lib.Dec.{ltb, leb}
 use lib.ListN.{length}
 use borrow.Author.Tests.{leb-true, leb-false, ltb-true, ltb-false}
-use Rattle.le.specs.Le.{le4, part}
-use Rattle.le.proofs.Laws.{length_part, get_d_part}
+use Rattle.le.specs.Le.{le4}
 use Rattle.refusal.specs.Refusal.{limit}
 use Rattle.refusal.specs.declared.Refusal.TheVariants.{TooShort, EntryLengthMismatch, TooLarge}
-use Rattle.entry.specs.declared.Met.TheVariants as met
+use Rattle.std.specs.Prelude.{Some, None, Ok, Err}
 use Rattle.entry.specs.declared.Claimed.{Claimed}
-use Rattle.entry.specs.Entry.{claimed, claimAt}
-use Rattle.entry.proofs.Whole.{Whole}
+use Rattle.entry.specs.Entry.{claimed, claim_at}
 
 -- the five answers of a step's own checks, each with what is known there
 pub data Claims (s : List ℕ) (at : ℕ) : Claimed → Type 0 where
-  ended : length s ≤ at → Claims s at (claimed met.Finished at)
-  large : at < length s → limit < length s → Claims s at (claimed (met.Refused (TooLarge (length s))) (length s))
-  short : at < length s → length s ≤ limit → length s - at < 4 → Claims s at (claimed (met.Refused (TooShort (at + 4) (length s))) (length s))
-  beyond : at < length s → length s ≤ limit → 4 ≤ length s - at → length s - at < le4 s at → Claims s at (claimed (met.Refused (EntryLengthMismatch (le4 s at) (length s - at))) (length s))
-  entry : at < length s → length s ≤ limit → 4 ≤ length s - at → le4 s at ≤ length s - at → Claims s at (claimed (met.Entry (le4 s at)) (at + le4 s at))
+  ended : length s ≤ at → Claims s at (claimed None at)
+  large : at < length s → limit < length s → Claims s at (claimed (Some (Err (TooLarge (length s)))) (length s))
+  short : at < length s → length s ≤ limit → length s - at < 4 → Claims s at (claimed (Some (Err (TooShort (at + 4) (length s)))) (length s))
+  beyond : at < length s → length s ≤ limit → 4 ≤ length s - at → length s - at < le4 s at → Claims s at (claimed (Some (Err (EntryLengthMismatch (le4 s at) (length s - at)))) (length s))
+  entry : at < length s → length s ≤ limit → 4 ≤ length s - at → le4 s at ≤ length s - at → Claims s at (claimed (Some (Ok (le4 s at))) (at + le4 s at))
 
-pub claims : (s : List ℕ) (at : ℕ) → Claims s at (claimAt s at)
-unfolding claimAt
+pub claims : (s : List ℕ) (at : ℕ) → Claims s at (claim_at s at)
+unfolding claim_at
 claims s at = by (leb (length s) at) (ltb limit (length s)) (ltb (length s - at) 4) (ltb (length s - at) (le4 s at)) refl refl refl refl
   where
     by : (p q r t : Bool) → leb (length s) at ≡ p → ltb limit (length s) ≡ q → ltb (length s - at) 4 ≡ r → ltb (length s - at) (le4 s at) ≡ t
         → Claims s at (
-        if p then claimed met.Finished at
-        else if q then claimed (met.Refused (TooLarge (length s))) (length s)
-        else if r then claimed (met.Refused (TooShort (at + 4) (length s))) (length s)
-        else if t then claimed (met.Refused (EntryLengthMismatch (le4 s at) (length s - at))) (length s)
-        else claimed (met.Entry (le4 s at)) (at + le4 s at)
+        if p then claimed None at
+        else if q then claimed (Some (Err (TooLarge (length s)))) (length s)
+        else if r then claimed (Some (Err (TooShort (at + 4) (length s)))) (length s)
+        else if t then claimed (Some (Err (EntryLengthMismatch (le4 s at) (length s - at)))) (length s)
+        else claimed (Some (Ok (le4 s at))) (at + le4 s at)
         )
     by true q r t a b c d = ended (leb-true (length s) at a)
     by false true r t a b c d = large (leb-false (length s) at a) (ltb-true limit (length s) b)
@@ -50,12 +47,12 @@ pub record Meets (s : List ℕ) (at size : ℕ) : Type 0 where
   pub room : at + size ≤ length s
   pub four : at + 4 ≤ length s
   pub small : length s ≤ limit
-  pub next : (claimAt s at).next ≡ at + size
+  pub next : (claim_at s at).next ≡ at + size
 
-pub meets : (s : List ℕ) (at size : ℕ) → (claimAt s at).met ≡ met.Entry size → Meets s at size
-meets s at size e = by (claimAt s at) refl (claims s at) e
+pub meets : (s : List ℕ) (at size : ℕ) → (claim_at s at).size ≡ Some (Ok size) → Meets s at size
+meets s at size e = by (claim_at s at) refl (claims s at) e
   where
-    by : (c : Claimed) → claimAt s at ≡ c → Claims s at c → c.met ≡ met.Entry size → Meets s at size
+    by : (c : Claimed) → claim_at s at ≡ c → Claims s at c → c.size ≡ Some (Ok size) → Meets s at size
     by c f (ended a) e = absurd (let u : ◌≡◌ {A = ℕ} 0 1 = cc in omega arith)
     by c f (large a b) e = absurd (let u : ◌≡◌ {A = ℕ} 0 1 = cc in omega arith)
     by c f (short a b d) e = absurd (let u : ◌≡◌ {A = ℕ} 0 1 = cc in omega arith)
@@ -64,20 +61,9 @@ meets s at size e = by (claimAt s at) refl (claims s at) e
         let u : le4 s at ≡ size = cc in
         record { claim = u; room = omega arith; four = omega arith; small = b; next = ap (λ c. c.next) f ∙ ap (λ (k : ℕ). at + k) u }
 
--- its own bytes are a whole entry, where they hold their claim
-pub own-claim : (s : List ℕ) (at size : ℕ) → 4 ≤ size → le4 (part s at size) 0 ≡ le4 s at
-unfolding le4
-own-claim s at size h =
-    simp (get_d_part s at size 0 0 (omega arith), get_d_part s at size 1 0 (omega arith), get_d_part s at size 2 0 (omega arith), get_d_part s at size 3 0 (omega arith), add-zero)
-
-pub own-whole : (s : List ℕ) (at size : ℕ) → Meets s at size → 4 ≤ size → Whole (part s at size)
-own-whole s at size m h =
-    let l = length_part s at size m.room in
-    record { claims = own-claim s at size h ∙ m.claim ∙ sym l; long = omega arith }
-
 -- a step before the end goes neither back nor beyond it
-between : (s : List ℕ) (at : ℕ) → at < length s → (at ≤ (claimAt s at).next) × ((claimAt s at).next ≤ length s)
-between s at h = by (claimAt s at) (claims s at)
+between : (s : List ℕ) (at : ℕ) → at < length s → (at ≤ (claim_at s at).next) × ((claim_at s at).next ≤ length s)
+between s at h = by (claim_at s at) (claims s at)
   where
     by : (c : Claimed) → Claims s at c → (at ≤ c.next) × (c.next ≤ length s)
     by c (ended a) = (omega arith, omega arith)
@@ -86,8 +72,12 @@ between s at h = by (claimAt s at) (claims s at)
     by c (beyond a b d g) = (omega arith, omega arith)
     by c (entry a b d g) = (omega arith, omega arith)
 
-pub moves-on : (s : List ℕ) (at : ℕ) → at < length s → at ≤ (claimAt s at).next
+pub moves-on : (s : List ℕ) (at : ℕ) → at < length s → at ≤ (claim_at s at).next
 moves-on s at h = (between s at h).0
 
-pub moves-within : (s : List ℕ) (at : ℕ) → at < length s → (claimAt s at).next ≤ length s
+pub moves-within : (s : List ℕ) (at : ℕ) → at < length s → (claim_at s at).next ≤ length s
 moves-within s at h = (between s at h).1
+
+-- an entry that is met lies in the upload
+pub room_at : (s : List ℕ) (at size : ℕ) → (claim_at s at).size ≡ Some (Ok size) → at + size ≤ length s
+room_at s at size e = (meets s at size e).room

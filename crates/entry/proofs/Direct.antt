@@ -1,54 +1,50 @@
--- A direct parse of just a whole entry; and of any bytes, by the entry's own.
-use Prim.Native.Nat.{ℕ, ◌≤◌}
-use native.Mathlib.Omega.{arith}
-use mathlib.Core.Path.{◌≡◌}
-use mathlib.Core.List.{List, []}
-use lib.ListN.{length, length-take}
+-- A direct parse of just a whole entry, which is what a step meets.
+use Rattle.std.proofs.Common.{ℕ, ◌+◌, ◌≤◌, ◌≡◌, sym, ap, ◌∙◌, List, length, Ok, arith, Bor}
+use native.Mathlib.Nat.{add-zero}
 use lib.Seq.{take-length}
 use borrow.Author.Tests.{le-ltb}
-use Rattle.le.specs.Le.{part}
+use Rattle.le.specs.Le.{le4}
+use Rattle.le.proofs.Laws.{length_part, get_d_part}
+use Rattle.le.specs.Le as le
+use Rattle.part.specs.Slice.{part}
 use Rattle.refusal.specs.Refusal.{limit}
-use Rattle.refusal.specs.declared.Refusal.{Refusal}
-use Rattle.entry.specs.declared.Claim.{Claim}
-use Rattle.entry.specs.declared.Claim.TheVariants as claim
-use Rattle.entry.specs.Entry.{directClaim, byClaim, ownBytes}
-use Rattle.entry.proofs.Whole.{Whole}
+use Rattle.entry.specs.Entry.{claim_of}
+use Rattle.entry.proofs.Claims.{Meets}
 
-module _ (header : ℕ) (e : List ℕ) (w : Whole e) (long : header ≤ length e) (small : length e ≤ limit) where
-  pub direct-whole : directClaim header e ≡ claim.Entry (length e)
-  unfolding directClaim
-  direct-whole =
+-- all of a slice is that slice
+pub part_all : (e : Bor (List ℕ)) → part e 0 (length e.now) ≡ e
+part_all e = simp (add-zero, take-length e.now)
+
+pub part_long : (s : Bor (List ℕ)) (at size : ℕ) → at + size ≤ length s.now → length (part s at size).now ≡ size
+unfolding le.part
+part_long s at size h = length_part s.now at size h
+
+-- the bytes of an entry are those of its claim, where they hold it
+own_claim : (s : List ℕ) (at size : ℕ) → 4 ≤ size → le4 (le.part s at size) 0 ≡ le4 s at
+unfolding le4
+own_claim s at size h =
+    simp (get_d_part s at size 0 0 (omega arith), get_d_part s at size 1 0 (omega arith), get_d_part s at size 2 0 (omega arith), get_d_part s at size 3 0 (omega arith), add-zero)
+
+module _ (header : ℕ) (s : Bor (List ℕ)) (at size : ℕ) (m : Meets s.now at size) (four : 4 ≤ header) (long : header ≤ size) where
+  pub claims_own : claim_of header (part s at size).now ≡ Ok size
+  unfolding claim_of le.part
+  claims_own =
+      let l = part_long s at size m.room in
+      let c : le4 (part s at size).now 0 ≡ size = own_claim s.now at size (omega arith) ∙ m.claim in
       simp (
-        w.claims,
-        le-ltb limit (length e) small,
-        le-ltb (length e) header long,
-        le-ltb (length e) (length e) (omega arith),
+        c,
+        l,
+        le-ltb limit size (omega (arith, m.room, m.small)),
+        le-ltb size header long,
+        le-ltb size size (omega arith),
       )
 
-  pub part-all : part e 0 (length e) ≡ e
-  unfolding part
-  part-all = take-length e
+  pub own_again : part (part s at size) 0 size ≡ part s at size
+  own_again =
+      let l = part_long s at size m.room in
+      ap (λ (k : ℕ). part (part s at size) 0 k) (sym l) ∙ part_all (part s at size)
 
-  pub own-whole : ownBytes header e ≡ e
-  unfolding ownBytes
-  own-whole = simp (direct-whole, part-all)
-
-own-within : (s : List ℕ) (c : Claim) → length (byClaim c (λ size. part s 0 size) (λ why. [])) ≤ length s
-unfolding part
-own-within s (claim.Entry size) = omega (arith, length-take size s)
-own-within s (claim.Refused why) = omega arith
-
--- an entry's own bytes are no more than the bytes given
-pub own-short : (header : ℕ) (s : List ℕ) → length (ownBytes header s) ≤ length s
-unfolding ownBytes
-own-short header s = own-within s (directClaim header s)
-
--- what is accepted by a direct parse is what the entry's own bytes give, for an answer that no refusal is
-module _ {A : Type 0} (entry : List ℕ → A) (refused : Refusal → A) (Accepted : A → Type 0) (never : (why : Refusal) → Accepted (refused why) → ⊥) where
-  by-claim : (s : List ℕ) (c : Claim) → Accepted (byClaim c (λ size. entry (part s 0 size)) refused) → Accepted (entry (byClaim c (λ size. part s 0 size) (λ why. [])))
-  by-claim s (claim.Entry size) h = h
-  by-claim s (claim.Refused why) h = absurd (never why h)
-
-  pub own-accepted : (header : ℕ) (s : List ℕ) → Accepted (byClaim (directClaim header s) (λ size. entry (part s 0 size)) refused) → Accepted (entry (ownBytes header s))
-  unfolding ownBytes
-  own-accepted header s h = by-claim s (directClaim header s) h
+-- an entry that is claimed at the start lies in the bytes
+pub room_of : (header : ℕ) (s : List ℕ) (size : ℕ) → claim_of header s ≡ Ok size → size ≤ length s
+unfolding claim_of
+room_of header s size e = grind arith

@@ -1,5 +1,4 @@
 pub mod Entry
 pub mod Walk
-pub mod Tells
-pub mod Demand3
-pub mod Useless
+pub mod Bounded
+pub mod Theorems

@@ -1,187 +1,150 @@
-// Where an entry of an upload begins and ends: its first four bytes claim its length.
-#![tactic(auto, unfolding(crate::specs::Entry::claimAt, crate::specs::Entry::directClaim, crate::specs::Entry::ownBytes))]
+//! Where an entry of an upload begins and ends: its first four bytes claim its length.
+#![tactic(auto, unfolding(crate::specs::Entry::claim_at, crate::specs::Entry::claim_of))]
 
 ghost use Rattle.std.specs.Prelude.{◌≡◌};
-ghost use Rattle.le.specs.Place.{Behind};
-ghost use Rattle.refusal.specs.Ends.{endsMet};
-ghost use Rattle.entry.specs.Entry.{claimAt, directClaim, ownBytes, stringEnds};
-ghost use Rattle.entry.specs.Walk.{boundedWalk};
+ghost use Rattle.entry.specs.Entry.{claim_at, claim_of};
+ghost use Rattle.entry.specs.Bounded.{bounded_walk};
+ghost use Rattle.entry.specs.Theorems.{AllSteps, StepsEnough, ZeroClaims};
 
-use refusal::{Checked, Refusal};
+use refusal::{LIMIT, Refusal};
 
-// What a walk meets at a place: an entry of so many bytes, or a refusal of its own.
-#[derive(Drop)]
-pub enum Met {
-    Finished,
-    Entry(usize),
-    Refused(Refusal),
-}
-
-#[derive(Drop)]
+/// What a walk meets at a place, and where it goes from there.
+#[derive(Clone, Copy, Debug)]
 pub struct Claimed {
-    pub met: Met,
+    /// The length that an entry claims, or why there is none; nothing at the end.
+    pub size: Option<Result<usize, Refusal>>,
     pub next: usize,
 }
 
-// What a direct parse meets.
-#[derive(Drop)]
-pub enum Claim {
-    Entry(usize),
-    Refused(Refusal),
-}
-
-#[derive(Drop)]
-pub enum WalkEnd {
-    Finished,
-    OutOfSteps,
-    Refused(Refusal),
-}
-
-#[derive(Drop)]
-pub struct Walked {
-    pub end: WalkEnd,
-    pub steps: usize,
-    pub cursor: usize,
-}
-
+/// What is claimed at a place of an upload.
 pub fn claim_at(bytes: &[u8], at: usize) -> Claimed
-    ensures { result ≡ claimAt bytes.now at }
+    ensures { result ≡ claim_at bytes.now at }
 {
     let length = bytes.len();
     if length <= at {
         return Claimed {
-            met: Met::Finished,
+            size: None,
             next: at,
         };
     }
-    if refusal::LIMIT < length {
-        return Claimed {
-            met: Met::Refused(Refusal::TooLarge { length }),
-            next: length,
-        };
+    let refused = |why| Claimed {
+        size: Some(Err(why)),
+        next: length,
+    };
+    if length > LIMIT {
+        return refused(Refusal::TooLarge { length });
     }
-    let left = length - at;
-    if left < 4 {
-        return Claimed {
-            met: Met::Refused(Refusal::TooShort {
-                needed: at + 4,
-                present: length,
-            }),
-            next: length,
-        };
+    let available = length - at;
+    if available < 4 {
+        return refused(Refusal::TooShort {
+            needed: at + 4,
+            present: length,
+        });
     }
-    let claim = le::u32_at(bytes, at) as usize;
-    if left < claim {
-        return Claimed {
-            met: Met::Refused(Refusal::EntryLengthMismatch {
-                needed: claim,
-                available: left,
-            }),
-            next: length,
-        };
+    let needed = le::u32_at(bytes, at) as usize;
+    if available < needed {
+        return refused(Refusal::EntryLengthMismatch { needed, available });
     }
     Claimed {
-        met: Met::Entry(claim),
-        next: at + claim,
+        size: Some(Ok(needed)),
+        next: at + needed,
     }
 }
 
-// The entry at the start of some bytes, whose header is so long.
-pub fn direct_claim(bytes: &[u8], header: usize) -> Claim
-    ensures { result ≡ directClaim header bytes.now }
+/// How many bytes the first four claim for an entry, whose header is so long.
+pub fn claim(bytes: &[u8], header: usize) -> Result<usize, Refusal>
+    ensures { result ≡ claim_of header bytes.now }
 {
     let length = bytes.len();
-    if refusal::LIMIT < length {
-        return Claim::Refused(Refusal::TooLarge { length });
+    if length > LIMIT {
+        return Err(Refusal::TooLarge { length });
     }
     if length < header {
-        return Claim::Refused(Refusal::TooShort {
+        return Err(Refusal::TooShort {
             needed: header,
             present: length,
         });
     }
     let claim = le::first_u32(bytes) as usize;
     if length < claim {
-        return Claim::Refused(Refusal::EntryLengthMismatch {
+        return Err(Refusal::EntryLengthMismatch {
             needed: claim,
             available: length,
         });
     }
     if claim < header {
-        return Claim::Refused(Refusal::ClaimBelowHeader { header, claim });
+        return Err(Refusal::ClaimBelowHeader { header, claim });
     }
-    Claim::Entry(claim)
+    Ok(claim)
 }
 
-// The entry's own bytes, none where a direct parse refuses them: what stands after the claim is invisible.
-pub fn own_bytes(bytes: &[u8], header: usize) -> &[u8]
-    ensures result_value { result.now ≡ ownBytes header bytes.now }
-    ensures behind { Behind bytes.entry result 0 }
-{
-    match direct_claim(bytes, header) {
-        Claim::Entry(size) => le::part_of(bytes, 0, size),
-        Claim::Refused(_) => &bytes[..0],
-    }
+/// How a walk ended that nothing refused.
+#[derive(Clone, Copy, Debug, PartialEq, Eq)]
+pub enum WalkEnd {
+    Finished,
+    OutOfSteps,
 }
 
-// The end bytes of the three strings that follow a header of so many bytes, in order.
-pub fn check_strings(
-    e: &[u8],
-    header: u16,
-    name_len: u16,
-    type_name_len: u16,
-    comment_len: u16,
-) -> Checked
-    ensures { result ≡ endsMet e.now (stringEnds header name_len type_name_len comment_len) }
-{
-    let name = le::wide(header);
-    let n = le::wide(name_len);
-    let type_name = name + n + 1;
-    let t = le::wide(type_name_len);
-    let comment = type_name + t + 1;
-    match refusal::check_two_ends(e, name, n, type_name, t) {
-        Checked::Passed => refusal::check_end(e, comment, le::wide(comment_len)),
-        Checked::Refused(why) => Checked::Refused(why),
-    }
+/// What a walk did that may make so many steps.
+#[derive(Clone, Copy, Debug)]
+pub struct Walked {
+    /// The steps made. Finding the end is none; a zero claim's is one.
+    pub steps: usize,
+    /// The place where the next step would begin.
+    pub cursor: usize,
+    /// A zero claim, which a step would stay at for ever, is refused with 10.
+    pub end: Result<WalkEnd, Refusal>,
 }
 
-// At most so many steps of a walk. A zero claim would stay where it is, so it stops the walk.
+/// Walks from a place on, in at most so many steps (docs/FORMAT.md, "Walking"). It looks at the claims alone.
+#[tactic(auto, using(crate::proofs::Bounded::bounded_end, crate::proofs::Bounded::bounded_out, crate::proofs::Bounded::bounded_zero, crate::proofs::Bounded::bounded_turn, crate::proofs::Bounded::bounded_whole))]
 pub fn bounded_walk(bytes: &[u8], from: usize, allowed: usize) -> Walked
-    ensures { result ≡ boundedWalk bytes.now from allowed }
+    ensures { result ≡ bounded_walk bytes.now from allowed }
 {
-    let mut at = from;
-    let mut left = allowed;
-    let mut steps = 0;
-    while 0 < left {
-        left = left - 1;
-        if bytes.len() <= at {
+    let mut cursor = from;
+    for steps in 0..allowed {
+        if bytes.len() <= cursor {
             return Walked {
-                end: WalkEnd::Finished,
                 steps,
-                cursor: at,
+                cursor,
+                end: Ok(WalkEnd::Finished),
             };
         }
-        let next = claim_at(bytes, at).next;
-        steps = steps + 1;
-        if next == at {
+        let next = claim_at(bytes, cursor).next;
+        if next == cursor {
             return Walked {
-                end: WalkEnd::Refused(Refusal::ZeroEntryLength),
-                steps,
-                cursor: at,
+                steps: steps + 1,
+                cursor,
+                end: Err(Refusal::ZeroEntryLength),
             };
         }
-        at = next;
+        cursor = next;
     }
-    if bytes.len() <= at {
-        return Walked {
-            end: WalkEnd::Finished,
-            steps,
-            cursor: at,
-        };
-    }
+    let end = if bytes.len() <= cursor {
+        WalkEnd::Finished
+    } else {
+        WalkEnd::OutOfSteps
+    };
     Walked {
-        end: WalkEnd::OutOfSteps,
-        steps,
-        cursor: at,
+        steps: allowed,
+        cursor,
+        end: Ok(end),
     }
 }
+
+// The theorems. Each is the contract of a function that does nothing, so that none goes unnoticed if its proof does.
+
+/// The bounded walk leaves out no step: it is out of steps only where it made all that were allowed, and the whole walk never is.
+pub fn all_steps()
+    ensures { AllSteps }
+{}
+
+/// A walk that may make more steps than there are bytes is the whole walk.
+pub fn steps_enough()
+    ensures { StepsEnough }
+{}
+
+/// Where a step would stay, before the end, an entry claims no bytes.
+pub fn zero_claims()
+    ensures { ZeroClaims }
+{}

@@ -1,9 +1,7 @@
-use Rattle.std.proofs.Common.{◌≡◌, ◌+◌}
-use Rattle.entry.proofs.Laws.{boundedFrom}
+use Rattle.std.proofs.Common.{◌≡◌, ◌-◌}
+use Rattle.entry.specs.Bounded.{bounded_walk}
+use Rattle.entry.proofs.Bounded.{bounded_from}
 use Rattle.entry.proofs.bounded_walk.Given as goal
 
-abbrev pub invariant-loop-left : goal.invariant-loop-left
-invariant-loop-left l = (boundedFrom l.bytes l.at l.steps l.left ≡ boundedFrom l.fn.bytes l.fn.from 0 l.fn.allowed) × (l.steps + l.left ≡ l.fn.allowed)
-
-abbrev pub decreases-loop-left : goal.decreases-loop-left
-decreases-loop-left l = l.left
+abbrev pub invariant-loop-steps : goal.invariant-loop-steps
+invariant-loop-steps l = bounded_from l.bytes l.cursor l.steps (l.fn.allowed - l.steps) ≡ bounded_walk l.bytes l.fn.from l.fn.allowed

@@ -1,0 +1,43 @@
+-- 01, "Walking": a step over an upload of symbols.
+use Rattle.std.specs.Prelude.{ℕ, Bool, List}
+use Rattle.refusal.specs.declared.Refusal.{Refusal}
+use Rattle.guid.specs.Guid.{zeros16}
+use Rattle.old_entry.specs.Walk.{stepBy}
+use Rattle.old_symbol.specs.Symbol.{symbolEntry}
+use Rattle.old_symbol.specs.declared.AdsSymbolInfo.{AdsSymbolInfo}
+use Rattle.old_symbol.specs.declared.SymbolAnswer.{SymbolAnswer}
+use Rattle.old_symbol.specs.declared.SymbolAnswer.TheVariants as answer
+use Rattle.old_symbol.specs.declared.SymbolRead.{SymbolRead}
+use Rattle.old_walk.specs.declared.Step.{Step}
+use Rattle.old_walk.specs.declared.Step.TheVariants.{Finished, Record, Refused}
+use Rattle.old_walk.specs.declared.Stepped.{Stepped}
+
+abbrev pub stepIs : SymbolAnswer → Step
+stepIs (answer.Record info) = Record info
+stepIs (answer.Refused why) = Refused why
+
+-- by what a step gives
+abbrev pub by_step : {A : Type 0} → Step → A → (AdsSymbolInfo → A) → (Refusal → A) → A
+by_step Finished finished entry stop = finished
+by_step (Record info) finished entry stop = entry info
+by_step (Refused why) finished entry stop = stop why
+
+-- a step, the GUID bytes beside it, and the cursor after it
+abbrev pub stepped : Step → List ℕ → ℕ → Stepped
+stepped step guid next = record { step = step; guid = guid; cursor = record { at = next } }
+
+abbrev pub finished : ℕ → Stepped
+finished next = stepped Finished zeros16 next
+
+abbrev pub step_of : SymbolRead → ℕ → Stepped
+step_of read next = stepped (stepIs read.answer) read.guid next
+
+abbrev pub entry : Bool → List ℕ → ℕ → Stepped
+entry mode e next = step_of (symbolEntry mode e) next
+
+abbrev pub refused : Refusal → ℕ → Stepped
+refused why next = stepped (Refused why) zeros16 next
+
+-- in a mode, which decides only what an entry's own bytes give
+unfoldable pub symbolStep : Bool → List ℕ → ℕ → Stepped
+symbolStep mode s at = stepBy finished (entry mode) refused s at

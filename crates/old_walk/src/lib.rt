@@ -1,0 +1,89 @@
+// Walks an upload of symbols. The Rust's AdsSymbolInfoIterator, with the cursor by value.
+#![tactic(auto, unfolding(crate::specs::Walk::symbolStep))]
+
+ghost use Rattle.std.specs.Prelude.{◌≡◌};
+ghost use Rattle.old_entry.specs.Walk.{boundedWalk};
+ghost use Rattle.old_walk.specs.Walk.{symbolStep, step_of};
+
+use old_entry::{Met, Walked};
+use refusal::Refusal;
+use old_symbol::{AdsSymbolInfo, SymbolAnswer, SymbolRead};
+
+// The place in the upload where the next step begins.
+#[derive(Clone, Copy)]
+pub struct Cursor {
+    pub at: usize,
+}
+
+#[derive(Drop)]
+pub enum Step {
+    Finished,
+    Record(AdsSymbolInfo),
+    Refused(Refusal),
+}
+
+// A step and the cursor after it. The GUID's bytes stand beside the step: zeros where it has none.
+#[derive(Drop)]
+pub struct Stepped {
+    pub step: Step,
+    pub guid: [u8; 16],
+    pub cursor: Cursor,
+}
+
+impl Cursor {
+    pub fn new() -> Self
+        ensures { result.at ≡ 0 }
+    {
+        Cursor { at: 0 }
+    }
+
+    pub fn step(self, bytes: &[u8], checked: bool) -> Stepped
+        ensures { result ≡ symbolStep checked bytes.now self.at }
+    {
+        let at = self.at;
+        let claimed = old_entry::claim_at(bytes, at);
+        let met = claimed.met;
+        let next = claimed.next;
+        match met {
+            Met::Finished => Stepped {
+                step: Step::Finished,
+                guid: [0u8; 16],
+                cursor: Cursor { at: next },
+            },
+            Met::Entry(size) => step_of(
+                old_symbol::read_entry(le::part_of(bytes, at, size), checked),
+                next,
+            ),
+            Met::Refused(why) => Stepped {
+                step: Step::Refused(why),
+                guid: [0u8; 16],
+                cursor: Cursor { at: next },
+            },
+        }
+    }
+
+    pub fn walk(self, bytes: &[u8], allowed: usize) -> Walked
+        ensures { result ≡ boundedWalk bytes.now self.at allowed }
+    {
+        old_entry::bounded_walk(bytes, self.at, allowed)
+    }
+}
+
+fn step_of(read: SymbolRead, next: usize) -> Stepped
+    ensures { result ≡ step_of read next }
+{
+    let guid = read.guid;
+    let answer = read.answer;
+    match answer {
+        SymbolAnswer::Record(info) => Stepped {
+            step: Step::Record(info),
+            guid,
+            cursor: Cursor { at: next },
+        },
+        SymbolAnswer::Refused(why) => Stepped {
+            step: Step::Refused(why),
+            guid,
+            cursor: Cursor { at: next },
+        },
+    }
+}

@@ -1,0 +1,73 @@
+-- The theorems, proved.
+use Rattle.std.proofs.Common.{ℕ, zero, suc, ◌+◌, ◌<◌, ◌≤◌, ◌≡◌, refl, sym, ap, ◌∙◌, Bool, true, false, List, [], ◌∷◌, length, arith, Bor}
+use Rattle.std.specs.Prelude.{leb, map, Option, Some, None, Result, Ok, Err, if◌then◌else◌}
+use Rattle.std.specs.Option.{option_map}
+use Rattle.part.specs.Slice.{part}
+use Rattle.part.specs.Outcome.{and_then}
+use Rattle.refusal.specs.declared.Refusal.{Refusal}
+use Rattle.entry.specs.Entry.{claim_at}
+use Rattle.entry.specs.Walk.{stands, steps_from, steps, OneWalk}
+use Rattle.entry.proofs.Claims.{meets}
+use Rattle.entry.proofs.Direct.{part_long, claims_own, own_again}
+use Rattle.entry.proofs.Laws.{one-walk}
+use Rattle.walk.specs.Step.{step_at}
+use Rattle.walk.specs.Pieces.{piece_at, pieces_from}
+use Rattle.walk.proofs.Left.{none_left}
+use Rattle.walk.specs.Theorems.{cursor_of, Reads, PiecesAreSteps}
+
+module _ {R : Type 0} (read : Bor (List ℕ) → Result R Refusal) where
+  pub walk_is : OneWalk (step_at read) cursor_of
+  unfolding step_at
+  walk_is = one-walk (step_at read) cursor_of (λ s at. refl)
+
+  end_stands : (s : Bor (List ℕ)) (at : ℕ) → stands s.now at ≡ true → (piece_at read s at).end ≡ length s.now
+  unfolding piece_at
+  end_stands s at f = simp f
+
+  end_moves : (s : Bor (List ℕ)) (at : ℕ) → stands s.now at ≡ false → (piece_at read s at).end ≡ (claim_at s.now at).next
+  unfolding piece_at
+  end_moves s at f = simp f
+
+  -- the pieces are those at the places where steps begin
+  turn : (s : Bor (List ℕ)) (at most : ℕ) → ((at : ℕ) → pieces_from read s at most ≡ map (piece_at read s) (steps_from s.now at most))
+      → (end stand : Bool) → leb (length s.now) at ≡ end → stands s.now at ≡ stand
+      → (if end then [] else piece_at read s at ∷ pieces_from read s (piece_at read s at).end most)
+      ≡ map (piece_at read s) (if end then [] else at ∷ (if stand then [] else steps_from s.now (claim_at s.now at).next most))
+  turn s at most on true stand e f = refl
+  turn s at most on false true e f = ap (λ l. piece_at read s at ∷ l) (none_left read s (piece_at read s at).end most (omega (arith, end_stands s at f)))
+  turn s at most on false false e f = ap (λ l. piece_at read s at ∷ l) (simp (end_moves s at f) (on (claim_at s.now at).next))
+
+  from : (s : Bor (List ℕ)) (at most : ℕ) → pieces_from read s at most ≡ map (piece_at read s) (steps_from s.now at most)
+  unfolding pieces_from steps_from
+  from s at zero = refl
+  from s at (suc most) = turn s at most (λ at. from s at most) (leb (length s.now) at) (stands s.now at) refl refl
+
+  pub pieces_are : PiecesAreSteps read
+  unfolding steps
+  pieces_are s = from s 0 (length s.now)
+
+  module _ (header : ℕ) (length_of : R → ℕ) (four : 4 < header)
+      (long : (e : Bor (List ℕ)) (r : R) → read e ≡ Ok r → length_of r ≡ length e.now)
+      (room : (e : Bor (List ℕ)) (r : R) → read e ≡ Ok r → header ≤ length e.now)
+      (s : Bor (List ℕ)) (at : ℕ) (r : R) where
+    by-claim : (c : Option (Result ℕ Refusal)) → (claim_at s.now at).size ≡ c → option_map (λ claim. and_then claim (λ size. read (part s at size))) c ≡ Some (Ok r) → Reads header read length_of s at r
+    unfolding step_at
+    by-claim None e h = cc
+    by-claim (Some (Err why)) e h = cc
+    by-claim (Some (Ok size)) e h =
+        let own : Bor (List ℕ) = part s at size in
+        let m = meets s.now at size e in
+        let l : length own.now ≡ size = part_long s at size m.room in
+        let is : read own ≡ Ok r = cc in
+        let n : length_of r ≡ size = long own r is ∙ l in
+        let there : header ≤ size = omega (arith, room own r is, l) in
+        let c = claims_own header s at size m (omega arith) there in
+        let a = own_again header s at size m (omega arith) there in
+        record {
+          moves = m.next ∙ ap (λ (k : ℕ). at + k) (sym n);
+          answers = simp (n, c, a, is);
+        }
+
+    pub reads : (step_at read s at).answer ≡ Some (Ok r) → Reads header read length_of s at r
+    unfolding step_at
+    reads h = by-claim (claim_at s.now at).size refl h
