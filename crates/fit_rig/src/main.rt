@@ -7,11 +7,11 @@ ghost use Rattle.std.specs.Prelude.{◌≤◌, ◌<◌, length};
 use flags::index_group::IndexGroup;
 use flags::index_offset::IndexOffset;
 use flags::symbol_flags::{AdsSymbol2Flags, AdsSymbolFlags};
-use refusal::Written;
+use refusal::{Mode, Refusal};
 use std::io;
-use symbol::AdsSymbolInfo;
-use symbol_writer::SymbolNumbers;
-use walk::{Cursor, Step};
+use symbol::{AdsSymbolInfo, NewSymbol};
+use walk::Cursor;
+use writing::Block;
 
 // ZoomEnd := '0.9', u := the byte B0.
 const BLOCK: [u8; 20] = [
@@ -37,16 +37,26 @@ fn high_of(i: u32) -> u16 {
     (low * 256 + (low + 85) % 256) as u16
 }
 
-fn numbers_of(i: u32, flags: u16, extended: u32, has_guid: bool) -> SymbolNumbers {
-    SymbolNumbers {
+// A symbol with neither sections nor a comment.
+fn bare<'a>(i: u32, name: &'a [u8]) -> NewSymbol<'a> {
+    let none = Block {
+        bytes: b"",
+        count: 0,
+    };
+    NewSymbol {
         index_group: IndexGroup(0x4020),
         index_offset: IndexOffset(i),
         size: 8,
         data_type_id: 5,
-        flags: AdsSymbolFlags(flags),
+        flags: AdsSymbolFlags(0),
         high: high_of(i),
-        extended_flags: AdsSymbol2Flags(extended),
-        has_guid,
+        name,
+        type_name: b"LREAL",
+        comment: b"",
+        guid: None,
+        attributes: none,
+        extended_flags: AdsSymbol2Flags(0),
+        refactor_infos: none,
     }
 }
 
@@ -58,26 +68,38 @@ fn name_of(i: u32) -> [u8; 5] {
 }
 
 // Symbols of four kinds in turn: bare, with a GUID, with attributes, with all of them and a chain.
-fn write_symbol(i: u32, out: &mut [u8]) -> Written {
+fn write_symbol(i: u32, out: &mut [u8]) -> Result<usize, Refusal> {
     let byte = (i % 200) as u8;
-    let guid = [byte; 16];
+    let guid = Some([byte; 16]);
     let name = name_of(i);
-    let kind = i % 4;
-    let none = [0u8; 0];
-    if kind == 0 {
-        let n = numbers_of(i, 0, 0, false);
-        return n.to_vec(guid, &name, b"LREAL", b"", 0, &none, 0, &none, out);
+    let attributes = Block {
+        bytes: &BLOCK,
+        count: 2,
+    };
+    let mut symbol = bare(i, &name);
+    match i % 4 {
+        0 => {}
+        1 => {
+            symbol.flags = AdsSymbolFlags(0x0008);
+            symbol.guid = guid;
+        }
+        2 => {
+            symbol.flags = AdsSymbolFlags(0x1000);
+            symbol.comment = b"zoom";
+            symbol.attributes = attributes;
+        }
+        _ => {
+            symbol.flags = AdsSymbolFlags(0x9008);
+            symbol.guid = guid;
+            symbol.attributes = attributes;
+            symbol.extended_flags = AdsSymbol2Flags(4);
+            symbol.refactor_infos = Block {
+                bytes: &CHAIN,
+                count: 2,
+            };
+        }
     }
-    if kind == 1 {
-        let n = numbers_of(i, 0x0008, 0, true);
-        return n.to_vec(guid, &name, b"LREAL", b"", 0, &none, 0, &none, out);
-    }
-    if kind == 2 {
-        let n = numbers_of(i, 0x1000, 0, false);
-        return n.to_vec(guid, &name, b"LREAL", b"zoom", 2, &BLOCK, 0, &none, out);
-    }
-    let n = numbers_of(i, 0x9008, 4, true);
-    n.to_vec(guid, &name, b"LREAL", b"", 2, &BLOCK, 2, &CHAIN, out)
+    symbol.to_vec(out)
 }
 
 // The bytes of a later controller's choice, after an entry of so many bytes, and the entry's length raised by as many.
@@ -103,8 +125,8 @@ fn put_one(i: u32, out: &mut [u8]) -> usize
     ensures { result ≤ length out.old }
 {
     match write_symbol(i, out) {
-        Written::Done(n) => grow(out, n, (i % 6) as usize),
-        Written::Refused(_) => 0,
+        Ok(n) => grow(out, n, (i % 6) as usize),
+        Err(_) => 0,
     }
 }
 
@@ -118,7 +140,7 @@ fn build(out: &mut [u8]) -> usize
     at
 }
 
-// In the checked mode, in which demand 3 holds too; `show_all` walks in the present one.
+// In the checked mode, in which what is written comes back too; `show_all` walks in the present one.
 fn walk_all(bytes: &[u8]) -> Seen {
     let mut seen = Seen {
         records: 0,
@@ -129,12 +151,12 @@ fn walk_all(bytes: &[u8]) -> Seen {
     };
     let mut cursor = Cursor::new();
     for _ in 0..1000usize {
-        let stepped = cursor.step(bytes, refusal::CHECKED);
+        let stepped = cursor.step::<AdsSymbolInfo>(bytes, Mode::Checked);
         cursor = stepped.cursor;
-        match stepped.step {
-            Step::Finished => return seen,
-            Step::Record(_) => seen.records += 1,
-            Step::Refused(why) => {
+        match stepped.answer {
+            None => return seen,
+            Some(Ok(_)) => seen.records += 1,
+            Some(Err(why)) => {
                 let figures = why.figures();
                 seen = Seen {
                     records: seen.records,
@@ -149,24 +171,24 @@ fn walk_all(bytes: &[u8]) -> Seen {
     seen
 }
 
-fn show_record(rt: &impl Print, r: AdsSymbolInfo) -> io::Result<()> {
+fn show_record(rt: &impl Print, r: AdsSymbolInfo<'_>) -> io::Result<()> {
     let offset = r.index_offset.0;
     let flags = r.flags.0;
     let attributes = r.attributes.count;
     let chain = r.refactor_infos.count;
     print!(rt; "record {} {offset} {} {flags} ", r.length, r.size)?;
-    println!(rt; "{} {attributes} {chain} {}", r.high, r.unread)
+    println!(rt; "{} {attributes} {chain} {}", r.high, r.unread.len())
 }
 
 fn show_all(rt: &impl Print, bytes: &[u8]) -> io::Result<()> {
     let mut cursor = Cursor::new();
     for _ in 0..1000usize {
-        let stepped = cursor.step(bytes, refusal::PRESENT);
+        let stepped = cursor.step::<AdsSymbolInfo>(bytes, Mode::Present);
         cursor = stepped.cursor;
-        match stepped.step {
-            Step::Finished => return Ok(()),
-            Step::Record(r) => show_record(rt, r)?,
-            Step::Refused(_) => println!(rt; "refused")?,
+        match stepped.answer {
+            None => return Ok(()),
+            Some(Ok(r)) => show_record(rt, r)?,
+            Some(Err(_)) => println!(rt; "refused")?,
         }
     }
     Ok(())

@@ -2,14 +2,14 @@
 use mathlib.Core.Path.{refl}
 use Rattle.le.specs.Le.{le2, le4, part}
 use Rattle.refusal.specs.Ends.{endsIn}
-use Rattle.entry.specs.Entry.{claimAt, directClaim}
+use Rattle.old_entry.specs.Entry.{claimAt, directClaim}
 use Rattle.guid.specs.Guid.{guidAt}
 use Rattle.attr.specs.Attribute.{attributeAt, attributeRead, attributesFrom, attributesAt}
-use Rattle.refactor.specs.Refactor.{refactorAt, refactorRead, chainFrom, chainAt, chainSection}
-use Rattle.symbol.specs.Symbol.{extendedAt, sectionsOf, infoRecord, infoOf, symbolPresent, symbolEntry, symbolRead}
-use Rattle.symbol.specs.Questions.{symbolName, symbolTypeName, symbolComment}
-use Rattle.walk.specs.Walk.{symbolStep}
-use Rattle.field.specs.Field.{fieldRead}
+use Rattle.old_refactor.specs.Refactor.{refactorAt, refactorRead, chainFrom, chainAt, chainSection}
+use Rattle.old_symbol.specs.Symbol.{extendedAt, sectionsOf, infoRecord, infoOf, symbolPresent, symbolEntry, symbolRead}
+use Rattle.old_symbol.specs.Questions.{symbolName, symbolTypeName, symbolComment}
+use Rattle.old_walk.specs.Walk.{symbolStep}
+use Rattle.old_field.specs.Field.{fieldRead}
 use Rattle.lineup.specs.LineUp.{LineUp}
 
 pub line-up : LineUp

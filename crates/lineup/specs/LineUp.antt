@@ -1,24 +1,24 @@
 -- 01, "Line-up table": L1 to L12, of the present mode.
 use Rattle.std.specs.Prelude.{ℕ, ◌≡◌, true, false, List, [], ◌∷◌, replicate}
-use Rattle.refusal.specs.Refusal.{numbered, figuresOf}
+use Rattle.refusal.specs.Refusal.{numbered, figures_of}
 use Rattle.refusal.specs.Ends.{presentMode}
 use Rattle.refusal.specs.Asked.{Asked, Given, Refused}
-use Rattle.entry.specs.Tells as tells
-use Rattle.entry.specs.Tells.{Tells}
+use Rattle.old_entry.specs.Tells as tells
+use Rattle.old_entry.specs.Tells.{Tells}
 use Rattle.attr.specs.Attribute.{attributeRead, byAttribute}
 use Rattle.attr.specs.declared.AdsAttribute.{AdsAttribute}
 use Rattle.attr.specs.declared.AttributeAnswer.{AttributeAnswer}
-use Rattle.refactor.specs.Refactor.{refactorRead, byRefactor}
-use Rattle.refactor.specs.declared.AdsRefactorInfo.{AdsRefactorInfo}
-use Rattle.refactor.specs.declared.RefactorAnswer.{RefactorAnswer}
-use Rattle.symbol.specs.Symbol.{symbolRead}
-use Rattle.symbol.specs.Questions.{bySymbol, symbolName, symbolTypeName, symbolComment}
-use Rattle.symbol.specs.declared.AdsSymbolInfo.{AdsSymbolInfo}
-use Rattle.walk.specs.Walk.{symbolStep}
-use Rattle.walk.specs.Told.{Symbol, stepTold}
-use Rattle.field.specs.Field.{fieldRead}
-use Rattle.field.specs.Questions.{byField}
-use Rattle.field.specs.declared.AdsFieldInfo.{AdsFieldInfo}
+use Rattle.old_refactor.specs.Refactor.{refactorRead, byRefactor}
+use Rattle.old_refactor.specs.declared.AdsRefactorInfo.{AdsRefactorInfo}
+use Rattle.old_refactor.specs.declared.RefactorAnswer.{RefactorAnswer}
+use Rattle.old_symbol.specs.Symbol.{symbolRead}
+use Rattle.old_symbol.specs.Questions.{bySymbol, symbolName, symbolTypeName, symbolComment}
+use Rattle.old_symbol.specs.declared.AdsSymbolInfo.{AdsSymbolInfo}
+use Rattle.old_walk.specs.Walk.{symbolStep}
+use Rattle.old_walk.specs.Told.{Symbol, stepTold}
+use Rattle.old_field.specs.Field.{fieldRead}
+use Rattle.old_field.specs.Questions.{byField}
+use Rattle.old_field.specs.declared.AdsFieldInfo.{AdsFieldInfo}
 
 -- so many bytes that claim a length below 256 and are 0 after it
 abbrev claiming : ℕ → ℕ → List ℕ
@@ -32,16 +32,16 @@ entry37 =
 
 -- an answer by 01's number and figures, or the record
 abbrev asked : AttributeAnswer → Asked AdsAttribute
-asked t = byAttribute t Given (λ why. Refused (figuresOf why))
+asked t = byAttribute t Given (λ why. Refused (figures_of why))
 
 abbrev renamed : RefactorAnswer → Asked AdsRefactorInfo
-renamed t = byRefactor t Given (λ why. Refused (figuresOf why))
+renamed t = byRefactor t Given (λ why. Refused (figures_of why))
 
 abbrev symbolAsked : List ℕ → Asked AdsSymbolInfo
-symbolAsked s = bySymbol (symbolRead presentMode s).answer Given (λ why. Refused (figuresOf why))
+symbolAsked s = bySymbol (symbolRead presentMode s).answer Given (λ why. Refused (figures_of why))
 
 abbrev fieldAsked : List ℕ → Asked AdsFieldInfo
-fieldAsked s = byField (fieldRead presentMode s).answer Given (λ why. Refused (figuresOf why))
+fieldAsked s = byField (fieldRead presentMode s).answer Given (λ why. Refused (figures_of why))
 
 -- a step from the start of an upload, and the place where the next one begins
 abbrev walked : List ℕ → Tells Symbol

@@ -1,4 +1,7 @@
-pub mod Read
-pub mod Inside
-pub mod Named
-pub mod Modes
+pub mod Within
+pub mod Laws
+pub mod Sizes
+pub mod Sections
+pub mod Accepted
+pub mod Header
+pub mod Back

@@ -1,5 +1,6 @@
 pub mod Symbol
-pub mod Questions
-pub mod Inside
-pub mod Named
-pub mod Modes
+pub mod Laws
+pub mod Head
+pub mod Kind
+pub mod Writing
+pub mod Told

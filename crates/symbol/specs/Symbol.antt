@@ -1,117 +1,127 @@
--- 01, "Symbol": a header of 30 bytes, three strings, each with one end byte, then the sections. W-212: the end bytes, which only the checked mode looks at.
-use Rattle.std.specs.Prelude.{ℕ, ◌+◌, ◌-◌, Bool, true, false, List, [], ◌++◌, ltb, leb, length, if◌then◌else◌}
-use Rattle.le.specs.Le.{le2, le4, has, part}
+-- A symbol entry: a header of 30 bytes; name, type and comment, each with one end byte; then the sections that its flags name.
+use Rattle.std.specs.Prelude.{ℕ, ◌+◌, ◌-◌, ◌≤◌, Bool, List, [], ◌∷◌, Option, Some, None, Result, Ok, Err, ltb, leb, length, take, get_or, if◌then◌else◌}
+use Rattle.std.specs.Borrow.{Bor}
+use Rattle.le.specs.Le.{le2, le4, has}
+use Rattle.part.specs.Slice.{part, after}
+use Rattle.part.specs.Outcome.{outcome, and_then}
+use Rattle.refusal.specs.EndBytes.{ended, in_mode}
+use Rattle.refusal.specs.declared.Mode.{Mode}
 use Rattle.refusal.specs.declared.Refusal.{Refusal}
 use Rattle.refusal.specs.declared.Refusal.TheVariants.{TooShort, EntryLengthMismatch}
-use Rattle.refusal.specs.Ends.{endsIn, byChecked}
-use Rattle.entry.specs.Entry.{directClaim, byClaim, stringEnds}
-use Rattle.guid.specs.Guid.{guidAt, zeros16}
-use Rattle.guid.specs.declared.Guid.{Guid}
-use Rattle.attr.specs.Attribute.{attributesAt, attributeEnds}
-use Rattle.attr.specs.declared.Attributes.{Attributes}
-use Rattle.refactor.specs.Refactor.{chainSection, chainEnds}
-use Rattle.refactor.specs.declared.Chain.{Chain}
-use Rattle.symbol.specs.declared.ExtendedFlags.{ExtendedFlags}
-use Rattle.symbol.specs.declared.Sections.{Sections}
+use Rattle.attribute.specs.declared.Attributes.{Attributes}
+use Rattle.attribute.specs.Attribute as attribute
+use Rattle.refactor.specs.declared.RefactorInfos.{RefactorInfos}
+use Rattle.refactor.specs.Refactor as refactor
+use Rattle.flags.specs.declared.symbol_flags.AdsSymbol2Flags.{AdsSymbol2Flags}
 use Rattle.symbol.specs.declared.AdsSymbolInfo.{AdsSymbolInfo}
-use Rattle.symbol.specs.declared.SymbolAnswer.{SymbolAnswer}
-use Rattle.symbol.specs.declared.SymbolAnswer.TheVariants.{Record, Refused}
-use Rattle.symbol.specs.declared.SymbolRead.{SymbolRead}
 
--- the flags of a symbol that say which sections follow, and the extended flag of a chain
-abbrev pub typeGuid : ℕ
-typeGuid = 0x0008
+-- the flags that name sections, and the extended flag of a chain
+abbrev pub type_guid_flag : ℕ
+type_guid_flag = 0x0008
 
-abbrev pub attributes : ℕ
-attributes = 0x1000
+abbrev pub attributes_flag : ℕ
+attributes_flag = 0x1000
 
-abbrev pub extendedFlags : ℕ
-extendedFlags = 0x8000
+abbrev pub extended_flags_flag : ℕ
+extended_flags_flag = 0x8000
 
-abbrev pub refactorInfo : ℕ
-refactorInfo = 0x0004
+abbrev pub refactor_info_flag : ℕ
+refactor_info_flag = 0x0004
 
--- extended flags, if they are flagged and 4 bytes remain; absent they count as 0
-unfoldable pub extendedAt : List ℕ → ℕ → Bool → ExtendedFlags
-extendedAt e at flagged =
+-- each section, and the bytes after it. One that is not flagged, or has no room, moves nothing: 16 bytes
+unfoldable pub guid_of : Bor (List ℕ) → Bool → Option (List ℕ) × Bor (List ℕ)
+guid_of s flagged =
+    if flagged then if leb 16 (length s.now) then (Some (take 16 s.now), after s 16) else (None, s)
+    else (None, s)
+
+-- a 2-byte count, then so many attributes, up to one that is refused
+unfoldable pub attributes_of : Bor (List ℕ) → Bool → Attributes × Bor (List ℕ)
+attributes_of s flagged =
     if flagged then
-    if leb 4 (length e - at) then record { here = true; flags = record { 0 = le4 e at }; next = at + 4 }
-    else record { here = false; flags = record { 0 = 0 }; next = at }
-    else record { here = false; flags = record { 0 = 0 }; next = at }
+    if leb 2 (length s.now) then
+    (record { bytes = after s 2; count = length (attribute.listed (after s 2) (le2 s.now 0)) }, attribute.after_listed (after s 2) (le2 s.now 0))
+    else (record { bytes = s; count = 0 }, s)
+    else (record { bytes = s; count = 0 }, s)
 
--- the sections from a place on: each begins where the one before it ended
-unfoldable pub sectionsOf : List ℕ → ℕ → ℕ → Sections
-sectionsOf e at flags =
-    let g : Guid = guidAt e at (has flags typeGuid) in
-    let a : Attributes = attributesAt e g.next (has flags attributes) in
-    let x : ExtendedFlags = extendedAt e a.list.next (has flags extendedFlags) in
-    let c : Chain = chainSection e x.next (has x.flags.0 refactorInfo) in
+-- 4 bytes of further flags
+unfoldable pub extended_of : Bor (List ℕ) → Bool → Option AdsSymbol2Flags × Bor (List ℕ)
+extended_of s flagged =
+    if flagged then if leb 4 (length s.now) then (Some (record { 0 = le4 s.now 0 }), after s 4) else (None, s)
+    else (None, s)
+
+abbrev pub extended_word : Option AdsSymbol2Flags → ℕ
+extended_word (Some flags) = flags.0
+extended_word None = 0
+
+-- a chain. One that is refused is dropped whole and moves nothing
+unfoldable pub refactor_infos_of : Bor (List ℕ) → Bool → RefactorInfos × Bor (List ℕ)
+refactor_infos_of s flagged =
+    if flagged then
+    outcome (refactor.chain_of s) (λ p. (record { bytes = s; count = p.0 }, p.1)) (λ why. (record { bytes = s; count = 0 }, s))
+    else (record { bytes = s; count = 0 }, s)
+
+-- the symbol of an entry's own bytes whose strings have these lengths
+unfoldable pub with_strings : Bor (List ℕ) → ℕ → ℕ → ℕ → AdsSymbolInfo
+with_strings e n t k =
+    let g : Option (List ℕ) × Bor (List ℕ) = guid_of (after e (33 + n + t + k)) (has (le2 e.now 20) type_guid_flag) in
+    let a : Attributes × Bor (List ℕ) = attributes_of g.1 (has (le2 e.now 20) attributes_flag) in
+    let x : Option AdsSymbol2Flags × Bor (List ℕ) = extended_of a.1 (has (le2 e.now 20) extended_flags_flag) in
+    let f : RefactorInfos × Bor (List ℕ) = refactor_infos_of x.1 (has (extended_word x.0) refactor_info_flag) in
     record {
-      has_guid = g.here;
-      guid = g.bytes;
-      attributes = record { first = a.first; count = a.list.shown };
-      extended = x;
-      refactor_infos = record { first = x.next; count = c.count };
-      next = c.next;
+      length = length e.now;
+      index_group = record { 0 = le4 e.now 4 };
+      index_offset = record { 0 = le4 e.now 8 };
+      size = le4 e.now 12;
+      data_type_id = le4 e.now 16;
+      flags = record { 0 = le2 e.now 20 };
+      high = le2 e.now 22;
+      name = part e 30 n;
+      type_name = part e (31 + n) t;
+      comment = part e (32 + n + t) k;
+      guid = g.0;
+      attributes = a.0;
+      extended_flags = x.0;
+      refactor_infos = f.0;
+      unread = f.1;
     }
 
--- where the strings end
-abbrev pub stringsEnd : List ℕ → ℕ
-stringsEnd e = 33 + le2 e 24 + le2 e 26 + le2 e 28
+-- a symbol that was read from these bytes has its strings, with their end bytes, and the bytes of its lists in them
+pub record IsWithin (e : Bor (List ℕ)) (r : AdsSymbolInfo) : Type 0 where
+  pub strings : 33 + length r.name.now + length r.type_name.now + length r.comment.now ≤ length e.now
+  pub attributes : length r.attributes.bytes.now ≤ length e.now
+  pub refactor_infos : length r.refactor_infos.bytes.now ≤ length e.now
 
--- the record of an entry with its sections; the two bytes after the flags are carried as sent (W-205), and what remains after the sections is the unread count
-unfoldable pub infoRecord : List ℕ → Sections → AdsSymbolInfo
-infoRecord e s =
-    record {
-      length = length e;
-      index_group = record { 0 = le4 e 4 };
-      index_offset = record { 0 = le4 e 8 };
-      size = le4 e 12;
-      data_type_id = le4 e 16;
-      flags = record { 0 = le2 e 20 };
-      high = le2 e 22;
-      name_len = le2 e 24;
-      type_name_len = le2 e 26;
-      comment_len = le2 e 28;
-      has_guid = s.has_guid;
-      attributes = s.attributes;
-      extended = s.extended;
-      refactor_infos = s.refactor_infos;
-      unread = length e - s.next;
-    }
+-- its end bytes, with their places, in the order in which they are met: the strings', the attributes', the chain's, also of a chain that is dropped
+abbrev pub place_in : Bor (List ℕ) → Bor (List ℕ) → ℕ
+place_in e s = length e.now - length s.now
 
-unfoldable pub infoOf : List ℕ → Sections → SymbolRead
-infoOf e s = record { answer = Record (infoRecord e s); guid = s.guid }
+abbrev pub string_ends : Bor (List ℕ) → AdsSymbolInfo → List (ℕ × ℕ)
+string_ends e r =
+    let n : ℕ = 30 + length r.name.now in
+    let t : ℕ = n + 1 + length r.type_name.now in
+    let k : ℕ = t + 1 + length r.comment.now in
+    (n, get_or e.now n 0) ∷ (t, get_or e.now t 0) ∷ (k, get_or e.now k 0) ∷ []
 
-abbrev pub refused : Refusal → SymbolRead
-refused why = record { answer = Refused why; guid = zeros16 }
+abbrev pub attribute_ends : Bor (List ℕ) → AdsSymbolInfo → List (ℕ × ℕ)
+attribute_ends e r = attribute.ends r.attributes.bytes (place_in e r.attributes.bytes) r.attributes.count
 
--- an entry's own bytes in the present mode, and nothing else of the upload: 2 for a header that is not there, 3 for strings that are not
-unfoldable pub symbolPresent : List ℕ → SymbolRead
-symbolPresent e =
-    if ltb (length e) 30 then refused (TooShort 30 (length e))
-    else if ltb (length e) (stringsEnd e) then refused (EntryLengthMismatch (stringsEnd e) (length e))
-    else infoOf e (sectionsOf e (stringsEnd e) (le2 e 20))
+abbrev pub refactor_ends : Bor (List ℕ) → AdsSymbolInfo → List (ℕ × ℕ)
+refactor_ends e r =
+    if has (extended_word r.extended_flags) refactor_info_flag then refactor.ends r.refactor_infos.bytes (place_in e r.refactor_infos.bytes) else []
 
-abbrev pub bySymbol : {A : Type 0} → SymbolAnswer → (AdsSymbolInfo → A) → (Refusal → A) → A
-bySymbol (Record r) on stop = on r
-bySymbol (Refused why) on stop = stop why
+-- the first of them that is not 0 is refused
+unfoldable pub symbol_ended : Bor (List ℕ) → AdsSymbolInfo → Result Unit Refusal
+symbol_ended e r = and_then (ended (string_ends e r)) (λ _. and_then (ended (attribute_ends e r)) (λ _. ended (refactor_ends e r)))
 
--- the places of the end bytes of an entry with this record, in the order in which they are met: its strings', those of the attributes shown, those of the
--- chain's records up to one that is refused. What ends the list of attributes, or drops the chain, has none of its own
-unfoldable pub symbolEnds : List ℕ → AdsSymbolInfo → List ℕ
-symbolEnds e r =
-    stringEnds 30 r.name_len r.type_name_len r.comment_len
-    ++ (attributeEnds e r.attributes.first r.attributes.count
-    ++ (if has r.extended.flags.0 refactorInfo then chainEnds e r.refactor_infos.first else []))
+unfoldable pub ended_symbol : Mode → Bor (List ℕ) → AdsSymbolInfo → Result AdsSymbolInfo Refusal
+ended_symbol mode e r = and_then (in_mode mode (symbol_ended e r)) (λ _. Ok r)
 
--- in a mode: 16 for an end byte of what the present mode accepts
-unfoldable pub symbolEntry : Bool → List ℕ → SymbolRead
-symbolEntry mode e =
-    bySymbol (symbolPresent e).answer
-    (λ r. byChecked (endsIn mode e (symbolEnds e r)) (symbolPresent e) refused)
-    (λ why. symbolPresent e)
-
--- a direct parse
-unfoldable pub symbolRead : Bool → List ℕ → SymbolRead
-symbolRead mode s = byClaim (directClaim 30 s) (λ size. symbolEntry mode (part s 0 size)) refused
+-- of an entry's own bytes, in a mode: 2 for a header that is not there, 3 for strings that are not, then 16
+unfoldable pub symbol_of : Mode → Bor (List ℕ) → Result AdsSymbolInfo Refusal
+symbol_of mode e =
+    let n : ℕ = le2 e.now 24 in
+    let t : ℕ = le2 e.now 26 in
+    let k : ℕ = le2 e.now 28 in
+    if ltb (length e.now) 30 then Err (TooShort 30 (length e.now))
+    else if ltb (length e.now) (33 + n + t + k) then Err (EntryLengthMismatch (33 + n + t + k) (length e.now))
+    else ended_symbol mode e (with_strings e n t k)

@@ -1,254 +1,269 @@
-// A symbol entry's own bytes, read. Crate symbol_info offers the direct parse and what can be asked of an entry.
-#![tactic(auto, unfolding(crate::specs::Symbol::extendedAt, crate::specs::Symbol::sectionsOf, crate::specs::Symbol::infoRecord, crate::specs::Symbol::infoOf, crate::specs::Symbol::symbolPresent, crate::specs::Symbol::symbolEnds, crate::specs::Symbol::symbolEntry, refusal::specs::Ends::endsIn))]
+//! AdsSymbolInfo entries of an upload, read whole: what a symbol holds is a part of the bytes that it was read from.
+#![tactic(auto, unfolding(crate::specs::Symbol::guid_of, crate::specs::Symbol::attributes_of, crate::specs::Symbol::extended_of, crate::specs::Symbol::refactor_infos_of, le::specs::Le::le2, le::specs::Le::le4))]
 
-ghost use Rattle.std.specs.Prelude.{◌≡◌, ◌≤◌, [], ◌++◌, length, if◌then◌else◌};
-ghost use Rattle.le.specs.Le.{le2, has};
-ghost use Rattle.refusal.specs.Ends.{checkedMode, endsMet, byChecked};
-ghost use Rattle.attr.specs.Attribute.{attributeEnds};
-ghost use Rattle.refactor.specs.Refactor.{chainEnds};
-ghost use Rattle.symbol.specs.Symbol.{refactorInfo, extendedAt, sectionsOf, infoOf, refused, symbolPresent, bySymbol, symbolEnds, symbolEntry};
+ghost use Rattle.std.specs.Prelude.{◌≡◌, ◌+◌, ◌≤◌, length};
+ghost use Rattle.le.specs.Le.{has};
+ghost use Rattle.symbol.specs.Symbol.{type_guid_flag, attributes_flag, extended_flags_flag, refactor_info_flag, guid_of, attributes_of, extended_of, refactor_infos_of, extended_word, IsWithin, with_strings, symbol_ended, symbol_of};
+ghost use Rattle.symbol.specs.Head.{head_of};
+ghost use Rattle.symbol.specs.Kind.{four, long, room, short, never_zero, head_long, head_room, head_short, head_never_zero};
 
+mod writer;
+
+use attribute::Attributes;
 use flags::index_group::IndexGroup;
 use flags::index_offset::IndexOffset;
 use flags::symbol_flags::{AdsSymbol2Flags, AdsSymbolFlags};
-use refusal::{Checked, Refusal};
+use refactor::RefactorInfos;
+use refusal::{Mode, Refusal};
+use walk::{Entry, Walker};
+pub use writer::NewSymbol;
 
-// Records of an entry that are asked for by number: the place of the first, and how many are shown.
-#[derive(Clone, Copy)]
-pub struct Shown {
-    pub first: usize,
-    pub count: usize,
-}
-
-#[derive(Clone, Copy)]
-pub struct ExtendedFlags {
-    pub here: bool,
-    pub flags: AdsSymbol2Flags,
-    pub next: usize,
-}
-
-// What stands after the strings.
-#[derive(Drop)]
-pub struct Sections {
-    pub has_guid: bool,
-    pub guid: [u8; 16],
-    pub attributes: Shown,
-    pub extended: ExtendedFlags,
-    pub refactor_infos: Shown,
-    pub next: usize,
-}
-
-// Places are those of the entry's own bytes.
-#[derive(Drop)]
-pub struct AdsSymbolInfo {
+#[derive(Clone, Copy, Debug)]
+pub struct AdsSymbolInfo<'a> {
     pub length: usize,
     pub index_group: IndexGroup,
     pub index_offset: IndexOffset,
     pub size: u32,
     pub data_type_id: u32,
     pub flags: AdsSymbolFlags,
-    // The two bytes after the flags, as sent: nothing depends on them.
+    /// The two bytes after the flags, as sent: nothing depends on them.
     pub high: u16,
-    pub name_len: u16,
-    pub type_name_len: u16,
-    pub comment_len: u16,
-    pub has_guid: bool,
-    pub attributes: Shown,
-    pub extended: ExtendedFlags,
-    pub refactor_infos: Shown,
-    pub unread: usize,
+    pub name: &'a [u8],
+    pub type_name: &'a [u8],
+    pub comment: &'a [u8],
+    pub guid: Option<[u8; 16]>,
+    pub attributes: Attributes<'a>,
+    pub extended_flags: Option<AdsSymbol2Flags>,
+    pub refactor_infos: RefactorInfos<'a>,
+    /// What stands after the sections.
+    pub unread: &'a [u8],
 }
 
-#[derive(Drop)]
-pub enum SymbolAnswer {
-    Record(AdsSymbolInfo),
-    Refused(Refusal),
-}
-
-// The GUID's bytes stand beside the answer: zeros where it has none.
-#[derive(Drop)]
-pub struct SymbolRead {
-    pub answer: SymbolAnswer,
-    pub guid: [u8; 16],
-}
-
-impl AdsSymbolInfo {
-    pub const MIN_LENGTH: usize = 30;
-}
-
-fn extended_at(e: &[u8], at: usize, flagged: bool) -> ExtendedFlags
-    ensures { result ≡ extendedAt e.now at flagged }
+#[inline(always)]
+fn read_guid(rest: &[u8], flagged: bool) -> (Option<[u8; 16]>, &[u8])
+    ensures { result ≡ guid_of rest.entry flagged }
 {
-    if flagged {
-        if 4 <= le::room(e.len(), at) {
-            return ExtendedFlags {
-                here: true,
-                flags: AdsSymbol2Flags(le::u32_at(e, at)),
-                next: at + 4,
-            };
-        }
+    if flagged && let Some((guid, _)) = rest.split_first_chunk::<16>() {
+        return (Some(*guid), &rest[16..]);
     }
-    ExtendedFlags {
-        here: false,
-        flags: AdsSymbol2Flags(0),
-        next: at,
-    }
+    (None, rest)
 }
 
-// The sections from a place on, in layout order.
-fn sections_of(e: &[u8], at: usize, flags: AdsSymbolFlags) -> Sections
-    ensures { result ≡ sectionsOf e.now at flags.0 }
+#[inline(always)]
+fn read_attributes(rest: &[u8], flagged: bool) -> (Attributes<'_>, &[u8])
+    ensures { result ≡ attributes_of rest.entry flagged }
 {
-    let guid = guid::guid_at(e, at, flags.has_type_guid());
-    let attributes = attr::attributes_at(e, guid.next, flags.has_attributes());
-    let list = attributes.list;
-    let extended = extended_at(e, list.next, flags.has_extended_flags());
-    let from = extended.next;
-    let word = extended.flags;
-    let chain = refactor::chain_section(e, from, word.has_refactor_info());
-    let bytes = guid.bytes;
-    Sections {
-        has_guid: guid.here,
-        guid: bytes,
-        attributes: Shown {
-            first: attributes.first,
-            count: list.shown,
-        },
-        extended,
-        refactor_infos: Shown {
-            first: from,
-            count: chain.count,
-        },
-        next: chain.next,
+    if !flagged || rest.len() < 2 {
+        let none = Attributes {
+            bytes: rest,
+            count: 0,
+        };
+        return (none, rest);
     }
+    attribute::list(&rest[2..], le::u16_at(rest, 0) as usize)
 }
 
-// The record of an entry, of which the lengths, the flags and the sections were read.
-fn info_of(e: &[u8], n: u16, t: u16, k: u16, flags: AdsSymbolFlags, s: Sections) -> SymbolRead
-    requires { (30 ≤ length e.now) × ((n ≡ le2 e.now 24) × ((t ≡ le2 e.now 26) × ((k ≡ le2 e.now 28) × (flags.0 ≡ le2 e.now 20)))) }
-    ensures { result ≡ infoOf e.now s }
+#[inline(always)]
+fn read_extended(rest: &[u8], flagged: bool) -> (Option<AdsSymbol2Flags>, &[u8])
+    ensures { result ≡ extended_of rest.entry flagged }
 {
-    let guid = s.guid;
-    let attributes = s.attributes;
-    let extended = s.extended;
-    let refactor_infos = s.refactor_infos;
-    let answer = SymbolAnswer::Record(AdsSymbolInfo {
-        length: e.len(),
-        index_group: IndexGroup(le::u32_at(e, 4)),
-        index_offset: IndexOffset(le::u32_at(e, 8)),
-        size: le::u32_at(e, 12),
-        data_type_id: le::u32_at(e, 16),
+    if !flagged || rest.len() < 4 {
+        return (None, rest);
+    }
+    (Some(AdsSymbol2Flags(le::u32_at(rest, 0))), &rest[4..])
+}
+
+#[inline(always)]
+fn read_refactor_infos(rest: &[u8], flagged: bool) -> (RefactorInfos<'_>, &[u8])
+    ensures { result ≡ refactor_infos_of rest.entry flagged }
+{
+    if flagged && let Ok(found) = refactor::chain(rest) {
+        return found;
+    }
+    let none = RefactorInfos {
+        bytes: rest,
+        count: 0,
+    };
+    (none, rest)
+}
+
+/// The symbol of an entry's own bytes whose strings have these lengths.
+#[tactic(auto, unfolding(crate::specs::Symbol::with_strings))]
+#[inline(always)]
+fn with_strings(own: &[u8], name: usize, type_name: usize, comment: usize) -> AdsSymbolInfo<'_>
+    requires { 33 + name + type_name + comment ≤ length own.now }
+    ensures { result ≡ with_strings own.entry name type_name comment }
+{
+    let type_at = 31 + name;
+    let comment_at = type_at + type_name + 1;
+    let sections = &own[comment_at + comment + 1..];
+    let flags = AdsSymbolFlags(le::u16_at(own, 20));
+    let (guid, rest) = read_guid(sections, flags.has_type_guid());
+    let (attributes, rest) = read_attributes(rest, flags.has_attributes());
+    let (extended_flags, rest) = read_extended(rest, flags.has_extended_flags());
+    let (refactor_infos, unread) = read_refactor_infos(rest, has_refactor_infos(extended_flags));
+    AdsSymbolInfo {
+        length: own.len(),
+        index_group: IndexGroup(le::u32_at(own, 4)),
+        index_offset: IndexOffset(le::u32_at(own, 8)),
+        size: le::u32_at(own, 12),
+        data_type_id: le::u32_at(own, 16),
         flags,
-        high: le::u16_at(e, 22),
-        name_len: n,
-        type_name_len: t,
-        comment_len: k,
-        has_guid: s.has_guid,
+        high: le::u16_at(own, 22),
+        name: &own[30..30 + name],
+        type_name: &own[type_at..type_at + type_name],
+        comment: &own[comment_at..comment_at + comment],
+        guid,
         attributes,
-        extended,
+        extended_flags,
         refactor_infos,
-        unread: le::room(e.len(), s.next),
-    });
-    SymbolRead { answer, guid }
-}
-
-// The end bytes of the chain, if it is flagged, from a place on.
-#[tactic(auto, unfolding(refusal::specs::Ends::endsMet))]
-fn check_chain_ends(e: &[u8], word: AdsSymbol2Flags, first: usize) -> Checked
-    ensures { result ≡ endsMet e.now (if has word.0 refactorInfo then chainEnds e.now first else []) }
-{
-    if word.has_refactor_info() {
-        return refactor::check_chain_ends(e, first);
-    }
-    Checked::Passed
-}
-
-// The end bytes of the attributes that are shown, then those of the chain.
-fn check_section_ends(e: &[u8], r: &AdsSymbolInfo) -> Checked
-    ensures { result ≡ endsMet e.now (attributeEnds e.now r.now.attributes.first r.now.attributes.count ++ (if has r.now.extended.flags.0 refactorInfo then chainEnds e.now r.now.refactor_infos.first else [])) }
-{
-    let attributes = r.attributes;
-    let extended = r.extended;
-    let word = extended.flags;
-    let refactor_infos = r.refactor_infos;
-    match attr::check_ends_from(e, attributes.first, attributes.count) {
-        Checked::Passed => check_chain_ends(e, word, refactor_infos.first),
-        Checked::Refused(why) => Checked::Refused(why),
+        unread,
     }
 }
 
-// All end bytes of an entry with this record.
-fn check_ends(e: &[u8], r: &AdsSymbolInfo) -> Checked
-    ensures { result ≡ endsMet e.now (symbolEnds e.now r.now) }
+fn has_refactor_infos(extended: Option<AdsSymbol2Flags>) -> bool
+    ensures { result ≡ has (extended_word extended) refactor_info_flag }
 {
-    match entry::check_strings(e, 30, r.name_len, r.type_name_len, r.comment_len) {
-        Checked::Passed => check_section_ends(e, r),
-        Checked::Refused(why) => Checked::Refused(why),
+    match extended {
+        Some(flags) => flags.has_refactor_info(),
+        None => false,
     }
 }
 
-pub fn refused(why: Refusal) -> SymbolRead
-    ensures { result ≡ refused why }
+/// Refuses the first end byte that is not 0 of a symbol that was read from these bytes.
+#[tactic(auto, using(refusal::proofs::EndBytes::ended_passed, refusal::proofs::EndBytes::ended_refused, refusal::proofs::EndBytes::ended_none), unfolding(crate::specs::Symbol::symbol_ended))]
+fn check_ends(own: &[u8], symbol: &AdsSymbolInfo<'_>) -> Result<(), Refusal>
+    requires { IsWithin own symbol.now }
+    ensures { result ≡ symbol_ended own.entry symbol.now }
 {
-    SymbolRead {
-        answer: SymbolAnswer::Refused(why),
-        guid: [0u8; 16],
+    let name = 30 + symbol.name.len();
+    let type_name = name + 1 + symbol.type_name.len();
+    let comment = type_name + 1 + symbol.comment.len();
+    refusal::check_end(name, own[name])?;
+    refusal::check_end(type_name, own[type_name])?;
+    refusal::check_end(comment, own[comment])?;
+    let attributes = symbol.attributes;
+    attributes.check_ends(own.len() - attributes.bytes.len())?;
+    if !has_refactor_infos(symbol.extended_flags) {
+        return Ok(());
+    }
+    let chain = symbol.refactor_infos.bytes;
+    refactor::check_ends(chain, own.len() - chain.len())
+}
+
+impl<'a> Entry<'a> for AdsSymbolInfo<'a> {
+    ghost HEADER = { 30 };
+
+    ghost read = { symbol_of };
+
+    ghost length_of = { λ r. r.length };
+
+    ghost four = { four };
+
+    ghost long = { long };
+
+    ghost room = { room };
+
+    ghost short = { short };
+
+    ghost never_zero = { never_zero };
+
+    fn header() -> usize
+        ensures { result ≡ 30 }
+    {
+        30
+    }
+
+    #[tactic(auto, using(crate::proofs::Within::within), unfolding(crate::specs::Symbol::symbol_of, crate::specs::Symbol::ended_symbol))]
+    #[inline(always)]
+    fn read(own: &'a [u8], mode: Mode) -> Result<Self, Refusal> {
+        let length = own.len();
+        if length < 30 {
+            return Err(Refusal::TooShort {
+                needed: 30,
+                present: length,
+            });
+        }
+        let name = le::u16_at(own, 24) as usize;
+        let type_name = le::u16_at(own, 26) as usize;
+        let comment = le::u16_at(own, 28) as usize;
+        let needed = 33 + name + type_name + comment;
+        if length < needed {
+            return Err(Refusal::EntryLengthMismatch {
+                needed,
+                available: length,
+            });
+        }
+        let symbol = with_strings(own, name, type_name, comment);
+        if mode == Mode::Checked {
+            check_ends(own, &symbol)?;
+        }
+        Ok(symbol)
     }
 }
 
-// An entry's own bytes, read in the present mode.
-fn read_present(e: &[u8]) -> SymbolRead
-    ensures { result ≡ symbolPresent e.now }
-{
-    let length = e.len();
-    if length < 30 {
-        return refused(Refusal::TooShort {
-            needed: 30,
-            present: length,
-        });
-    }
-    let n = le::u16_at(e, 24);
-    let t = le::u16_at(e, 26);
-    let k = le::u16_at(e, 28);
-    let needed = 33 + le::wide(n) + le::wide(t) + le::wide(k);
-    if length < needed {
-        return refused(Refusal::EntryLengthMismatch {
-            needed,
-            available: length,
-        });
-    }
-    let flags = AdsSymbolFlags(le::u16_at(e, 20));
-    info_of(e, n, t, k, flags, sections_of(e, needed, flags))
+pub type Symbols<'a> = Walker<'a, AdsSymbolInfo<'a>>;
+
+/// What the index and finding look at of a symbol: in the present mode its sections are not read.
+#[derive(Clone, Copy, Debug)]
+pub struct SymbolHead<'a> {
+    pub length: usize,
+    pub name: &'a [u8],
 }
 
-// What the present mode read, if its end bytes are 0. They are looked at when the record is known and not while it is read: so the present mode does not
-// pay for a test that it has no use for.
-fn ended(e: &[u8], read: SymbolRead) -> SymbolRead
-    ensures { result ≡ bySymbol read.answer (λ info. byChecked (endsMet e.now (symbolEnds e.now info)) read refused) (λ why. read) }
-{
-    match &read.answer {
-        SymbolAnswer::Record(info) => match check_ends(e, info) {
-            Checked::Passed => read,
-            Checked::Refused(why) => refused(why),
-        },
-        SymbolAnswer::Refused(_) => read,
-    }
-}
+impl<'a> Entry<'a> for SymbolHead<'a> {
+    ghost HEADER = { 30 };
 
-// An entry's own bytes, read in the checked mode.
-pub fn read_checked(e: &[u8]) -> SymbolRead
-    ensures { result ≡ symbolEntry checkedMode e.now }
-{
-    ended(e, read_present(e))
-}
+    ghost read = { head_of };
 
-// An entry's own bytes, read in a mode.
-#[tactic(auto, using(crate::proofs::Inside::present_is))]
-pub fn read_entry(e: &[u8], checked: bool) -> SymbolRead
-    ensures { result ≡ symbolEntry checked e.now }
-{
-    if checked {
-        return read_checked(e);
+    ghost length_of = { λ r. r.length };
+
+    ghost four = { four };
+
+    ghost long = { head_long };
+
+    ghost room = { head_room };
+
+    ghost short = { head_short };
+
+    ghost never_zero = { head_never_zero };
+
+    fn header() -> usize
+        ensures { result ≡ 30 }
+    {
+        30
     }
-    read_present(e)
+
+    #[tactic(auto, unfolding(crate::specs::Head::head_of, crate::specs::Symbol::symbol_of, crate::specs::Symbol::ended_symbol, crate::specs::Symbol::with_strings))]
+    #[inline(always)]
+    fn read(own: &'a [u8], mode: Mode) -> Result<Self, Refusal> {
+        if mode == Mode::Checked {
+            let symbol = AdsSymbolInfo::read(own, mode)?;
+            return Ok(SymbolHead {
+                length: symbol.length,
+                name: symbol.name,
+            });
+        }
+        let length = own.len();
+        if length < 30 {
+            return Err(Refusal::TooShort {
+                needed: 30,
+                present: length,
+            });
+        }
+        let name = le::u16_at(own, 24) as usize;
+        let type_name = le::u16_at(own, 26) as usize;
+        let comment = le::u16_at(own, 28) as usize;
+        let needed = 33 + name + type_name + comment;
+        if length < needed {
+            return Err(Refusal::EntryLengthMismatch {
+                needed,
+                available: length,
+            });
+        }
+        Ok(SymbolHead {
+            length,
+            name: &own[30..30 + name],
+        })
+    }
 }

@@ -1,0 +1,4 @@
+pub mod Read
+pub mod Inside
+pub mod Named
+pub mod Modes

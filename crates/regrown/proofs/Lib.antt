@@ -1,0 +1,4 @@
+pub mod Whole
+pub mod Walked
+pub mod Back
+pub mod ShutsOut

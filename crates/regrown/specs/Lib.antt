@@ -1,0 +1,3 @@
+pub mod Regrown
+pub mod Tells
+pub mod ShutsOut

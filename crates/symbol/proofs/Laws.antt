@@ -1,0 +1,39 @@
+-- The laws of symbols.
+use Rattle.std.proofs.Common.{◌≡◌, ℕ, ◌+◌, ◌≤◌, Bool, List, length, Ok, arith, Bor, subst}
+use Rattle.refusal.specs.declared.Mode.{Mode}
+use Rattle.le.specs.Le.{le2}
+use Rattle.attribute.specs.Attribute as attribute
+use Rattle.attribute.proofs.Laws.{listed_again, listed_none}
+use Rattle.symbol.specs.declared.AdsSymbolInfo.{AdsSymbolInfo}
+use Rattle.symbol.specs.Symbol.{attributes_of, with_strings, symbol_of, ended_symbol}
+use Rattle.symbol.specs.Laws.{IsWhole, SymbolsWhole, SymbolsModes}
+use Rattle.symbol.proofs.Within.{within}
+
+counted_at : (s : Bor (List ℕ)) (b : Bool) → length (attribute.listed (attributes_of s b).0.bytes (attributes_of s b).0.count) ≡ (attributes_of s b).0.count
+unfolding attributes_of
+counted_at s b = grind (arith, listed_again, listed_none)
+
+-- an accepted symbol is the one that its entry's lengths place
+accepted_room : (mode : Mode) (e : Bor (List ℕ)) (r : AdsSymbolInfo) → symbol_of mode e ≡ Ok r → 33 + le2 e.now 24 + le2 e.now 26 + le2 e.now 28 ≤ length e.now
+unfolding symbol_of ended_symbol
+accepted_room mode e r h = grind arith
+
+accepted_is : (mode : Mode) (e : Bor (List ℕ)) (r : AdsSymbolInfo) → symbol_of mode e ≡ Ok r → with_strings e (le2 e.now 24) (le2 e.now 26) (le2 e.now 28) ≡ r
+unfolding symbol_of ended_symbol
+accepted_is mode e r h = grind arith
+
+with_counted : (e : Bor (List ℕ)) (n t k : ℕ) → length (attribute.listed (with_strings e n t k).attributes.bytes (with_strings e n t k).attributes.count) ≡ (with_strings e n t k).attributes.count
+unfolding with_strings
+with_counted e n t k = counted_at _ _
+
+pub symbols_modes : SymbolsModes
+unfolding symbol_of ended_symbol
+symbols_modes e = grind arith
+
+pub symbols_whole : SymbolsWhole
+symbols_whole mode e r h =
+    let n : ℕ = le2 e.now 24 in
+    let t : ℕ = le2 e.now 26 in
+    let k : ℕ = le2 e.now 28 in
+    let whole : IsWhole e (with_strings e n t k) = record { within = within e n t k (accepted_room mode e r h); counted = with_counted e n t k } in
+    subst (IsWhole e) (accepted_is mode e r h) whole

@@ -1,9 +1,0 @@
-use Rattle.le.proofs.Laws.{after, same_bytes}
-use Rattle.symbol_writer.specs.Writing.{sectionsOf}
-use Rattle.symbol_writer.proofs.put_sections.Goals as goal
-
-pub returns : goal.returns
-unfolding sectionsOf
-returns c =
-    same_bytes (simp (← c.has_type_guid.ensures, ← c.has_attributes.ensures, ← c.has_extended_flags.ensures))
-    (after c.put_guid-a.ensures (after c.put_attributes-b.ensures (after c.put_extended-c.ensures c.put_bytes.ensures)))

@@ -1,0 +1,63 @@
+-- The theorems around the one that written symbols come back.
+use Rattle.std.specs.Prelude.{ℕ, ◌≤◌, ◌≡◌, List, Some, Result, Ok, ok_or, find, nat_eq, length, take}
+use Rattle.std.specs.Cmp.Lexicographic.{pointwise}
+use Rattle.std.specs.Borrow.{Bor}
+use Rattle.refusal.specs.Refusal.{limit}
+use Rattle.refusal.specs.declared.Mode.{Mode}
+use Rattle.refusal.specs.declared.Refusal.{Refusal}
+use Rattle.refusal.specs.declared.Refusal.TheVariants.{NameNotFound}
+use Rattle.walk.specs.Mapped.{map_ok}
+use Rattle.walk.specs.Theorems.{cursor_of}
+use Rattle.writing.specs.Writing.{Writes}
+use Rattle.regrown.specs.Regrown.{grown}
+use Rattle.regrown.specs.ShutsOut.{ShutsOut}
+use Rattle.regrown.specs.Tells.{tells}
+use Rattle.attribute.specs.Attribute.{listed, named}
+use Rattle.attribute.specs.Told as attributes
+use Rattle.symbol.specs.declared.AdsSymbolInfo.{AdsSymbolInfo}
+use Rattle.symbol.specs.declared.writer.NewSymbol.{NewSymbol}
+use Rattle.symbol.specs.Symbol.{symbol_of}
+use Rattle.symbol.specs.Told.{told_of, meant, IsTyped}
+use Rattle.symbol.specs.Writing.{symbol_bytes, symbol_written}
+use Rattle.symbols_regrown.specs.Kind.{IsFit}
+
+-- each number the largest that its type holds, and 16 bytes of GUID
+pub record IsLargest (n : NewSymbol) : Type 0 where
+  pub index_group : n.index_group.0 ≡ 0xFFFFFFFF
+  pub index_offset : n.index_offset.0 ≡ 0xFFFFFFFF
+  pub size : n.size ≡ 0xFFFFFFFF
+  pub data_type_id : n.data_type_id ≡ 0xFFFFFFFF
+  pub flags : n.flags.0 ≡ 0xFFFF
+  pub high : n.high ≡ 0xFFFF
+  pub extended_flags : n.extended_flags.0 ≡ 0xFFFFFFFF
+  pub sixteen : List ℕ
+  pub guid : n.guid ≡ Some sixteen
+  pub guid_long : length sixteen ≡ 16
+
+abbrev pub LargestTyped : Type 0
+LargestTyped = (n : NewSymbol) → IsLargest n → IsTyped n
+
+-- a step that never gives a record, and one that gives its first answer again
+abbrev pub SymbolsShutOut : Type 0
+SymbolsShutOut = ShutsOut IsFit symbol_bytes meant cursor_of (tells (λ (r : AdsSymbolInfo). r.length) told_of)
+
+-- where `to_vec` answers that it wrote so many bytes, the symbol is fit, and these bytes are those that come back
+pub record IsReached (n : NewSymbol) (count : ℕ) (new : List ℕ) : Type 0 where
+  pub fit : IsFit n
+  pub bytes : take count new ≡ symbol_bytes n
+
+abbrev pub WrittenSymbolsFit : Type 0
+WrittenSymbolsFit = (n : NewSymbol) (old new : List ℕ) (count : ℕ) → IsTyped n → Writes (symbol_written n) old new (Ok count) → IsReached n count new
+
+-- of some attributes, what the first with a name tells; where none has it, 13
+abbrev pub named_told : List attributes.Told → List ℕ → Result attributes.Told Refusal
+named_told all name = ok_or (find (λ a. pointwise nat_eq a.name name) all) NameNotFound
+
+-- of an entry that is read, asked by an attribute's name
+pub record IsNamed (mode : Mode) (n : NewSymbol) (e : Bor (List ℕ)) (name : List ℕ) : Type 0 where
+  pub back : AdsSymbolInfo
+  pub is : symbol_of mode e ≡ Ok back
+  pub tells : map_ok attributes.told_of (named (listed back.attributes.bytes back.attributes.count) name) ≡ named_told (attributes.told (listed n.attributes.bytes n.attributes.count)) name
+
+abbrev pub SymbolsByName : Type 0
+SymbolsByName = (mode : Mode) (n : NewSymbol) (extra name : List ℕ) (e : Bor (List ℕ)) → IsFit n → e.now ≡ grown (symbol_bytes n) extra → length e.now ≤ limit → IsNamed mode n e name
