@@ -1,3 +1,3 @@
 pub mod Laws
-pub mod Theorems
+pub mod Steps
 pub mod Meaning

@@ -1,37 +1,39 @@
--- 01: the index of starts, and finding by name, in a mode.
-use Rattle.std.specs.Prelude.{ℕ, Bool, List, [], ◌∷◌, ltb, length, if◌then◌else◌}
+-- The index of starts (docs/FORMAT.md, "Index").
+use Rattle.std.specs.Borrow.{Bor}
+use Rattle.std.specs.Prelude.{ℕ, Result, Bool, false, List, map, filter, ltb, length, is_ok, Ok, Err, if◌then◌else◌}
+use Rattle.std.specs.List.{list_any}
 use Rattle.refusal.specs.Refusal.{limit}
-use Rattle.refusal.specs.Writing.{Writing, Bytes, Refuse}
-use Rattle.refusal.specs.declared.Refusal.TheVariants.{TooLarge, ZeroEntryLength, NameNotFound}
-use Rattle.entry.specs.Walk.{stands, steps, any}
-use Rattle.index.specs.Steps.{accepted, names, those}
-use Rattle.index.specs.declared.FindAnswer.{FindAnswer}
-use Rattle.index.specs.declared.FindAnswer.TheVariants.{Found, Refused}
+use Rattle.refusal.specs.declared.Refusal.{Refusal}
+use Rattle.refusal.specs.declared.Refusal.TheVariants.{TooLarge, ZeroEntryLength}
+use Rattle.walk.specs.Zero.{is_zero}
+use Rattle.walk.specs.declared.Piece.{Piece}
+use Rattle.walk.specs.Pieces.{pieces}
 
--- the start of every accepted symbol, in order
-unfoldable pub starts : Bool → List ℕ → List ℕ
-starts mode s = those (accepted mode s) (steps s)
+abbrev pub is_stop : {R : Type 0} → Result R Refusal → Bool
+is_stop (Ok r) = false
+is_stop (Err why) = is_zero why
+
+-- a piece that is refused with 10
+abbrev pub stops : {R : Type 0} → Piece R → Bool
+stops p = is_stop p.answer
+
+abbrev pub accepts : {R : Type 0} → Piece R → Bool
+accepts p = is_ok p.answer
+
+abbrev pub stopped : {R : Type 0} → List (Piece R) → Bool
+stopped ps = list_any stops ps
+
+-- the start of every accepted entry, in order
+unfoldable pub starts : {R : Type 0} → List (Piece R) → List ℕ
+starts ps = map (λ p. p.start) (filter accepts ps)
+
+-- how many there are, unless a zero claim is met
+unfoldable pub tally_of : {R : Type 0} → List (Piece R) → Result ℕ Refusal
+tally_of ps = if stopped ps then Err ZeroEntryLength else Ok (length (starts ps))
 
 -- what index building writes into the lent slots: 5, then 10; 6 is the writer's
-unfoldable pub indexing : Bool → List ℕ → Writing
-indexing mode s =
-    if ltb limit (length s) then Refuse (TooLarge (length s))
-    else if any (stands s) (steps s) then Refuse ZeroEntryLength
-    else Bytes (starts mode s)
-
--- the first of some places that passes a test, else another answer
-unfoldable pub first_of : (ℕ → Bool) → List ℕ → FindAnswer → FindAnswer
-first_of test [] other = other
-first_of test (at ∷ more) other = if test at then Found at else first_of test more other
-
--- without an index: 5; a match before a zero claim is answered; else 10, else 13
-unfoldable pub find : Bool → List ℕ → List ℕ → FindAnswer
-find mode s name =
-    if ltb limit (length s) then Refused (TooLarge (length s))
-    else first_of (names mode s name) (steps s) (if any (stands s) (steps s) then Refused ZeroEntryLength else Refused NameNotFound)
-
--- through an index, in slot order: 5, else 13
-unfoldable pub findIndexed : Bool → List ℕ → List ℕ → List ℕ → FindAnswer
-findIndexed mode s slots name =
-    if ltb limit (length s) then Refused (TooLarge (length s))
-    else first_of (names mode s name) slots (Refused NameNotFound)
+unfoldable pub indexing : {R : Type 0} → (Bor (List ℕ) → Result R Refusal) → Bor (List ℕ) → Result (List ℕ) Refusal
+indexing read s =
+    if ltb limit (length s.now) then Err (TooLarge (length s.now))
+    else if stopped (pieces read s) then Err ZeroEntryLength
+    else Ok (starts (pieces read s))

@@ -1,4 +1,3 @@
-pub mod Steps
 pub mod Index
-pub mod Inside
+pub mod Steps
 pub mod Meaning

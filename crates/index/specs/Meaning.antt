@@ -1,45 +1,27 @@
--- What the index and finding mean, in a mode: places in order, and names as a caller who asks the entry's own bytes is told them.
-use Rattle.std.specs.Prelude.{ℕ, suc, ◌-◌, ◌≤◌, ◌≡◌, Bool, true, false, List, [], ◌∷◌, ◌++◌, length, if◌then◌else◌}
-use Rattle.le.specs.Le.{part}
-use Rattle.refusal.specs.Refusal.{limit}
+-- What an index means.
+use Rattle.std.specs.Borrow.{Bor}
+use Rattle.std.specs.Prelude.{ℕ, suc, ◌≤◌, ◌≡◌, List, [], ◌∷◌, Result, Ok, length, count_by}
 use Rattle.refusal.specs.declared.Refusal.{Refusal}
-use Rattle.entry.specs.Entry.{claimAt}
-use Rattle.entry.specs.Walk.{steps, any}
-use Rattle.symbol.specs.Questions.{symbolName}
-use Rattle.names.specs.Names.{same_name}
-use Rattle.index.specs.Steps.{accepted}
-use Rattle.index.specs.Index.{starts, find, findIndexed}
-use Rattle.index.specs.declared.FindAnswer.TheVariants.{Found, Refused}
+use Rattle.entry.specs.Walk.{steps}
+use Rattle.writing.specs.Writing.{Writes}
+use Rattle.walk.specs.Pieces.{pieces}
+use Rattle.index.specs.Index.{starts, indexing}
+use Rattle.index.specs.Steps.{gives}
 
 -- each place is above the one before it, and the first is at least so large
 pub data Ascends : ℕ → List ℕ → Type 0 where
   done : {least : ℕ} → Ascends least []
   next : {least at : ℕ} {more : List ℕ} → least ≤ at → Ascends (suc at) more → Ascends least (at ∷ more)
 
--- the starts of an index ascend strictly, so no entry stands twice in it
-abbrev pub StartsAscend : Type 0
-StartsAscend = (mode : Bool) (s : List ℕ) → Ascends 0 (starts mode s)
+module _ {R : Type 0} (read : Bor (List ℕ) → Result R Refusal) where
+  -- the starts of an index ascend strictly, so no entry stands twice in it
+  abbrev pub StartsAscend : Type 0
+  StartsAscend = (s : Bor (List ℕ)) → Ascends 0 (starts (pieces read s))
 
--- an entry begins at a place, the walk accepts it, and its bytes, asked for their name, tell the one that is looked for
-unfoldable pub named : Bool → List ℕ → List ℕ → ℕ → Bool
-named mode s name at = if accepted mode s at then same_name (symbolName mode (part s at ((claimAt s at).next - at))) name else false
+  -- an index that was built has a slot for each step of the walk that gives a record, and stands within the slots
+  pub record IndexLength (s : Bor (List ℕ)) (old new : List ℕ) (n : ℕ) : Type 0 where
+    pub counts : n ≡ count_by (gives read s) (steps s.now)
+    pub fits : n ≤ length new
 
--- a place is one of some places, has the name, and none before it has
-pub record Finds (mode : Bool) (s name places : List ℕ) (at : ℕ) : Type 0 where
-  pub before : List ℕ
-  pub after : List ℕ
-  pub among : places ≡ before ++ (at ∷ after)
-  pub has : named mode s name at ≡ true
-  pub first : any (named mode s name) before ≡ false
-
--- what is found is the first that has the name: of the steps of the walk, and through an index of the slots, whatever they hold
-abbrev pub FoundIsFirst : Type 0
-FoundIsFirst = (mode : Bool) (s name : List ℕ) (at : ℕ) → (find mode s name ≡ Found at → Finds mode s name (steps s) at) × ((slots : List ℕ) → findIndexed mode s slots name ≡ Found at → Finds mode s name slots at)
-
--- where an upload within the limit is refused, with 13 or with 10, no step of its walk has the name, and through an index no slot
-abbrev pub RefusedIsNowhere : Type 0
-RefusedIsNowhere = (mode : Bool) (s name : List ℕ) (why : Refusal) → length s ≤ limit → (find mode s name ≡ Refused why → any (named mode s name) (steps s) ≡ false) × ((slots : List ℕ) → findIndexed mode s slots name ≡ Refused why → any (named mode s name) slots ≡ false)
-
--- a name in any case is found as in any other, without an index and through any slots
-abbrev pub AnyCase : Type 0
-AnyCase = (mode : Bool) (s name typed : List ℕ) → same_name name typed ≡ true → (find mode s typed ≡ find mode s name) × ((slots : List ℕ) → findIndexed mode s slots typed ≡ findIndexed mode s slots name)
+  abbrev pub BuiltLength : Type 0
+  BuiltLength = (s : Bor (List ℕ)) (old new : List ℕ) (n : ℕ) → Writes (indexing read s) old new (Ok n) → IndexLength s old new n

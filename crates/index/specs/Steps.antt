@@ -1,26 +1,23 @@
--- Which steps of a walk over an upload give a record, in a mode.
-use Rattle.std.specs.Prelude.{ℕ, Bool, true, false, List, [], ◌∷◌, if◌then◌else◌}
-use Rattle.le.specs.Le.{part}
-use Rattle.symbol.specs.declared.AdsSymbolInfo.{AdsSymbolInfo}
-use Rattle.walk.specs.Walk.{symbolStep}
-use Rattle.walk.specs.declared.Step.{Step}
-use Rattle.walk.specs.declared.Step.TheVariants as step
-use Rattle.names.specs.Names.{same_name}
+-- The same, by the steps of the walk: the walk's own definition of them, and what a step gives.
+use Rattle.std.specs.Borrow.{Bor}
+use Rattle.std.specs.Prelude.{ℕ, Result, ◌≡◌, Bool, true, false, List, filter, Some, None, Ok, Err}
+use Rattle.std.specs.List.{list_any}
+use Rattle.std.specs.declared.option.Option.{Option}
+use Rattle.refusal.specs.declared.Refusal.{Refusal}
+use Rattle.entry.specs.Walk.{stands, steps}
+use Rattle.walk.specs.Step.{step_at}
+use Rattle.walk.specs.Pieces.{pieces}
+use Rattle.index.specs.Index.{starts, stopped}
 
-abbrev pub byRecord : {A : Type 0} → Step → (AdsSymbolInfo → A) → A → A
-byRecord step.Finished on other = other
-byRecord (step.Record info) on other = on info
-byRecord (step.Refused why) on other = other
+abbrev pub is_record : {R : Type 0} → Option (Result R Refusal) → Bool
+is_record None = false
+is_record (Some (Ok r)) = true
+is_record (Some (Err why)) = false
 
 -- a step from here gives a record
-unfoldable pub accepted : Bool → List ℕ → ℕ → Bool
-accepted mode s at = byRecord (symbolStep mode s at).step (λ info. true) false
+abbrev pub gives : {R : Type 0} → (Bor (List ℕ) → Result R Refusal) → Bor (List ℕ) → ℕ → Bool
+gives read s at = is_record (step_at read s at).answer
 
--- a step from here gives a record of that name, which stands in the entry after its header
-unfoldable pub names : Bool → List ℕ → List ℕ → ℕ → Bool
-names mode s name at = byRecord (symbolStep mode s at).step (λ info. same_name (part (part s at info.length) 30 info.name_len) name) false
-
--- those of some places that pass a test, in order
-unfoldable pub those : (ℕ → Bool) → List ℕ → List ℕ
-those test [] = []
-those test (at ∷ more) = if test at then at ∷ those test more else those test more
+pub record BySteps {R : Type 0} (read : Bor (List ℕ) → Result R Refusal) : Type 0 where
+  pub starts-are : (s : Bor (List ℕ)) → starts (pieces read s) ≡ filter (gives read s) (steps s.now)
+  pub stopped-is : (s : Bor (List ℕ)) → stopped (pieces read s) ≡ list_any (stands s.now) (steps s.now)

@@ -5,9 +5,9 @@
 
 ghost use Rattle.std.specs.Prelude.{◌<◌};
 
-use index::FindAnswer;
+use old_index::FindAnswer;
 use refusal::{Refusal, Written};
-use room::RoomAnswer;
+use old_room::RoomAnswer;
 use std::io;
 
 // 01's number and figures.
@@ -69,8 +69,8 @@ fn put_entry(rig: &mut [u8; 1600], i: usize)
 
 fn find_both(rt: &impl Print, rig: &[u8], slots: &[u32], name: &[u8]) -> io::Result<()> {
     rt.write_all(name)?;
-    answer(rt, index::find(rig, refusal::PRESENT, name))?;
-    answer(rt, index::find_indexed(rig, refusal::PRESENT, slots, name))?;
+    answer(rt, old_index::find(rig, refusal::PRESENT, name))?;
+    answer(rt, old_index::find_indexed(rig, refusal::PRESENT, slots, name))?;
     println!(rt)
 }
 
@@ -91,7 +91,7 @@ fn find_all(rt: &impl Print, rig: &[u8], slots: &[u32]) -> io::Result<()> {
 }
 
 fn survey(rt: &impl Print, rig: &[u8; 1600], slots: &mut [u32]) -> io::Result<()> {
-    match index::build(rig, refusal::PRESENT, slots) {
+    match old_index::build(rig, refusal::PRESENT, slots) {
         Written::Done(n) => {
             println!(rt; "index {n}")?;
             find_all(rt, rig, &slots[..n])
@@ -106,7 +106,7 @@ fn survey(rt: &impl Print, rig: &[u8; 1600], slots: &mut [u32]) -> io::Result<()
 
 fn room_for(rt: &impl Print, length: usize) -> io::Result<()> {
     print!(rt; "room for {length} ")?;
-    match room::room(length) {
+    match old_room::room(length) {
         RoomAnswer::Slots(n) => print!(rt; "{n}")?,
         RoomAnswer::Refused(why) => refusal(rt, why)?,
     }
@@ -132,7 +132,7 @@ fn put_smallest(rig: &mut [u8; 1600]) {
 }
 
 fn build(rt: &impl Print, rig: &[u8], slots: &mut [u32]) -> io::Result<()> {
-    match index::build(rig, refusal::PRESENT, slots) {
+    match old_index::build(rig, refusal::PRESENT, slots) {
         Written::Done(n) => print!(rt; "index {n}")?,
         Written::Refused(why) => refusal(rt, why)?,
     }
@@ -141,7 +141,7 @@ fn build(rt: &impl Print, rig: &[u8], slots: &mut [u32]) -> io::Result<()> {
 
 // With as many slots as are set aside, and with one fewer.
 fn build_tight(rt: &impl Print, rig: &[u8; 1600], slots: &mut [u32]) -> io::Result<()> {
-    match room::room(rig.len()) {
+    match old_room::room(rig.len()) {
         RoomAnswer::Slots(n) => {
             if 0 < n && n <= slots.len() {
                 build(rt, rig, &mut slots[..n])?;

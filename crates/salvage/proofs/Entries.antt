@@ -1,149 +1,174 @@
 -- Accepted entries, wherever they stand: what a step tells of each, and what the walk and a salvage make of nothing but such entries.
-use Prim.Native.Nat.{ℕ, zero, suc, ◌+◌, ◌-◌, ◌<◌, ◌≤◌}
-use native.Mathlib.Omega.{arith}
-use native.Mathlib.Nat.{suc-add}
-use mathlib.Core.Path.{◌≡◌, refl, sym, ap, ◌∙◌}
-use mathlib.Core.Bool.{Bool, true, false}
-use mathlib.Core.List.{List, [], ◌∷◌, ◌++◌, append_assoc, append-nil}
-use lib.ListN.{length, length-append}
+use Rattle.std.proofs.Common.{ℕ, zero, suc, ◌+◌, ◌-◌, ◌<◌, ◌≤◌, ◌≡◌, refl, sym, ap, ◌∙◌, Bool, true, false, List, [], ◌∷◌, ◌++◌, length, arith, Bor, Result, length-append, append_assoc}
+use native.Mathlib.Nat.{suc-add, add-zero}
+use mathlib.Core.List.{append-nil}
+use Rattle.std.specs.Prelude.{Option, Some, None, Ok, Err, is_ok}
 use borrow.Author.Tests.{ne_eqb}
-use Rattle.le.specs.Le.{part}
+use Rattle.le.specs.Le.{le4}
+use Rattle.le.specs.Le as le
 use Rattle.le.proofs.Inside.{part-whole}
-use Rattle.le.proofs.Laws.{length_part, not-both}
+use Rattle.le.proofs.Laws.{get_d_part, not-both}
+use Rattle.part.specs.Slice.{part}
+use Rattle.part.specs.Outcome.{and_then}
 use Rattle.refusal.specs.Refusal.{limit}
-use Rattle.entry.specs.Entry.{claimAt}
-use Rattle.entry.specs.declared.Met.{Met}
-use Rattle.entry.specs.declared.Met.TheVariants as met
-use Rattle.entry.specs.Tells.{Tells, Entry, End}
-use Rattle.entry.proofs.Whole.{Whole, claim-whole}
-use Rattle.entry.proofs.Claims.{meets, own-whole}
-use Rattle.entry.proofs.Demand3.{tells, tells-end, tells-entry}
-use Rattle.symbol.specs.Symbol.{symbolEntry}
-use Rattle.symbol.specs.declared.AdsSymbolInfo.{AdsSymbolInfo}
-use Rattle.symbol.specs.declared.SymbolAnswer.{SymbolAnswer}
-use Rattle.symbol.specs.declared.SymbolAnswer.TheVariants as answer
-use Rattle.symbol.proofs.Inside.{symbols-inside}
-use Rattle.walk.specs.Walk.{stepIs, entry, symbolStep}
-use Rattle.walk.specs.Told.{Symbol, symbolTold, stepTold}
-use Rattle.walk.proofs.Kind.{kind}
-use Rattle.index.specs.Steps.{byRecord, accepted}
-use Rattle.salvage.specs.Pieces.{pieceEnd}
-use Rattle.salvage.proofs.Laws.{keptFrom, droppedFrom, kept-end, dropped-end, kept_entry, dropped-entry}
+use Rattle.refusal.specs.declared.Refusal.{Refusal}
+use Rattle.entry.specs.Entry.{claim_at}
+use Rattle.entry.specs.Walk.{stands}
+use Rattle.entry.proofs.Claims.{Meets, meets}
+use Rattle.entry.proofs.Direct.{part_long}
+use Rattle.walk.specs.Mapped.{map_ok}
+use Rattle.walk.specs.Step.{step_at}
+use Rattle.walk.specs.Pieces.{piece_at, pieces_from, claim_there}
+use Rattle.walk.proofs.Left.{one_left, none_left}
+use Rattle.regrown.specs.Regrown.{Tells, Entry, End, lying}
+use Rattle.regrown.specs.Tells.{tells}
+use Rattle.regrown.proofs.Whole.{Whole, claim-whole}
+use Rattle.regrown.proofs.Walked.{told_from, tells-end, tells-entry}
+use Rattle.salvage.specs.Salvage.{kept, dropped}
 
--- the bytes of an entry that claims just these and that a mode accepts
-pub record Good (mode : Bool) : Type 0 where
-  pub bytes : List ℕ
-  pub whole : Whole bytes
-  pub info : AdsSymbolInfo
-  pub read : (symbolEntry mode bytes).answer ≡ answer.Record info
-  pub long : info.length ≡ length bytes
+-- the bytes of an entry are those of its claim, where they hold it
+pub own_claim : (s : List ℕ) (at size : ℕ) → 4 ≤ size → le4 (le.part s at size) 0 ≡ le4 s at
+unfolding le4
+own_claim s at size h =
+    simp (get_d_part s at size 0 0 (omega arith), get_d_part s at size 1 0 (omega arith), get_d_part s at size 2 0 (omega arith), get_d_part s at size 3 0 (omega arith), add-zero)
 
-module _ {mode : Bool} (g : Good mode) where
-  abbrev pub size : ℕ
-  size = length g.bytes
+pub back_of : {R S : Type 0} (told : R → S) (t : Result R Refusal) (x : S) → map_ok told t ≡ Ok x → (r : R) × (t ≡ Ok r) × (told r ≡ x)
+back_of told (Ok r) x h = (r, refl, cc)
+back_of told (Err why) x h = cc
 
-  -- what is told of it
-  abbrev pub record_of : Symbol
-  record_of = symbolTold mode g.info (symbolEntry mode g.bytes).guid g.bytes
+module _ {R S : Type 0} (read : Bor (List ℕ) → Result R Refusal) (length_of : R → ℕ) (told : R → S) (header : ℕ) (four : 4 < header)
+    (long : (e : Bor (List ℕ)) (r : R) → read e ≡ Ok r → length_of r ≡ length e.now)
+    (room : (e : Bor (List ℕ)) (r : R) → read e ≡ Ok r → header ≤ length e.now)
+    (alike : (e f : Bor (List ℕ)) → e.now ≡ f.now → map_ok told (read e) ≡ map_ok told (read f)) where
+  -- the bytes of an entry that claims just these and that is accepted wherever it lies
+  pub record Good : Type 0 where
+    pub bytes : List ℕ
+    pub whole : Whole bytes
+    pub tells : S
+    pub reads : (e : Bor (List ℕ)) → e.now ≡ bytes → (r : R) × (read e ≡ Ok r) × (told r ≡ tells)
 
-  pub told-entry : (s : List ℕ) (at : ℕ) → part s at size ≡ g.bytes → stepTold mode s (entry mode g.bytes (at + size)) ≡ Entry record_of size (at + size)
-  told-entry s at p =
-      let n : at + size - size ≡ at = omega arith in
-      simp g.read (simp (g.long, n, p))
+  -- an accepted place of an upload: the claim there, and the record
+  pub record Here (s : Bor (List ℕ)) (at : ℕ) : Type 0 where
+    pub size : ℕ
+    pub back : R
+    pub claim : (claim_at s.now at).size ≡ Some (Ok size)
+    pub is : read (part s at size) ≡ Ok back
 
--- an accepted place of an upload: the entry there, whose bytes are its piece
-pub record Here (mode : Bool) (s : List ℕ) (at : ℕ) : Type 0 where
-  pub good : Good mode
-  pub there : part s at (length good.bytes) ≡ good.bytes
-  pub met : (claimAt s at).met ≡ met.Entry (length good.bytes)
-  pub ends : pieceEnd s at ≡ at + length good.bytes
+  module _ (s : Bor (List ℕ)) (at : ℕ) where
+    module _ (x : Here s at) where
+      pub met : Meets s.now at x.size
+      met = meets s.now at x.size x.claim
 
-accepted-by : (t : SymbolAnswer) → byRecord (stepIs t) (λ info. true) false ≡ true → (info : AdsSymbolInfo) × (t ≡ answer.Record info)
-accepted-by (answer.Record info) h = (info, refl)
-accepted-by (answer.Refused why) h = absurd (not-both h refl)
+      pub own_long : length (part s at x.size).now ≡ x.size
+      own_long = part_long s at x.size met.room
 
--- where a step moves the cursor by a claim that is not 0, its piece is the claim
-piece_is : (s : List ℕ) (at size : ℕ) → 0 < size → (claimAt s at).next ≡ at + size → pieceEnd s at ≡ at + size
-unfolding pieceEnd
-piece_is s at size h e =
-    let t = ne_eqb (claimAt s at).next at (λ (z : (claimAt s at).next ≡ at). omega (arith, e, z)) in
-    simp t e
+      pub large : 4 < x.size
+      large = omega (arith, room (part s at x.size) x.back x.is, own_long)
 
-module _ (mode : Bool) (s : List ℕ) (at : ℕ) (h : accepted mode s at ≡ true) where
-  by-met : (m : Met) → (claimAt s at).met ≡ m → Here mode s at
-  unfolding accepted symbolStep
-  by-met met.Finished e = absurd (not-both h (simp e))
-  by-met (met.Refused why) e = absurd (not-both h (simp e))
-  by-met (met.Entry n) e =
-      let own : List ℕ = part s at n in
-      let m = meets s at n e in
-      let l : length own ≡ n = length_part s at n m.room in
-      let r = accepted-by (symbolEntry mode own).answer (simp e at h) in
-      let i = symbols-inside mode own r.0 r.1 in
-      let long : 30 ≤ n = omega (arith, i.strings, l) in
-      record {
-        good = record { bytes = own; whole = own-whole s at n m (omega arith); info = r.0; read = r.1; long = i.long };
-        there = ap (part s at) l;
-        met = e ∙ ap met.Entry (sym l);
-        ends = piece_is s at n (omega arith) m.next ∙ ap (λ (k : ℕ). at + k) (sym l);
+      pub moves : stands s.now at ≡ false
+      moves = ne_eqb (claim_at s.now at).next at (λ (z : (claim_at s.now at).next ≡ at). omega (arith, met.next, z, large))
+
+      pub told_here : tells length_of told (step_at read s at) ≡ Entry (told x.back) x.size (at + x.size)
+      unfolding step_at
+      told_here =
+          let l : length_of x.back ≡ x.size = long (part s at x.size) x.back x.is ∙ own_long in
+          simp (x.claim, met.next, x.is, l)
+
+      pub piece_here : piece_at read s at ≡ record { start = at; end = at + x.size; answer = Ok x.back }
+      unfolding piece_at
+      piece_here = simp moves (simp (x.claim, met.next, x.is))
+
+      unfoldable pub good_here : Good
+      unfolding le.part
+      good_here = record {
+        bytes = (part s at x.size).now;
+        whole = record { claims = own_claim s.now at x.size (omega (arith, large)) ∙ met.claim ∙ sym own_long; long = omega (arith, large, own_long) };
+        tells = told x.back;
+        reads = λ e h. back_of told (read e) (told x.back) (alike e (part s at x.size) h ∙ ap (map_ok told) x.is);
       }
 
-  pub here : Here mode s at
-  here = by-met (claimAt s at).met refl
+    by_read : (size : ℕ) (t : Result R Refusal) → (claim_at s.now at).size ≡ Some (Ok size) → read (part s at size) ≡ t → is_ok t ≡ true → Here s at
+    by_read size (Ok r) e h k = record { size = size; back = r; claim = e; is = h }
+    by_read size (Err why) e h k = absurd (not-both k refl)
 
--- entries one after another, and what is told of them from a place on
-module _ {mode : Bool} where
-  unfoldable pub joined : List (Good mode) → List ℕ
+    by_claim : (c : Option (Result ℕ Refusal)) → (claim_at s.now at).size ≡ c → is_ok (and_then (claim_there c) (λ size. read (part s at size))) ≡ true → Here s at
+    by_claim None e k = absurd (not-both k refl)
+    by_claim (Some (Err why)) e k = absurd (not-both k refl)
+    by_claim (Some (Ok size)) e k = by_read size (read (part s at size)) e refl k
+
+    by_stand : (b : Bool) → stands s.now at ≡ b → is_ok (piece_at read s at).answer ≡ true → Here s at
+    unfolding piece_at
+    by_stand true e k = absurd (not-both k (simp e))
+    by_stand false e k = by_claim (claim_at s.now at).size refl (simp e at k)
+
+    pub here : is_ok (piece_at read s at).answer ≡ true → Here s at
+    here k = by_stand (stands s.now at) refl k
+
+  -- entries one after another, and what is told of them from a place on
+  unfoldable pub joined : List Good → List ℕ
   joined [] = []
   joined (g ∷ gs) = g.bytes ++ joined gs
 
-  unfoldable pub laid : ℕ → List (Good mode) → List (Tells Symbol)
+  unfoldable pub laid : ℕ → List Good → List (Tells S)
   laid at [] = End at ∷ []
-  laid at (g ∷ gs) = Entry (record_of g) (size g) (at + size g) ∷ laid (at + size g) gs
+  laid at (g ∷ gs) = Entry g.tells (length g.bytes) (at + length g.bytes) ∷ laid (at + length g.bytes) gs
 
-module _ (mode : Bool) where
-  -- the walk over nothing but accepted entries tells their records, and then the end
-  pub walk-laid : (p : List ℕ) (gs : List (Good mode)) → length (p ++ joined gs) ≤ limit → (spare : ℕ) → tells (kind mode) (p ++ joined gs) (length p) (suc (length gs + spare)) ≡ laid (length p) gs
-  unfolding joined laid
-  walk-laid p [] h spare = tells-end (kind mode) (p ++ []) (length p) (zero + spare) (simp append-nil (omega arith))
-  walk-laid p (g ∷ gs) h spare =
-      let ih = simp (append_assoc, length-append) at (walk-laid (p ++ g.bytes) gs (rw append_assoc h) spare) in
-      tells-entry (kind mode) p g.bytes (joined gs) (suc (length gs) + spare) (record_of g) g.whole h (told-entry g) ∙ simp (suc-add, ih)
+  module _ (m : ℕ × ℕ) where
+    -- the walk over nothing but accepted entries tells their records, and then the end
+    pub walk_laid : (p : List ℕ) (gs : List Good) → length (p ++ joined gs) ≤ limit → (spare : ℕ) → told_from read length_of told m (p ++ joined gs) (length p) (suc (length gs + spare)) ≡ laid (length p) gs
+    unfolding joined laid
+    walk_laid p [] h spare = tells-end read length_of told m (p ++ []) (length p) (zero + spare) (simp append-nil (omega arith))
+    walk_laid p (g ∷ gs) h spare =
+        let each : (own : Bor (List ℕ)) (n : ℕ) → own.now ≡ g.bytes → tells length_of told (record { answer = Some (read own); cursor = record { at = n } }) ≡ Entry g.tells (length g.bytes) n =
+        λ own n e. let b = g.reads own e in let l : length_of b.0 ≡ length g.bytes = long own b.0 b.1 ∙ ap length e in simp (b.1, l, b.2) in
+        let ih = simp (append_assoc, length-append) at (walk_laid (p ++ g.bytes) gs (rw append_assoc h) spare) in
+        tells-entry read length_of told m p g.bytes (joined gs) (suc (length gs) + spare) g.tells g.whole h each ∙ simp (suc-add, ih)
 
-  -- a place where an accepted entry stands is accepted, and the entry is its piece
-  module _ (p : List ℕ) (g : Good mode) (q : List ℕ) (h : length (p ++ (g.bytes ++ q)) ≤ limit) where
-    accepted-there : accepted mode (p ++ (g.bytes ++ q)) (length p) ≡ true
-    unfolding accepted symbolStep
-    accepted-there = simp (claim-whole p g.bytes q g.whole h, part-whole p g.bytes q, g.read)
+    -- a place where an accepted entry stands is accepted, and the entry is its piece
+    module _ (p : List ℕ) (g : Good) (q : List ℕ) (h : length (p ++ (g.bytes ++ q)) ≤ limit) where
+      abbrev all : Bor (List ℕ)
+      all = lying m (p ++ (g.bytes ++ q))
 
-    ends_there : length p + size g ≡ pieceEnd (p ++ (g.bytes ++ q)) (length p)
-    ends_there = sym (piece_is (p ++ (g.bytes ++ q)) (length p) (size g) (omega (arith, g.whole.long)) (ap (λ c. c.next) (claim-whole p g.bytes q g.whole h)))
+      own_there : (part all (length p) (length g.bytes)).now ≡ g.bytes
+      unfolding le.part
+      own_there = part-whole p g.bytes q
 
-    before : length p < length (p ++ (g.bytes ++ q))
-    before = simp length-append (omega (arith, g.whole.long))
+      pub there : Here all (length p)
+      there =
+          let b = g.reads (part all (length p) (length g.bytes)) own_there in
+          record { size = length g.bytes; back = b.0; claim = ap (λ c. c.size) (claim-whole p g.bytes q g.whole h); is = b.1 }
 
-    own-there : g.bytes ≡ part (p ++ (g.bytes ++ q)) (length p) (length p + size g - length p)
-    own-there =
-        let n : length p + size g - length p ≡ size g = omega arith in
-        sym (ap (part (p ++ (g.bytes ++ q)) (length p)) n ∙ part-whole p g.bytes q)
+      before : length p < length all.now
+      before = simp length-append (omega (arith, g.whole.long))
 
-    kept_there : keptFrom mode (p ++ (g.bytes ++ q)) (length p) ≡ g.bytes ++ keptFrom mode (p ++ (g.bytes ++ q)) (length p + size g)
-    kept_there = kept_entry mode (p ++ (g.bytes ++ q)) (length p) before (length p + size g) ends_there accepted-there g.bytes own-there
+      -- what is left there is the entry's piece, and what is left behind it
+      pub left_there : pieces_from read all (length p) (length all.now - length p) ≡ record { start = length p; end = length p + length g.bytes; answer = Ok there.back } ∷ pieces_from read all (length p + length g.bytes) (length all.now - (length p + length g.bytes))
+      unfolding there
+      left_there =
+          let e = piece_here all (length p) there in
+          rw e at (one_left read all (length p) before)
 
-    dropped-there : droppedFrom mode (p ++ (g.bytes ++ q)) (length p) ≡ droppedFrom mode (p ++ (g.bytes ++ q)) (length p + size g)
-    dropped-there = dropped-entry mode (p ++ (g.bytes ++ q)) (length p) before (length p + size g) ends_there accepted-there
+      kept_there : kept all.now (pieces_from read all (length p) (length all.now - length p)) ≡ g.bytes ++ kept all.now (pieces_from read all (length p + length g.bytes) (length all.now - (length p + length g.bytes)))
+      unfolding kept
+      kept_there =
+          let n : length p + length g.bytes - length p ≡ length g.bytes = omega arith in
+          rw left_there (simp (n, part-whole p g.bytes q))
 
-  -- a salvage of nothing but accepted entries keeps all of them and drops nothing
-  pub all-kept : (p : List ℕ) (gs : List (Good mode)) → length (p ++ joined gs) ≤ limit → keptFrom mode (p ++ joined gs) (length p) ≡ joined gs
-  unfolding joined
-  all-kept p [] h = kept-end mode (p ++ []) (length p) (simp append-nil (omega arith))
-  all-kept p (g ∷ gs) h =
-      let ih = simp (append_assoc, length-append p g.bytes) at (all-kept (p ++ g.bytes) gs (rw append_assoc h)) in
-      kept_there p g (joined gs) h ∙ ap (λ (l : List ℕ). g.bytes ++ l) ih
+      dropped_there : dropped (pieces_from read all (length p) (length all.now - length p)) ≡ dropped (pieces_from read all (length p + length g.bytes) (length all.now - (length p + length g.bytes)))
+      unfolding dropped
+      dropped_there = rw left_there refl
 
-  pub none_dropped : (p : List ℕ) (gs : List (Good mode)) → length (p ++ joined gs) ≤ limit → droppedFrom mode (p ++ joined gs) (length p) ≡ []
-  unfolding joined
-  none_dropped p [] h = dropped-end mode (p ++ []) (length p) (simp append-nil (omega arith))
-  none_dropped p (g ∷ gs) h =
-      let ih = simp (append_assoc, length-append p g.bytes) at (none_dropped (p ++ g.bytes) gs (rw append_assoc h)) in
-      dropped-there p g (joined gs) h ∙ ih
+    -- a salvage of nothing but accepted entries keeps all of them and drops nothing
+    pub all_kept : (p : List ℕ) (gs : List Good) → length (p ++ joined gs) ≤ limit → kept (p ++ joined gs) (pieces_from read (lying m (p ++ joined gs)) (length p) (length (p ++ joined gs) - length p)) ≡ joined gs
+    unfolding joined kept
+    all_kept p [] h = rw (none_left read (lying m (p ++ [])) (length p) (length (p ++ []) - length p) (simp append-nil (omega arith))) refl
+    all_kept p (g ∷ gs) h =
+        let ih = simp (append_assoc, length-append p g.bytes) at (all_kept (p ++ g.bytes) gs (rw append_assoc h)) in
+        kept_there p g (joined gs) h ∙ ap (λ (l : List ℕ). g.bytes ++ l) ih
+
+    pub none_dropped : (p : List ℕ) (gs : List Good) → length (p ++ joined gs) ≤ limit → dropped (pieces_from read (lying m (p ++ joined gs)) (length p) (length (p ++ joined gs) - length p)) ≡ []
+    unfolding joined dropped
+    none_dropped p [] h = rw (none_left read (lying m (p ++ [])) (length p) (length (p ++ []) - length p) (simp append-nil (omega arith))) refl
+    none_dropped p (g ∷ gs) h =
+        let ih = simp (append_assoc, length-append p g.bytes) at (none_dropped (p ++ g.bytes) gs (rw append_assoc h)) in
+        dropped_there p g (joined gs) h ∙ ih

@@ -1,206 +1,131 @@
--- One turn of a loop over the pieces of an upload, and its end; how a salvage comes to its promise, and that the promise leaves no choice.
-use Rattle.std.specs.Prelude.{if◌then◌else◌}
-use Prim.Native.Nat.{ℕ, ◌+◌, ◌-◌, ◌<◌, ◌≤◌}
-use native.Mathlib.Omega.{arith}
-use mathlib.Core.Path.{◌≡◌, refl, sym, ap, ap₂, ◌∙◌}
-use mathlib.Core.Bool.{Bool, true, false}
-use mathlib.Core.List.{List, [], ◌∷◌, ◌++◌, map}
-use lib.ListN.{length, length-append}
-use borrow.Author.Tests.{le-ltb, lt-ltb, eqb-false}
+-- What the loops of a salvage keep.
+use Rattle.std.proofs.Common.{ℕ, zero, suc, ◌+◌, ◌-◌, ◌*◌, ◌<◌, ◌≤◌, ◌≡◌, refl, sym, ap, subst, ◌∙◌, Bool, true, false, List, [], ◌∷◌, ◌++◌, length, arith, length-append}
+use Rattle.std.specs.Prelude.{leb, All, Ok, Err, if◌then◌else◌}
+use Rattle.std.specs.Prelude.{Result}
+use Rattle.std.specs.Borrow.{Bor}
+use Rattle.std.proofs.lemmas.List.Elements.{All-nil, All-cons, All-head}
+use borrow.Author.Tests.{leb-false}
 use Rattle.le.specs.Le.{part}
 use Rattle.le.specs.Put.{put, Wrote}
-use Rattle.le.proofs.Laws.{whole_length, whole_is, length_part, put_then, put-none}
-use Rattle.refusal.specs.Refusal.{limit}
+use Rattle.le.proofs.Laws.{put_then, put-none, length_part}
+use Rattle.refusal.specs.Refusal.{figures_of}
 use Rattle.refusal.specs.declared.Refusal.{Refusal}
-use Rattle.refusal.specs.declared.Refusal.TheVariants.{TooLarge, OutputTooSmall}
-use Rattle.entry.specs.Entry.{claimAt}
-use Rattle.entry.specs.Walk.{stands}
-use Rattle.entry.proofs.Claims.{moves-on, moves-within}
-use Rattle.index.specs.Steps.{accepted}
-use Rattle.index.proofs.Laws.{rest, whole, rest_end, rest-step}
-use Rattle.salvage.specs.declared.Salvaged.{Salvaged}
-use Rattle.salvage.specs.declared.Salvaged.TheVariants.{Done, Refused}
-use Rattle.salvage.specs.declared.Needed.{Needed}
-use Rattle.salvage.specs.Both.{Writings, Both, Refuse, WritesBoth}
-use Rattle.salvage.specs.Pieces.{Piece, Kept, Dropped, pieceEnd, droppedWith, piece_at, pieces, entriesOf, runsOf}
-use Rattle.salvage.specs.Salvage.{kept, dropped, salvaging, neededBy}
+use Rattle.walk.specs.declared.Piece.{Piece}
+use Rattle.walk.specs.Pieces.{piece_at, pieces_from, pieces}
+use Rattle.walk.proofs.Left.{piece_starts, piece_ends, few_pieces}
+use Rattle.salvage.specs.Salvage.{bytes_of, run_of, kept, dropped}
 
--- a piece before the end takes at least a byte, and ends within the upload; the steps after it begin where it ends
-module _ (s : List ℕ) (at : ℕ) (h : at < length s) where
-  ahead-by : (stand : Bool) → stands s at ≡ stand → at < (if stand then length s else (claimAt s at).next)
-  ahead-by true e = h
-  ahead-by false e = omega (arith, moves-on s at h, eqb-false (claimAt s at).next at e)
+-- a piece goes forward and ends inside the upload
+abbrev pub Forward : {R : Type 0} → List ℕ → Piece R → Type 0
+Forward s p = (p.start ≤ p.end) × (p.end ≤ length s)
 
-  pub piece-ahead : at < pieceEnd s at
-  unfolding pieceEnd
-  piece-ahead = ahead-by (stands s at) refl
+module _ {R : Type 0} (read : Bor (List ℕ) → Result R Refusal) (s : Bor (List ℕ)) where
+  forward_at : (at : ℕ) → at < length s.now → Forward s.now (piece_at read s at)
+  forward_at at h = let e = piece_ends read s at h in (omega (arith, piece_starts read s at, e.0), e.1)
 
-  within_by : (stand : Bool) → (if stand then length s else (claimAt s at).next) ≤ length s
-  within_by true = omega arith
-  within_by false = moves-within s at h
+  pub all_forward : (n at : ℕ) → All (Forward s.now) (pieces_from read s at n)
+  unfolding pieces_from
+  all_forward zero at = All-nil (Forward s.now)
+  all_forward (suc n) at = by (leb (length s.now) at) refl (all_forward n (piece_at read s at).end)
+    where
+      by : (b : Bool) → leb (length s.now) at ≡ b → All (Forward s.now) (pieces_from read s (piece_at read s at).end n) → All (Forward s.now) (if b then [] else piece_at read s at ∷ pieces_from read s (piece_at read s at).end n)
+      by true e h = All-nil (Forward s.now)
+      by false e h = All-cons (Forward s.now) _ _ (forward_at at (leb-false (length s.now) at e)) h
 
-  pub piece-within : pieceEnd s at ≤ length s
-  unfolding pieceEnd
-  piece-within = within_by (stands s at)
+  long_of : (start end : ℕ) (t : Result R Refusal) → start ≤ end → end ≤ length s.now → length (bytes_of s.now start end t) ≤ end - start
+  long_of start end (Ok r) a b = let l = length_part s.now start (end - start) (omega arith) in omega (arith, l)
+  long_of start end (Err why) a b = omega arith
 
-  after-by : (stand : Bool) → (if stand then [] else rest s (claimAt s at).next) ≡ rest s (if stand then length s else (claimAt s at).next)
-  after-by true = sym (rest_end s (length s) (omega arith))
-  after-by false = refl
+  -- what is kept is no longer than what is left
+  kept_few : (n at : ℕ) → length (kept s.now (pieces_from read s at n)) ≤ length s.now - at
+  unfolding pieces_from kept
+  kept_few zero at = omega arith
+  kept_few (suc n) at = by (leb (length s.now) at) refl (kept_few n (piece_at read s at).end)
+    where
+      by : (b : Bool) → leb (length s.now) at ≡ b → length (kept s.now (pieces_from read s (piece_at read s at).end n)) ≤ length s.now - (piece_at read s at).end → length (kept s.now (if b then [] else piece_at read s at ∷ pieces_from read s (piece_at read s at).end n)) ≤ length s.now - at
+      by true e h = omega arith
+      by false e h =
+          let b = leb-false (length s.now) at e in
+          let p = piece_ends read s at b in
+          let f = forward_at at b in
+          let l = long_of (piece_at read s at).start (piece_at read s at).end (piece_at read s at).answer f.0 f.1 in
+          let a = length-append (bytes_of s.now (piece_at read s at).start (piece_at read s at).end (piece_at read s at).answer) (kept s.now (pieces_from read s (piece_at read s at).end n)) in
+          omega (arith, h, p.0, p.1, l, a, piece_starts read s at)
 
-  pub rest-piece : rest s at ≡ at ∷ rest s (pieceEnd s at)
-  unfolding pieceEnd
-  rest-piece = rest-step s at h ∙ ap (λ (l : List ℕ). at ∷ l) (after-by (stands s at))
+  pub kept_fits : length (kept s.now (pieces read s)) ≤ length s.now
+  kept_fits = omega (arith, kept_few (length s.now) 0)
 
--- the pieces from a place on, and what is written of them
-abbrev pub piecesFrom : Bool → List ℕ → ℕ → List Piece
-piecesFrom mode s at = map (piece_at mode s) (rest s at)
+run_few : {R : Type 0} (start end : ℕ) (t : Result R Refusal) → length (run_of start end t) ≤ 3
+run_few start end (Ok r) = omega arith
+run_few start end (Err why) = omega arith
 
-abbrev pub keptFrom : Bool → List ℕ → ℕ → List ℕ
-keptFrom mode s at = entriesOf s (piecesFrom mode s at)
+dropped_few : {R : Type 0} (ps : List (Piece R)) → length (dropped ps) ≤ 3 * length ps
+unfolding dropped
+dropped_few [] = omega arith
+dropped_few (p ∷ ps) = omega (arith, dropped_few ps, run_few p.start p.end p.answer, length-append (run_of p.start p.end p.answer) (dropped ps))
 
-abbrev pub droppedFrom : Bool → List ℕ → ℕ → List ℕ
-droppedFrom mode s at = runsOf (piecesFrom mode s at)
+pub dropped_fits : {R : Type 0} (read : Bor (List ℕ) → Result R Refusal) (s : Bor (List ℕ)) → length (dropped (pieces read s)) ≤ 3 * length s.now
+dropped_fits read s = omega (arith, dropped_few (pieces read s), few_pieces read s (length s.now) 0)
 
-module _ (mode : Bool) (s : List ℕ) where
-  pub pieces_whole : pieces mode s ≡ piecesFrom mode s 0
-  unfolding pieces
-  pieces_whole = ap (map (piece_at mode s)) (whole s)
+-- a buffer into which all goes from place 0 on, of which some bytes are still to come
+pub record Going (old now : List ℕ) (at : ℕ) (rest all : List ℕ) : Type 0 where
+  pub is : put now at rest ≡ put old 0 all
+  pub room : at + length rest ≤ length now
 
-  pub kept_whole : kept mode s ≡ keptFrom mode s 0
-  kept_whole = ap (entriesOf s) pieces_whole
+pub going : (old all : List ℕ) → length all ≤ length old → Going old old 0 all all
+going old all h = record { is = refl; room = omega arith }
 
-  pub dropped-whole : dropped mode s ≡ droppedFrom mode s 0
-  dropped-whole = ap runsOf pieces_whole
+pub goes_on : {old now new rest all : List ℕ} {at next : ℕ} (bs : List ℕ) → Going old now at (bs ++ rest) all → Wrote now at bs new next → Going old new next rest all
+goes_on {old} {now} {new} {rest} {all} {at} {next} bs g w = record {
+  is = ap (λ (x : List ℕ). put x next rest) w.is ∙ put_then now at bs next rest w.end w.room ∙ g.is;
+  room = omega (arith, g.room, length-append bs rest, w.end, w.long);
+}
 
-abbrev neededs : ℕ → ℕ → Needed
-neededs bytes slots = record { bytes = bytes; slots = slots }
+pub gone : {old now all : List ℕ} {at : ℕ} → Going old now at [] all → now ≡ put old 0 all
+gone {old} {now} {all} {at} g = sym (put-none now at) ∙ g.is
 
-module _ (mode : Bool) (s : List ℕ) (at : ℕ) where
-  pub pieces_end : length s ≤ at → piecesFrom mode s at ≡ []
-  pieces_end h = ap (map (piece_at mode s)) (rest_end s at h)
+-- what is left, behind a piece
+module _ {R : Type 0} (s : List ℕ) {left rest : List (Piece R)} {p : Piece R} (turn : left ≡ p ∷ rest) where
+  pub kept_ok : (r : R) → p.answer ≡ Ok r → kept s left ≡ part s p.start (p.end - p.start) ++ kept s rest
+  unfolding kept
+  kept_ok r e = simp turn (simp e)
 
-  pub kept-end : length s ≤ at → keptFrom mode s at ≡ []
-  unfolding entriesOf
-  kept-end h = simp (pieces_end h)
+  pub kept_err : (why : Refusal) → p.answer ≡ Err why → kept s left ≡ kept s rest
+  unfolding kept
+  kept_err why e = simp turn (simp e)
 
-  pub dropped-end : length s ≤ at → droppedFrom mode s at ≡ []
-  unfolding runsOf
-  dropped-end h = simp (pieces_end h)
+  pub dropped_ok : (r : R) → p.answer ≡ Ok r → dropped left ≡ dropped rest
+  unfolding dropped
+  dropped_ok r e = simp turn (simp e)
 
-  -- what was counted is all that is needed
-  pub measured : {count slots : ℕ} → length s ≤ at → count + length (keptFrom mode s at) ≡ length (kept mode s) → slots + length (droppedFrom mode s at) ≡ length (dropped mode s)
-      → neededs count slots ≡ neededBy mode s
-  unfolding neededBy
-  measured {count} {slots} h k d =
-      ap₂ neededs (omega (arith, ap length (kept-end h), k)) (omega (arith, ap length (dropped-end h), d))
+  pub dropped_err : (why : Refusal) → p.answer ≡ Err why → dropped left ≡ (p.start ∷ (p.end - p.start) ∷ (figures_of why).number ∷ []) ++ dropped rest
+  unfolding dropped
+  dropped_err why e = simp turn (simp e)
 
-  -- what was written is all
-  pub all-put : {old new : List ℕ} (count : ℕ) → length s ≤ at → put new count (keptFrom mode s at) ≡ old → new ≡ old
-  all-put {old} {new} count h e = sym (ap (put new count) (kept-end h) ∙ put-none new count) ∙ e
+pub kept_none : {R : Type 0} (s : List ℕ) {left : List (Piece R)} → left ≡ [] → kept s left ≡ []
+unfolding kept
+kept_none s e = simp e
 
-  pub all_listed : {old new : List ℕ} (slots : ℕ) → length s ≤ at → put new slots (droppedFrom mode s at) ≡ old → new ≡ old
-  all_listed {old} {new} slots h e = sym (ap (put new slots) (dropped-end h) ∙ put-none new slots) ∙ e
+pub dropped_none : {R : Type 0} {left : List (Piece R)} → left ≡ [] → dropped left ≡ []
+unfolding dropped
+dropped_none e = simp e
 
-  pub pieces-on : at < length s → piecesFrom mode s at ≡ piece_at mode s at ∷ piecesFrom mode s (pieceEnd s at)
-  pieces-on h = ap (map (piece_at mode s)) (rest-piece s at h)
+pub going_by : {old now xs ys all : List ℕ} {at : ℕ} → xs ≡ ys → Going old now at xs all → Going old now at ys all
+going_by {old} {now} {xs} {ys} {all} {at} e g = subst (λ (x : List ℕ). Going old now at x all) e g
 
--- before the end, where it is known where the piece ends
-module _ (s : List ℕ) (at : ℕ) (h : at < length s) (next : ℕ) (e : next ≡ pieceEnd s at) where
-  pub ahead : at < next
-  ahead = omega (arith, piece-ahead s at h, e)
+-- the same by lengths
+module _ {R : Type 0} (s : List ℕ) {left rest : List (Piece R)} {p : Piece R} (turn : left ≡ p ∷ rest) (n total : ℕ) where
+  pub bytes_ok : n + length (kept s left) ≡ total → All (Forward s) left → (r : R) → p.answer ≡ Ok r → n + (p.end - p.start) + length (kept s rest) ≡ total
+  bytes_ok h f r e =
+      let w : Forward s p = All-head (Forward s) p rest (simp turn at f) in
+      let l : length (part s p.start (p.end - p.start)) ≡ p.end - p.start = length_part s p.start (p.end - p.start) (omega (arith, w.0, w.1)) in
+      omega (arith, h, ap length (kept_ok s turn r e), length-append (part s p.start (p.end - p.start)) (kept s rest), l)
 
-  pub within : next ≤ length s
-  within = omega (arith, piece-within s at h, e)
+  pub bytes_err : n + length (kept s left) ≡ total → (why : Refusal) → p.answer ≡ Err why → n + length (kept s rest) ≡ total
+  bytes_err h why e = omega (arith, h, ap length (kept_err s turn why e))
 
-module _ (mode : Bool) (s : List ℕ) (at : ℕ) (h : at < length s) (next : ℕ) (e : next ≡ pieceEnd s at) where
-  -- an accepted entry
-  module _ (x : accepted mode s at ≡ true) where
-    entry_here : piecesFrom mode s at ≡ Kept at (next - at) ∷ piecesFrom mode s next
-    unfolding piece_at
-    entry_here = pieces-on mode s at h ∙ simp (x, e)
+  pub slots_ok : n + length (dropped left) ≡ total → (r : R) → p.answer ≡ Ok r → n + length (dropped rest) ≡ total
+  slots_ok h r e = omega (arith, h, ap length (dropped_ok s turn r e))
 
-    pub kept_entry : (own : List ℕ) → own ≡ part s at (next - at) → keptFrom mode s at ≡ own ++ keptFrom mode s next
-    unfolding entriesOf
-    kept_entry own o = simp (entry_here, o)
-
-    pub kept-fits : {lent : ℕ} (count : ℕ) (own : List ℕ) → own ≡ part s at (next - at) → count + length (keptFrom mode s at) ≤ lent → count + length own ≤ lent
-    kept-fits count own o h = omega (arith, ap length (kept_entry own o) ∙ length-append own (keptFrom mode s next))
-
-    pub kept-length : length (keptFrom mode s at) ≡ next - at + length (keptFrom mode s next)
-    kept-length =
-        let l : length (part s at (next - at)) ≡ next - at = length_part s at (next - at) (omega (arith, ahead s at h next e, within s at h next e)) in
-        ap length (kept_entry _ refl) ∙ length-append (part s at (next - at)) (keptFrom mode s next) ∙ ap (λ (n : ℕ). n + length (keptFrom mode s next)) l
-
-    pub dropped-entry : droppedFrom mode s at ≡ droppedFrom mode s next
-    unfolding runsOf
-    dropped-entry = simp entry_here
-
-  -- a run
-  module _ (x : accepted mode s at ≡ false) where
-    run-here : piecesFrom mode s at ≡ Dropped at (next - at) (droppedWith mode s at) ∷ piecesFrom mode s next
-    unfolding piece_at
-    run-here = pieces-on mode s at h ∙ simp (x, e)
-
-    pub kept_run : keptFrom mode s at ≡ keptFrom mode s next
-    unfolding entriesOf
-    kept_run = simp run-here
-
-    pub dropped-run : (number : ℕ) → number ≡ droppedWith mode s at → droppedFrom mode s at ≡ (at ∷ (next - at) ∷ number ∷ []) ++ droppedFrom mode s next
-    unfolding runsOf
-    dropped-run number n = simp (run-here, n)
-
-    pub dropped-length : length (droppedFrom mode s at) ≡ 3 + length (droppedFrom mode s next)
-    dropped-length = ap length (dropped-run _ refl) ∙ omega arith
-
--- some of what is to be written was written, and the rest is still to write
-module _ {old new xs all : List ℕ} {at next : ℕ} (more : List ℕ) (w : Wrote old at xs new next) (e : all ≡ xs ++ more) where
-  pub put_on : put new next more ≡ put old at all
-  put_on = ap (λ (l : List ℕ). put l next more) w.is ∙ put_then old at xs next more w.end w.room ∙ ap (put old at) (sym e)
-
-  pub room-on : at + length all ≤ length old → next + length more ≤ length new
-  room-on h = omega (arith, w.end, w.long, ap length e, length-append xs more)
-
--- the promise of a writer into two buffers
-pub refuses : {w : Writings} {why : Refusal} {out runs : List ℕ} → w ≡ Refuse why → WritesBoth w out runs out runs (Refused why)
-refuses e = record { said = simp e; left-bytes = simp e; left-slots = simp e }
-
-module _ {w : Writings} {bs ns out runs : List ℕ} (e : w ≡ Both bs ns) where
-  pub few_bytes : {needed : ℕ} → length bs ≡ needed → length out < needed → WritesBoth w out runs out runs (Refused (OutputTooSmall needed (length out)))
-  few_bytes {needed} l h =
-      let t = lt-ltb (length out) needed h in
-      record { said = simp (e, l, t); left-bytes = simp (e, l, t); left-slots = simp (e, l, t) }
-
-  pub few-slots : {needed : ℕ} → length bs ≤ length out → length ns ≡ needed → length runs < needed → WritesBoth w out runs out runs (Refused (OutputTooSmall needed (length runs)))
-  few-slots {needed} k l h =
-      let t = le-ltb (length out) (length bs) k in
-      let u = lt-ltb (length runs) needed h in
-      record { said = simp (e, l, t, u); left-bytes = simp (e, l, t, u); left-slots = simp (e, l, t, u) }
-
-  pub both-done : {out' runs' : List ℕ} {bytes slots : ℕ} → Wrote out 0 bs out' bytes → Wrote runs 0 ns runs' slots → WritesBoth w out runs out' runs' (Done bytes slots)
-  both-done {out'} {runs'} {bytes} {slots} d f =
-      let t = le-ltb (length out) (length bs) (omega arith) in
-      let u = le-ltb (length runs) (length ns) (omega arith) in
-      let m = whole_length d in
-      let n = whole_length f in
-      record { said = simp (e, t, u) (ap₂ Done (sym m) (sym n)); left-bytes = simp (e, t, u) (whole_is d); left-slots = simp (e, t, u) (whole_is f) }
-
--- two answers, and two pairs of buffers, that one promise allows are equal
-pub one_answer : {w : Writings} {out runs out' runs' out'' runs'' : List ℕ} {r r' : Salvaged} → WritesBoth w out runs out' runs' r → WritesBoth w out runs out'' runs'' r' → (r ≡ r') × ((out' ≡ out'') × (runs' ≡ runs''))
-one_answer p q = (p.said ∙ sym q.said, (p.left-bytes ∙ sym q.left-bytes, p.left-slots ∙ sym q.left-slots))
-
-module _ (mode : Bool) (s : List ℕ) where
-  pub salvage-large : limit < length s → salvaging mode s ≡ Refuse (TooLarge (length s))
-  unfolding salvaging
-  salvage-large h = simp (lt-ltb limit (length s) h)
-
-  pub salvage-both : length s ≤ limit → salvaging mode s ≡ Both (kept mode s) (dropped mode s)
-  unfolding salvaging
-  salvage-both h = simp (le-ltb limit (length s) h)
-
-  pub needed-bytes : {n : Needed} → n ≡ neededBy mode s → length (kept mode s) ≡ n.bytes
-  unfolding neededBy
-  needed-bytes e = sym (ap (λ (k : Needed). k.bytes) e)
-
-  pub needed-slots : {n : Needed} → n ≡ neededBy mode s → length (dropped mode s) ≡ n.slots
-  unfolding neededBy
-  needed-slots e = sym (ap (λ (k : Needed). k.slots) e)
+  pub slots_err : n + length (dropped left) ≡ total → (why : Refusal) → p.answer ≡ Err why → n + 3 + length (dropped rest) ≡ total
+  slots_err h why e = omega (arith, h, ap length (dropped_err s turn why e))

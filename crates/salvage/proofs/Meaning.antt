@@ -1,210 +1,284 @@
 -- What a salvage means: its pieces cover the upload, and what it keeps is nothing but accepted entries.
-use Rattle.std.specs.Prelude.{if◌then◌else◌}
-use Prim.Native.Nat.{ℕ, zero, suc, ◌+◌, ◌-◌, ◌*◌, ◌<◌, ◌≤◌}
-use native.Mathlib.Omega.{arith}
-use mathlib.Core.Path.{◌≡◌, refl, sym, ap, ap₂, subst, ◌∙◌}
-use mathlib.Core.Bool.{Bool, true, false}
-use mathlib.Core.List.{List, [], ◌∷◌, ◌++◌, map}
-use lib.Dec.{ltb, leb}
-use lib.ListN.{length, take, drop, length-append, length-take, drop_of_length-le}
+use Rattle.std.proofs.Common.{ℕ, zero, suc, ◌+◌, ◌-◌, ◌*◌, ◌<◌, ◌≤◌, ◌≡◌, refl, sym, ap, subst, ◌∙◌, Bool, true, false, List, [], ◌∷◌, ◌++◌, length, take, drop, arith, Bor, Result, length-append}
+use mathlib.Core.Path.{ap₂}
+use mathlib.Core.List.{map}
+use Rattle.std.proofs.lemmas.List.{length-map}
+use lib.ListN.{length-take, drop_of_length-le}
 use lib.Seq.{take_at, drop_at}
+use Rattle.std.specs.Prelude.{Some, Ok, Err, is_ok, leb, ltb, if◌then◌else◌}
 use borrow.Author.Tests.{leb-true, leb-false, ltb-false, le-ltb, eqb-true}
-use Rattle.le.specs.Le.{part}
+use Rattle.le.specs.Le.{le4}
+use Rattle.le.specs.Le as le
 use Rattle.le.proofs.Laws.{not-both, drop-part}
-use Rattle.refusal.specs.Refusal.{limit, figuresOf}
+use Rattle.part.specs.Slice.{part}
+use Rattle.refusal.specs.Refusal.{limit, figures_of}
 use Rattle.refusal.specs.declared.Refusal.{Refusal}
-use Rattle.entry.specs.Tells.{Tells, Entry, Refused}
-use Rattle.entry.specs.Entry.{claimAt}
+use Rattle.refusal.specs.declared.Refusal.TheVariants.{TooShort, EntryLengthMismatch, ZeroEntryLength}
+use Rattle.entry.specs.declared.Claimed.{Claimed}
+use Rattle.entry.specs.Entry.{claim_at}
 use Rattle.entry.specs.Walk.{stands, steps}
-use Rattle.entry.proofs.Demand3.{moves}
-use Rattle.walk.proofs.Kind.{kind}
-use Rattle.entry.proofs.Claims.{meets}
-use Rattle.walk.specs.Walk.{symbolStep}
-use Rattle.walk.specs.Walk as walking
-use Rattle.walk.specs.declared.Step.{Step}
-use Rattle.walk.specs.declared.Step.TheVariants as step
-use Rattle.walk.specs.Told.{Symbol, stepTold}
-use Rattle.index.specs.Steps.{accepted, those}
+use Rattle.entry.proofs.Claims.{Claims, claims, ended, large, short, beyond, entry}
+use Rattle.walk.specs.Mapped.{map_ok}
+use Rattle.walk.specs.declared.Piece.{Piece}
+use Rattle.walk.specs.Step.{step_at}
+use Rattle.walk.specs.Pieces.{piece_at, pieces_from, pieces}
+use Rattle.walk.proofs.Left.{one_left, none_left, piece_ends}
+use Rattle.walk.proofs.Theorems.{pieces_are}
 use Rattle.index.specs.Index.{starts}
+use Rattle.regrown.specs.Regrown.{Tells, Entry, Refused, lying}
 use Rattle.salvage.specs.declared.Salvaged.{Salvaged}
-use Rattle.salvage.specs.declared.Salvaged.TheVariants as salvaged
-use Rattle.salvage.specs.Both.{Writings, Both, Refuse, WritesBoth}
-use Rattle.salvage.specs.Pieces.{Piece, Kept, Dropped, pieceEnd, refusedWith, droppedWith, piece_at, pieces, entriesOf, runsOf}
-use Rattle.salvage.specs.Salvage.{kept, dropped, salvaging}
-use Rattle.salvage.specs.Meaning.{toldAt, Cover, done, entry, run, zero-claim, relaid, Salvages, SalvageMeant}
-use Rattle.salvage.proofs.Laws.{piece-ahead, piece-within, piecesFrom, pieces_whole, pieces_end, pieces-on, kept_whole, dropped-whole, salvage-both}
-use Rattle.salvage.proofs.Reasons.{Stopped, stopped}
-use Rattle.salvage.proofs.Entries.{Good, size, record_of, told-entry, Here, here, joined, laid, walk-laid, all-kept, none_dropped}
+use Rattle.salvage.specs.Both.{Writings, wrote, WritesBoth}
+use Rattle.salvage.specs.Salvage.{run_of, kept, dropped, salvaging}
+use Rattle.salvage.specs.Meaning as meaning
+use Rattle.salvage.specs.Meaning.{relaid, told_at, Cover, Salvages, Wrote, Meant, SalvageMeant}
+use Rattle.salvage.proofs.Promise.{salvage_both}
+use Rattle.salvage.proofs.Entries as entries
 
 -- induction over the pieces of an upload, from the last one on
-module _ (mode : Bool) (s : List ℕ) (P : ℕ → List Piece → Type 0) (end : P (length s) []) (turn : (at : ℕ) (more : List Piece) → at < length s → P (pieceEnd s at) more → P at (piece_at mode s at ∷ more)) where
-  at-end : (at : ℕ) → at ≤ length s → length s ≤ at → P at (piecesFrom mode s at)
-  at-end at h k = subst (P at) (sym (pieces_end mode s at k)) (let e : length s ≡ at = omega arith in subst (λ (n : ℕ). P n []) e end)
+module _ {R : Type 0} (read : Bor (List ℕ) → Result R Refusal) (s : Bor (List ℕ)) (P : ℕ → List (Piece R) → Type 0) (end : P (length s.now) [])
+    (turn : (at : ℕ) (more : List (Piece R)) → at < length s.now → P (piece_at read s at).end more → P at (piece_at read s at ∷ more)) where
+  abbrev left : ℕ → List (Piece R)
+  left at = pieces_from read s at (length s.now - at)
 
-  by_end : (at left : ℕ) → at ≤ length s → length s - at ≤ suc left → ((next : ℕ) → next ≤ length s → length s - next ≤ left → P next (piecesFrom mode s next)) → (b : Bool) → leb (length s) at ≡ b → P at (piecesFrom mode s at)
-  by_end at left h k on true e = at-end at h (leb-true (length s) at e)
-  by_end at left h k on false e =
-      let l : at < length s = leb-false (length s) at e in
-      subst (P at) (sym (pieces-on mode s at l)) (turn at (piecesFrom mode s (pieceEnd s at)) l (on (pieceEnd s at) (piece-within s at l) (omega (arith, piece-ahead s at l))))
+  at_end : (at : ℕ) → at ≤ length s.now → length s.now ≤ at → P at (left at)
+  at_end at h k =
+      let e : length s.now ≡ at = omega arith in
+      subst (P at) (sym (none_left read s at (length s.now - at) k)) (subst (λ (n : ℕ). P n []) e end)
 
-  from : (left at : ℕ) → at ≤ length s → length s - at ≤ left → P at (piecesFrom mode s at)
-  from zero at h k = at-end at h (omega arith)
-  from (suc left) at h k = by_end at left h k (from left) (leb (length s) at) refl
+  by_end : (at n : ℕ) → at ≤ length s.now → length s.now - at ≤ suc n → ((next : ℕ) → next ≤ length s.now → length s.now - next ≤ n → P next (left next)) → (b : Bool) → leb (length s.now) at ≡ b → P at (left at)
+  by_end at n h k on true e = at_end at h (leb-true (length s.now) at e)
+  by_end at n h k on false e =
+      let l : at < length s.now = leb-false (length s.now) at e in
+      let w = piece_ends read s at l in
+      subst (P at) (sym (one_left read s at l)) (turn at (left (piece_at read s at).end) l (on (piece_at read s at).end w.1 (omega (arith, w.0))))
 
-  pub pieces-all : P 0 (pieces mode s)
-  pieces-all = subst (P 0) (sym (pieces_whole mode s)) (from (length s) 0 (omega arith) (omega arith))
+  from : (n at : ℕ) → at ≤ length s.now → length s.now - at ≤ n → P at (left at)
+  from zero at h k = at_end at h (omega arith)
+  from (suc n) at h k = by_end at n h k (from n) (leb (length s.now) at) refl
 
--- where the entries among some pieces begin
-unfoldable startsOf : List Piece → List ℕ
-startsOf [] = []
-startsOf (Kept at long ∷ more) = at ∷ startsOf more
-startsOf (Dropped at long number ∷ more) = startsOf more
+  pub pieces_all : P 0 (pieces read s)
+  pieces_all = let n : length s.now - 0 ≡ length s.now = omega arith in subst (λ (n : ℕ). P 0 (pieces_from read s 0 n)) n (from (length s.now) 0 (omega arith) (omega arith))
 
-starts-all : (mode : Bool) (s l : List ℕ) → startsOf (map (piece_at mode s) l) ≡ those (accepted mode s) l
-unfolding startsOf those piece_at
-starts-all mode s [] = refl
-starts-all mode s (at ∷ l) = turn (starts-all mode s l) (accepted mode s at)
-  where
-    turn : startsOf (map (piece_at mode s) l) ≡ those (accepted mode s) l → (x : Bool)
-        → startsOf ((if x then Kept at (pieceEnd s at - at) else Dropped at (pieceEnd s at - at) (droppedWith mode s at)) ∷ map (piece_at mode s) l) ≡ (if x then at ∷ those (accepted mode s) l else those (accepted mode s) l)
-    turn h true = ap (λ (m : List ℕ). at ∷ m) h
-    turn h false = h
+module _ {R S : Type 0} (read : Bor (List ℕ) → Result R Refusal) (length_of : R → ℕ) (told : R → S) (header : ℕ) (four : 4 < header)
+    (long : (e : Bor (List ℕ)) (r : R) → read e ≡ Ok r → length_of r ≡ length e.now)
+    (room : (e : Bor (List ℕ)) (r : R) → read e ≡ Ok r → header ≤ length e.now)
+    (alike : (e f : Bor (List ℕ)) → e.now ≡ f.now → map_ok told (read e) ≡ map_ok told (read f))
+    (Reason : ℕ → Type 0) (two : Reason 2) (three : Reason 3)
+    (own : (e : Bor (List ℕ)) (why : Refusal) → read e ≡ Err why → Reason (figures_of why).number) where
+  abbrev Good : Type 0
+  Good = entries.Good read length_of told header four long room alike
 
--- what a step tells: the record of the entry there, or its refusal
-module _ (mode : Bool) (s : List ℕ) (at : ℕ) where
-  told_here : (x : Here mode s at) → toldAt mode s at ≡ Entry (record_of x.good) (size x.good) (at + size x.good)
-  unfolding symbolStep
-  told_here x =
-      let m = meets s at (size x.good) x.met in
-      let t : symbolStep mode s at ≡ walking.entry mode x.good.bytes (at + size x.good) = simp (x.met, m.next, x.there) in
-      ap (stepTold mode s) t ∙ told-entry x.good s at x.there
+  abbrev Here : Bor (List ℕ) → ℕ → Type 0
+  Here = entries.Here read length_of told header four long room alike
 
-  told-stopped : (x : Stopped mode s at) (next : ℕ) → (claimAt s at).next ≡ next → toldAt mode s at ≡ Refused (figuresOf x.why) next
-  told-stopped x next e = simp x.step (ap (Refused (figuresOf x.why)) (moves (kind mode) s at ∙ e))
+  abbrev tell : Bor (List ℕ) → ℕ → Tells S
+  tell = told_at read length_of told Reason
 
--- the pieces cover the upload
-module _ (mode : Bool) (s : List ℕ) (small : length s ≤ limit) where
-  abbrev From : ℕ → List Piece → Type 0
-  From at ps = Cover mode s at (startsOf ps) (entriesOf s ps) (runsOf ps)
+  module _ (s : Bor (List ℕ)) (at : ℕ) where
+    -- what is known of a step within the limit that gives no record
+    record Stopped : Type 0 where
+      why : Refusal
+      said : tell s at ≡ Refused (figures_of why) (claim_at s.now at).next
+      piece : stands s.now at ≡ false → (piece_at read s at).answer ≡ Err why
+      reason : Reason (figures_of why).number
 
-  module _ (at : ℕ) (h : at < length s) where
-    cover-entry : (more new runs : List ℕ) → accepted mode s at ≡ true → Cover mode s (pieceEnd s at) more new runs → Cover mode s at (at ∷ more) (part s at (pieceEnd s at - at) ++ new) runs
-    cover-entry more new runs ok c =
-        let x = here mode s at ok in
-        let n : size x.good ≡ pieceEnd s at - at = omega (arith, x.ends) in
-        let k : Cover mode s (at + size x.good) more new runs = subst (λ (m : ℕ). Cover mode s m more new runs) x.ends c in
-        subst (λ (m : ℕ). Cover mode s at (at ∷ more) (part s at m ++ new) runs) n (entry (omega (arith, x.good.whole.long)) (told_here mode s at x) k)
+    -- an entry's own bytes
+    by_own : (n : ℕ) (t : Result R Refusal) → (claim_at s.now at).size ≡ Some (Ok n) → (claim_at s.now at).next ≡ at + n → read (part s at n) ≡ t → (b : Bool) → stands s.now at ≡ b → is_ok (piece_at read s at).answer ≡ false → Stopped
+    unfolding step_at piece_at le.part
+    by_own n (Err why) e f h b k off = record {
+      why = why;
+      said = simp (e, h);
+      piece = λ z. simp z (simp (e, h));
+      reason = own (part s at n) why h;
+    }
+    by_own n (Ok r) e f h false k off = absurd (not-both (simp k (simp (e, h))) off)
+    by_own n (Ok r) e f h true k off =
+        let z : n ≡ 0 = omega (arith, f, eqb-true (claim_at s.now at).next at k) in
+        let l : length (part s at n).now ≤ n = omega (arith, length-take n (drop at s.now)) in
+        absurd (omega (arith, room (part s at n) r h, l, z, four))
 
-    module _ (x : Stopped mode s at) where
-      abbrev endBy : Bool → ℕ
-      endBy stand = if stand then length s else (claimAt s at).next
+    by_claims : (c : Claimed) → claim_at s.now at ≡ c → Claims s.now at c → at < length s.now → length s.now ≤ limit → is_ok (piece_at read s at).answer ≡ false → Stopped
+    unfolding step_at piece_at
+    by_claims c e (ended a) h small off = absurd (omega arith)
+    by_claims c e (large a b) h small off = absurd (omega arith)
+    by_claims c e (short a b d) h small off = record { why = TooShort (at + 4) (length s.now); said = simp e; piece = λ z. simp z (simp e); reason = two }
+    by_claims c e (beyond a b d g) h small off = record { why = EntryLengthMismatch (le4 s.now at) (length s.now - at); said = simp e; piece = λ z. simp z (simp e); reason = three }
+    by_claims c e (entry a b d g) h small off = by_own (le4 s.now at) (read (part s at (le4 s.now at))) (ap (λ (x : Claimed). x.size) e) (ap (λ (x : Claimed). x.next) e) refl (stands s.now at) refl off
 
-      on-by : (end : ℕ) (more new runs : List ℕ) → at < end → Cover mode s end more new runs → Cover mode s (at + (end - at)) more new runs
-      on-by end more new runs l c = let e : end ≡ at + (end - at) = omega arith in subst (λ (n : ℕ). Cover mode s n more new runs) e c
+    stopped : at < length s.now → length s.now ≤ limit → is_ok (piece_at read s at).answer ≡ false → Stopped
+    stopped = by_claims (claim_at s.now at) refl (claims s.now at)
 
-      run_by : (more new runs : List ℕ) (stand : Bool) → stands s at ≡ stand → at < endBy stand → Cover mode s (endBy stand) more new runs
-          → Cover mode s at more new (at ∷ (endBy stand - at) ∷ (if stand then 10 else refusedWith (symbolStep mode s at).step) ∷ runs)
-      run_by more new runs true e l c = zero-claim {long = length s - at} (omega arith) (told-stopped mode s at x at (eqb-true (claimAt s at).next at e)) (omega arith) (on-by (length s) more new runs l c)
-      run_by more new runs false e l c =
-          let m : at + ((claimAt s at).next - at) ≡ (claimAt s at).next = omega arith in
-          let n : refusedWith (symbolStep mode s at).step ≡ (figuresOf x.why).number = simp x.step in
-          subst (λ (k : ℕ). Cover mode s at more new (at ∷ ((claimAt s at).next - at) ∷ k ∷ runs)) (sym n) (run {long = (claimAt s at).next - at} (omega arith) (told-stopped mode s at x _ (sym m)) x.reason (on-by (claimAt s at).next more new runs l c))
+    -- a step that gives no record tells none, wherever it is
+    passed_own : (p n : ℕ) (more : List (Tells S)) (t : Result R Refusal) → (claim_at s.now at).size ≡ Some (Ok n) → (claim_at s.now at).next ≡ at + n → read (part s at n) ≡ t → (b : Bool) → stands s.now at ≡ b → is_ok (piece_at read s at).answer ≡ false → relaid p (tell s at ∷ more) ≡ relaid p more
+    unfolding step_at piece_at relaid
+    passed_own p n more (Err why) e f h b k off = simp (e, h)
+    passed_own p n more (Ok r) e f h false k off = absurd (not-both (simp k (simp (e, h))) off)
+    passed_own p n more (Ok r) e f h true k off =
+        let z : n ≡ 0 = omega (arith, f, eqb-true (claim_at s.now at).next at k) in
+        let l : length (part s at n).now ≤ n = omega (arith, length-take n (drop at s.now)) in
+        absurd (omega (arith, room (part s at n) r h, l, z, four))
 
-      cover-run : (more new runs : List ℕ) → Cover mode s (pieceEnd s at) more new runs → Cover mode s at more new (at ∷ (pieceEnd s at - at) ∷ droppedWith mode s at ∷ runs)
-      unfolding pieceEnd droppedWith
-      cover-run more new runs c = run_by more new runs (stands s at) refl (piece-ahead s at h) c
+    passed_by : (p : ℕ) (more : List (Tells S)) (c : Claimed) → claim_at s.now at ≡ c → Claims s.now at c → is_ok (piece_at read s at).answer ≡ false → relaid p (tell s at ∷ more) ≡ relaid p more
+    unfolding step_at relaid
+    passed_by p more c e (ended a) off = simp e
+    passed_by p more c e (large a b) off = simp e
+    passed_by p more c e (short a b d) off = simp e
+    passed_by p more c e (beyond a b d g) off = simp e
+    passed_by p more c e (entry a b d g) off = passed_own p (le4 s.now at) more (read (part s at (le4 s.now at))) (ap (λ (x : Claimed). x.size) e) (ap (λ (x : Claimed). x.next) e) refl (stands s.now at) refl off
 
-    cover-piece : (ps : List Piece) → From (pieceEnd s at) ps → (x : Bool) → accepted mode s at ≡ x → From at ((if x then Kept at (pieceEnd s at - at) else Dropped at (pieceEnd s at - at) (droppedWith mode s at)) ∷ ps)
-    unfolding startsOf entriesOf runsOf
-    cover-piece ps c true e = cover-entry (startsOf ps) (entriesOf s ps) (runsOf ps) e c
-    cover-piece ps c false e = cover-run (stopped mode s at small h e) (startsOf ps) (entriesOf s ps) (runsOf ps) c
+    passed_over : (p : ℕ) (more : List (Tells S)) → is_ok (piece_at read s at).answer ≡ false → relaid p (tell s at ∷ more) ≡ relaid p more
+    passed_over p more off = passed_by p more (claim_at s.now at) refl (claims s.now at) off
 
-  covers : Cover mode s 0 (starts mode s) (kept mode s) (dropped mode s)
-  unfolding piece_at startsOf entriesOf runsOf starts pieces
-  covers = subst (λ (l : List ℕ). Cover mode s 0 l (kept mode s) (dropped mode s)) (starts-all mode s (steps s)) (pieces-all mode s From done (λ at more h on. cover-piece at h more on (accepted mode s at) refl))
+  -- the pieces cover the upload
+  module _ (s : Bor (List ℕ)) (small : length s.now ≤ limit) where
+    abbrev C : ℕ → List ℕ → List ℕ → List ℕ → Type 0
+    C = Cover read length_of told Reason s
 
--- so what is kept is no longer than the upload
-part-short : (s : List ℕ) (at n : ℕ) → length (part s at n) ≤ n
-unfolding part
-part-short s at n = omega (arith, length-take n (drop at s))
+    abbrev From : ℕ → List (Piece R) → Type 0
+    From at ps = C at (starts ps) (kept s.now ps) (dropped ps)
 
-cover-long : {mode : Bool} (s : List ℕ) {at : ℕ} {more new runs : List ℕ} → Cover mode s at more new runs → at + length new ≤ length s
-cover-long s done = omega arith
-cover-long s (entry {at = at} {long = long} {new = new} h t c) =
-    let l = length-append (part s at long) new in
-    omega (arith, cover-long s c, part-short s at long, l)
-cover-long s (run h t r c) = omega (arith, cover-long s c)
-cover-long s (zero-claim h t e c) = omega (arith, cover-long s c)
+    module _ (at : ℕ) (h : at < length s.now) where
+      on_by : (end : ℕ) (more new runs : List ℕ) → at < end → C end more new runs → C (at + (end - at)) more new runs
+      on_by end more new runs l c = let e : end ≡ at + (end - at) = omega arith in subst (λ (n : ℕ). C n more new runs) e c
 
--- and where nothing was dropped, it is the upload
+      cover_entry : (ps : List (Piece R)) (x : Here s at) → From (at + x.size) ps → From at (record { start = at; end = at + x.size; answer = Ok x.back } ∷ ps)
+      unfolding starts kept dropped
+      cover_entry ps x c =
+          let n : x.size ≡ at + x.size - at = omega arith in
+          let l = entries.large read length_of told header four long room alike s at x in
+          subst (λ (m : ℕ). C at (at ∷ starts ps) (le.part s.now at m ++ kept s.now ps) (dropped ps)) n
+          (meaning.entry (omega (arith, l)) (entries.told_here read length_of told header four long room alike s at x) c)
+
+      cover_run : (ps : List (Piece R)) (x : Stopped s at) → at < (claim_at s.now at).next → From (claim_at s.now at).next ps → From at (record { start = at; end = (claim_at s.now at).next; answer = Err x.why } ∷ ps)
+      unfolding starts kept dropped
+      cover_run ps x l c =
+          let m : at + ((claim_at s.now at).next - at) ≡ (claim_at s.now at).next = omega arith in
+          meaning.run {long = (claim_at s.now at).next - at} (omega arith) (x.said ∙ ap (Refused (figures_of x.why)) (sym m)) x.reason (on_by (claim_at s.now at).next (starts ps) (kept s.now ps) (dropped ps) l c)
+
+      cover_zero : (ps : List (Piece R)) (x : Stopped s at) → (claim_at s.now at).next ≡ at → From (length s.now) ps → From at (record { start = at; end = length s.now; answer = Err ZeroEntryLength } ∷ ps)
+      unfolding starts kept dropped
+      cover_zero ps x e c =
+          meaning.zero_claim {long = length s.now - at} (omega arith) (x.said ∙ ap (Refused (figures_of x.why)) e) (omega arith) (on_by (length s.now) (starts ps) (kept s.now ps) (dropped ps) h c)
+
+      cover_stopped : (ps : List (Piece R)) (x : Stopped s at) → From (piece_at read s at).end ps → (b : Bool) → stands s.now at ≡ b → From at (piece_at read s at ∷ ps)
+      unfolding piece_at
+      cover_stopped ps x c true e = simp e (cover_zero ps x (eqb-true (claim_at s.now at).next at e) (simp e at c))
+      cover_stopped ps x c false e =
+          let w = piece_ends read s at h in
+          let n : (piece_at read s at).end ≡ (claim_at s.now at).next = simp e in
+          let a : (piece_at read s at).answer ≡ Err x.why = x.piece e in
+          let is : piece_at read s at ≡ record { start = at; end = (claim_at s.now at).next; answer = Err x.why } = same (piece_at read s at) (simp e) n a in
+          subst (λ p. From at (p ∷ ps)) (sym is) (cover_run ps x (omega (arith, w.0, n)) (subst (λ (k : ℕ). From k ps) n c))
+        where
+          same : (p : Piece R) {a b : ℕ} {t : Result R Refusal} → p.start ≡ a → p.end ≡ b → p.answer ≡ t → p ≡ record { start = a; end = b; answer = t }
+          same p {a} {b} {t} e f g =
+              let q : Piece R = record { start = p.start; end = p.end; answer = p.answer } in
+              let is : q ≡ record { start = a; end = b; answer = t } = simp (e, f, g) in
+              is
+
+      cover_piece : (ps : List (Piece R)) → From (piece_at read s at).end ps → (b : Bool) → is_ok (piece_at read s at).answer ≡ b → From at (piece_at read s at ∷ ps)
+      cover_piece ps c true k =
+          let x = entries.here read length_of told header four long room alike s at k in
+          let is = entries.piece_here read length_of told header four long room alike s at x in
+          subst (λ p. From at (p ∷ ps)) (sym is) (cover_entry ps x (subst (λ (n : ℕ). From n ps) (ap (λ p. p.end) is) c))
+      cover_piece ps c false k = cover_stopped ps (stopped s at h small k) c (stands s.now at) refl
+
+    covers : C 0 (starts (pieces read s)) (kept s.now (pieces read s)) (dropped (pieces read s))
+    unfolding starts kept dropped
+    covers = pieces_all read s From meaning.done (λ at more h c. cover_piece at h more c (is_ok (piece_at read s at).answer) refl)
+
+  -- what is kept of the pieces that begin at these places: accepted entries one after another
+  record KeptOf (s : Bor (List ℕ)) (l : List ℕ) : Type 0 where
+    goods : List Good
+    bytes : kept s.now (map (piece_at read s) l) ≡ entries.joined read length_of told header four long room alike goods
+    says : (at : ℕ) → relaid at (map (tell s) l) ≡ entries.laid read length_of told header four long room alike at goods
+    number : length (starts (map (piece_at read s) l)) ≡ length goods
+
+  module _ (s : Bor (List ℕ)) where
+    starts_on : (at : ℕ) (l : List ℕ) (b : Bool) → is_ok (piece_at read s at).answer ≡ b → length (starts (piece_at read s at ∷ map (piece_at read s) l)) ≡ (if b then suc (length (starts (map (piece_at read s) l))) else length (starts (map (piece_at read s) l)))
+    unfolding starts
+    starts_on at l true k = simp k
+    starts_on at l false k = simp k
+
+    kept_on : (at : ℕ) (l : List ℕ) (x : Here s at) → kept s.now (piece_at read s at ∷ map (piece_at read s) l) ≡ (part s at x.size).now ++ kept s.now (map (piece_at read s) l)
+    unfolding kept le.part
+    kept_on at l x =
+        let is = entries.piece_here read length_of told header four long room alike s at x in
+        let n : at + x.size - at ≡ x.size = omega arith in
+        rw is (simp n)
+
+    kept_off : (at : ℕ) (l : List ℕ) (t : Result R Refusal) → (piece_at read s at).answer ≡ t → is_ok t ≡ false → kept s.now (piece_at read s at ∷ map (piece_at read s) l) ≡ kept s.now (map (piece_at read s) l)
+    unfolding kept
+    kept_off at l (Ok r) e k = absurd (not-both refl k)
+    kept_off at l (Err why) e k = simp e
+
+    says_on : (at p : ℕ) (more : List (Tells S)) (x : Here s at) → relaid p (tell s at ∷ more) ≡ Entry (told x.back) x.size (p + x.size) ∷ relaid (p + x.size) more
+    unfolding relaid
+    says_on at p more x = simp (entries.told_here read length_of told header four long room alike s at x)
+
+    kept_turn : (at : ℕ) (l : List ℕ) → KeptOf s l → (b : Bool) → is_ok (piece_at read s at).answer ≡ b → KeptOf s (at ∷ l)
+    unfolding entries.joined entries.laid entries.good_here
+    kept_turn at l k true e =
+        let x = entries.here read length_of told header four long room alike s at e in
+        let n : length (part s at x.size).now ≡ x.size = entries.own_long read length_of told header four long room alike s at x in
+        record {
+          goods = entries.good_here read length_of told header four long room alike s at x ∷ k.goods;
+          bytes = kept_on at l x ∙ ap (λ (r : List ℕ). (part s at x.size).now ++ r) k.bytes;
+          says = λ a. says_on at a (map (tell s) l) x ∙ simp (n, k.says);
+          number = starts_on at l true e ∙ ap suc k.number;
+        }
+    kept_turn at l k false e =
+        record {
+          goods = k.goods;
+          bytes = kept_off at l (piece_at read s at).answer refl e ∙ k.bytes;
+          says = λ a. passed_over s at a (map (tell s) l) e ∙ k.says a;
+          number = starts_on at l false e ∙ k.number;
+        }
+
+    kept_of : (l : List ℕ) → KeptOf s l
+    unfolding kept starts entries.joined entries.laid relaid
+    kept_of [] = record { goods = []; bytes = refl; says = λ at. refl; number = refl }
+    kept_of (at ∷ l) = kept_turn at l (kept_of l) (is_ok (piece_at read s at).answer) refl
+
+-- what is kept is no longer than the upload
+part_short : (s : List ℕ) (at n : ℕ) → length (le.part s at n) ≤ n
+unfolding le.part
+part_short s at n = omega (arith, length-take n (drop at s))
+
 no_run : (a : ℕ) (l : List ℕ) → a ∷ l ≡ [] → ⊥
 no_run a l e = let z : suc (length l) ≡ 0 = ap length e in omega arith
 
-cover_all : {mode : Bool} (s : List ℕ) {at : ℕ} {more new runs : List ℕ} → Cover mode s at more new runs → runs ≡ [] → new ≡ drop at s
-cover_all s done e = sym (drop_of_length-le s {i = length s} (omega arith))
-cover_all s (entry {at = at} {long = long} h t c) e = ap (λ (l : List ℕ). part s at long ++ l) (cover_all s c e) ∙ sym (drop-part s at long)
-cover_all s (run h t r c) e = absurd (no_run _ _ e)
-cover_all s (zero-claim h t x c) e = absurd (no_run _ _ e)
+module _ {R S : Type 0} (read : Bor (List ℕ) → Result R Refusal) (length_of : R → ℕ) (told : R → S) (Reason : ℕ → Type 0) (s : Bor (List ℕ)) where
+  cover_long : {at : ℕ} {more new runs : List ℕ} → Cover read length_of told Reason s at more new runs → at + length new ≤ length s.now
+  cover_long meaning.done = omega arith
+  cover_long (meaning.entry {at = at} {long = long} {new = new} h t c) =
+      let l = length-append (le.part s.now at long) new in
+      omega (arith, cover_long c, part_short s.now at long, l)
+  cover_long (meaning.run h t r c) = omega (arith, cover_long c)
+  cover_long (meaning.zero_claim h t e c) = omega (arith, cover_long c)
 
--- no more slots than three for each step
-runs-few : (mode : Bool) (s l : List ℕ) → length (runsOf (map (piece_at mode s) l)) ≤ 3 * length l
-unfolding runsOf piece_at
-runs-few mode s [] = omega arith
-runs-few mode s (at ∷ l) = turn (runs-few mode s l) (accepted mode s at)
-  where
-    turn : length (runsOf (map (piece_at mode s) l)) ≤ 3 * length l → (x : Bool)
-        → length (runsOf ((if x then Kept at (pieceEnd s at - at) else Dropped at (pieceEnd s at - at) (droppedWith mode s at)) ∷ map (piece_at mode s) l)) ≤ 3 * suc (length l)
-    turn h true = omega arith
-    turn h false = omega arith
+  -- and where nothing was dropped, it is the upload
+  cover_all : {at : ℕ} {more new runs : List ℕ} → Cover read length_of told Reason s at more new runs → runs ≡ [] → new ≡ drop at s.now
+  cover_all meaning.done e = sym (drop_of_length-le s.now {i = length s.now} (omega arith))
+  cover_all (meaning.entry {at = at} {long = long} h t c) e = ap (λ (l : List ℕ). le.part s.now at long ++ l) (cover_all c e) ∙ sym (drop-part s.now at long)
+  cover_all (meaning.run h t r c) e = absurd (no_run _ _ e)
+  cover_all (meaning.zero_claim h t x c) e = absurd (no_run _ _ e)
 
--- a step that gives no record tells none
-module _ (mode : Bool) (s : List ℕ) (at place : ℕ) (more : List (Tells Symbol)) where
-  passed_over : accepted mode s place ≡ false → relaid at (toldAt mode s place ∷ more) ≡ relaid at more
-  unfolding accepted relaid
-  passed_over h = by (symbolStep mode s place).step refl
-    where
-      by : (t : Step) → (symbolStep mode s place).step ≡ t → relaid at (toldAt mode s place ∷ more) ≡ relaid at more
-      by step.Finished e = simp e
-      by (step.Refused why) e = simp e
-      by (step.Record info) e = absurd (not-both (simp e) h)
+-- no more slots than three for each piece
+run_few : {R : Type 0} (start end : ℕ) (t : Result R Refusal) → length (run_of start end t) ≤ 3
+run_few start end (Ok r) = omega arith
+run_few start end (Err why) = omega arith
 
--- what is kept of the pieces that begin at these places: accepted entries one after another
-record KeptOf (mode : Bool) (s l : List ℕ) : Type 0 where
-  goods : List (Good mode)
-  bytes : entriesOf s (map (piece_at mode s) l) ≡ joined goods
-  told : (at : ℕ) → relaid at (map (toldAt mode s) l) ≡ laid at goods
-  number : length (those (accepted mode s) l) ≡ length goods
-
-module _ (mode : Bool) (s : List ℕ) where
-  kept-turn : (at : ℕ) (l : List ℕ) → KeptOf mode s l → (x : Bool) → accepted mode s at ≡ x → KeptOf mode s (at ∷ l)
-  unfolding entriesOf those joined laid relaid piece_at
-  kept-turn at l k true e =
-      let h = here mode s at e in
-      let n : pieceEnd s at - at ≡ size h.good = omega (arith, h.ends) in
-      record {
-        goods = h.good ∷ k.goods;
-        bytes = simp (e, n, h.there, k.bytes);
-        told = λ a. simp (told_here mode s at h, k.told);
-        number = simp e (ap suc k.number);
-      }
-  kept-turn at l k false e =
-      record {
-        goods = k.goods;
-        bytes = simp e k.bytes;
-        told = λ a. passed_over mode s a at (map (toldAt mode s) l) e ∙ k.told a;
-        number = simp e k.number;
-      }
-
-  kept_of : (l : List ℕ) → KeptOf mode s l
-  unfolding entriesOf those joined laid relaid
-  kept_of [] = record { goods = []; bytes = refl; told = λ at. refl; number = refl }
-  kept_of (at ∷ l) = kept-turn at l (kept_of l) (accepted mode s at) refl
+runs_few : {R : Type 0} (ps : List (Piece R)) → length (dropped ps) ≤ 3 * length ps
+unfolding dropped
+runs_few [] = omega arith
+runs_few (p ∷ ps) = omega (arith, runs_few ps, run_few p.start p.end p.answer, length-append (run_of p.start p.end p.answer) (dropped ps))
 
 -- what is known where a salvage wrote
-fits : {bytes slots : ℕ} (t u : Bool) (x y : Refusal) (n m : ℕ) → salvaged.Done bytes slots ≡ (if t then salvaged.Refused x else if u then salvaged.Refused y else salvaged.Done n m) → (t ≡ false) × (u ≡ false) × (n ≡ bytes) × (m ≡ slots)
+fits : {bytes slots : ℕ} (t u : Bool) (x y : Refusal) (n m : ℕ) → ◌≡◌ {A = Result Salvaged Refusal} (Ok (wrote bytes slots)) (if t then Err x else if u then Err y else Ok (wrote n m)) → (t ≡ false) × (u ≡ false) × (n ≡ bytes) × (m ≡ slots)
 fits true u x y n m e = absurd (let z : ◌≡◌ {A = ℕ} 0 1 = cc in omega arith)
 fits false true x y n m e = absurd (let z : ◌≡◌ {A = ℕ} 0 1 = cc in omega arith)
-fits false false x y n m e = (refl, refl, cc, cc)
+fits {bytes} {slots} false false x y n m e = let is : wrote bytes slots ≡ wrote n m = cc in (refl, refl, sym (ap (λ (w : Salvaged). w.bytes) is), sym (ap (λ (w : Salvaged). w.slots) is))
 
 record Listed (old new bs : List ℕ) (n : ℕ) : Type 0 where
   there : n ≤ length new
@@ -221,82 +295,94 @@ listed old new bs {n} e l =
     }
 
 module _ {out runs out' runs' : List ℕ} {bytes slots : ℕ} where
-  wrote-both : (bs ns : List ℕ) → WritesBoth (Both bs ns) out runs out' runs' (salvaged.Done bytes slots) → Listed out out' bs bytes × Listed runs runs' ns slots
-  wrote-both bs ns w =
+  wrote_both : (bs ns : List ℕ) → WritesBoth (Ok (bs, ns)) out runs out' runs' (Ok (wrote bytes slots)) → Listed out out' bs bytes × Listed runs runs' ns slots
+  wrote_both bs ns w =
       let f = fits (ltb (length out) (length bs)) (ltb (length runs) (length ns)) _ _ (length bs) (length ns) w.said in
-      (listed out out' bs (w.left-bytes ∙ simp (f.0, f.1)) f.2, listed runs runs' ns (w.left-slots ∙ simp (f.0, f.1)) f.3)
+      (listed out out' bs (w.left_bytes ∙ simp (f.0, f.1)) f.2, listed runs runs' ns (w.left_slots ∙ simp (f.0, f.1)) f.3)
 
-  wrote_by : (large : Bool) (why : Refusal) (bs ns : List ℕ) → WritesBoth (if large then Refuse why else Both bs ns) out runs out' runs' (salvaged.Done bytes slots)
-      → (large ≡ false) × (Listed out out' bs bytes × Listed runs runs' ns slots)
+  wrote_by : (large : Bool) (why : Refusal) (bs ns : List ℕ) → WritesBoth (if large then Err why else Ok (bs, ns)) out runs out' runs' (Ok (wrote bytes slots)) → (large ≡ false) × (Listed out out' bs bytes) × (Listed runs runs' ns slots)
   wrote_by true why bs ns w = absurd (let z : ◌≡◌ {A = ℕ} 0 1 = cc w.said in omega arith)
-  wrote_by false why bs ns w = (refl, wrote-both bs ns w)
+  wrote_by false why bs ns w = let b = wrote_both bs ns w in (refl, b.0, b.1)
 
 -- and where it was refused
 abbrev either_of : Bool → Bool → List ℕ × List ℕ → List ℕ × List ℕ → List ℕ × List ℕ
 either_of t u old new = if t then old else if u then old else new
 
 module _ {out runs out' runs' : List ℕ} {why : Refusal} where
-  untouched-by : (new : List ℕ × List ℕ) (t u : Bool) (x y : Refusal) (n m : ℕ)
-      → salvaged.Refused why ≡ (if t then salvaged.Refused x else if u then salvaged.Refused y else salvaged.Done n m)
+  untouched_by : (new : List ℕ × List ℕ) (t u : Bool) (x y : Refusal) (n m : ℕ)
+      → ◌≡◌ {A = Result Salvaged Refusal} (Err why) (if t then Err x else if u then Err y else Ok (wrote n m))
       → out' ≡ (either_of t u (out, runs) new).0 → runs' ≡ (either_of t u (out, runs) new).1 → (out' ≡ out) × (runs' ≡ runs)
-  untouched-by new true u x y n m e f g = (f, g)
-  untouched-by new false true x y n m e f g = (f, g)
-  untouched-by new false false x y n m e f g = absurd (let z : ◌≡◌ {A = ℕ} 0 1 = cc in omega arith)
+  untouched_by new true u x y n m e f g = (f, g)
+  untouched_by new false true x y n m e f g = (f, g)
+  untouched_by new false false x y n m e f g = absurd (let z : ◌≡◌ {A = ℕ} 0 1 = cc in omega arith)
 
-  untouched : (w : Writings) → WritesBoth w out runs out' runs' (salvaged.Refused why) → (out' ≡ out) × (runs' ≡ runs)
-  untouched (Both bs ns) w = untouched-by (bs ++ drop (length bs) out, ns ++ drop (length ns) runs) (ltb (length out) (length bs)) (ltb (length runs) (length ns)) _ _ _ _ w.said w.left-bytes w.left-slots
-  untouched (Refuse x) w = (w.left-bytes, w.left-slots)
+  untouched : (w : Writings) → WritesBoth w out runs out' runs' (Err why) → (out' ≡ out) × (runs' ≡ runs)
+  untouched (Ok b) w = untouched_by (b.0 ++ drop (length b.0) out, b.1 ++ drop (length b.1) runs) (ltb (length out) (length b.0)) (ltb (length runs) (length b.1)) _ _ _ _ w.said w.left_bytes w.left_slots
+  untouched (Err x) w = (w.left_bytes, w.left_slots)
 
--- of an upload within the limit
-module _ (mode : Bool) (s : List ℕ) (small : length s ≤ limit) where
-  all : KeptOf mode s (steps s)
-  all = kept_of mode s (steps s)
+module _ {R S : Type 0} (read : Bor (List ℕ) → Result R Refusal) (length_of : R → ℕ) (told : R → S) (header : ℕ) (four : 4 < header)
+    (long : (e : Bor (List ℕ)) (r : R) → read e ≡ Ok r → length_of r ≡ length e.now)
+    (room : (e : Bor (List ℕ)) (r : R) → read e ≡ Ok r → header ≤ length e.now)
+    (alike : (e f : Bor (List ℕ)) → e.now ≡ f.now → map_ok told (read e) ≡ map_ok told (read f))
+    (Reason : ℕ → Type 0) (two : Reason 2) (three : Reason 3)
+    (own : (e : Bor (List ℕ)) (why : Refusal) → read e ≡ Err why → Reason (figures_of why).number) where
+  -- of an upload within the limit
+  module _ (s : Bor (List ℕ)) (small : length s.now ≤ limit) where
+    abbrev joined_of : List (entries.Good read length_of told header four long room alike) → List ℕ
+    joined_of = entries.joined read length_of told header four long room alike
 
-  new_is : kept mode s ≡ joined all.goods
-  unfolding pieces
-  new_is = all.bytes
+    all : KeptOf read length_of told header four long room alike Reason two three own s (steps s.now)
+    all = kept_of read length_of told header four long room alike Reason two three own s (steps s.now)
 
-  new-small : length (joined all.goods) ≤ limit
-  new-small = omega (arith, cover-long s (covers mode s small), ap length new_is)
+    new_is : kept s.now (pieces read s) ≡ joined_of all.goods
+    new_is = ap (kept s.now) (pieces_are read s) ∙ all.bytes
 
-  again : salvaging mode (joined all.goods) ≡ Both (joined all.goods) []
-  again =
-      let k : kept mode (joined all.goods) ≡ joined all.goods = kept_whole mode (joined all.goods) ∙ all-kept mode [] all.goods new-small in
-      let d : dropped mode (joined all.goods) ≡ [] = dropped-whole mode (joined all.goods) ∙ none_dropped mode [] all.goods new-small in
-      salvage-both mode (joined all.goods) new-small ∙ ap₂ Both k d
+    number_is : length (starts (pieces read s)) ≡ length all.goods
+    number_is = ap (λ ps. length (starts ps)) (pieces_are read s) ∙ all.number
 
-  salvages : Salvages mode s (kept mode s) (dropped mode s)
-  unfolding starts
-  salvages =
+    covered : Cover read length_of told Reason s 0 (starts (pieces read s)) (kept s.now (pieces read s)) (dropped (pieces read s))
+    covered = covers read length_of told header four long room alike Reason two three own s small
+
+    new_small : length (joined_of all.goods) ≤ limit
+    new_small = omega (arith, cover_long read length_of told Reason s covered, ap length new_is)
+
+    again : (m : ℕ × ℕ) → salvaging read (lying m (joined_of all.goods)) ≡ Ok (joined_of all.goods, [])
+    again m =
+        let n : length (joined_of all.goods) - 0 ≡ length (joined_of all.goods) = omega arith in
+        let k : kept (joined_of all.goods) (pieces read (lying m (joined_of all.goods))) ≡ joined_of all.goods = rw n at (entries.all_kept read length_of told header four long room alike m [] all.goods new_small) in
+        let d : dropped (pieces read (lying m (joined_of all.goods))) ≡ [] = rw n at (entries.none_dropped read length_of told header four long room alike m [] all.goods new_small) in
+        salvage_both read (lying m (joined_of all.goods)) new_small ∙ ap₂ (λ (x y : List ℕ). Ok (x, y)) k d
+
+    salvages : Salvages read length_of told Reason s (kept s.now (pieces read s)) (dropped (pieces read s))
+    salvages =
+        record {
+          covered = covered;
+          undamaged = λ e. cover_all read length_of told Reason s covered e;
+          walked = λ m spare. simp (new_is, number_is) (entries.walk_laid read length_of told header four long room alike m [] all.goods new_small spare ∙ sym (all.says 0));
+          again = λ m. simp new_is (again m);
+        }
+
+    few : length (dropped (pieces read s)) ≤ 3 * length (steps s.now)
+    few = omega (arith, runs_few (pieces read s), ap length (pieces_are read s), length-map (steps s.now) (piece_at read s))
+
+    wrote_done : {out runs out' runs' : List ℕ} {r : Result Salvaged Refusal} → length s.now ≤ length out → 3 * length (steps s.now) ≤ length runs → WritesBoth (salvaging read s) out runs out' runs' r
+        → r ≡ Ok (wrote (length (kept s.now (pieces read s))) (length (dropped (pieces read s))))
+    wrote_done {out} {runs} h k w =
+        let t = le-ltb (length out) (length (kept s.now (pieces read s))) (omega (arith, cover_long read length_of told Reason s covered)) in
+        let u = le-ltb (length runs) (length (dropped (pieces read s))) (omega (arith, few)) in
+        w.said ∙ simp (salvage_both read s small, t, u)
+
+  pub salvage_meant_of : SalvageMeant read length_of told Reason
+  unfolding salvaging
+  salvage_meant_of s out runs out' runs' r w =
       record {
-        covered = covers mode s small;
-        undamaged = λ e. cover_all s (covers mode s small) e;
-        walked = λ spare. simp (new_is, all.number) (walk-laid mode [] all.goods new-small spare ∙ sym (all.told 0));
-        again = simp new_is again;
+        wrote_it = λ bytes slots e.
+            let d = wrote_by (ltb limit (length s.now)) _ (kept s.now (pieces read s)) (dropped (pieces read s)) (subst (WritesBoth (salvaging read s) out runs out' runs') e w) in
+            record {
+              there = (d.1.there, d.2.there);
+              salvages = subst (λ (n : List ℕ). Salvages read length_of told Reason s n (take slots runs')) (sym d.1.is) (subst (Salvages read length_of told Reason s (kept s.now (pieces read s))) (sym d.2.is) (salvages s (ltb-false limit (length s.now) d.0)));
+              behind = (d.1.behind, d.2.behind);
+            };
+        refused = λ why e. untouched (salvaging read s) (subst (WritesBoth (salvaging read s) out runs out' runs') e w);
+        done_it = λ small h k. (length (kept s.now (pieces read s)), length (dropped (pieces read s)), wrote_done s small h k w);
       }
-
-  few : length (dropped mode s) ≤ 3 * length (steps s)
-  unfolding pieces
-  few = runs-few mode s (steps s)
-
-  wrote-done : {out runs out' runs' : List ℕ} {r : Salvaged} → length s ≤ length out → 3 * length (steps s) ≤ length runs → WritesBoth (salvaging mode s) out runs out' runs' r
-      → r ≡ salvaged.Done (length (kept mode s)) (length (dropped mode s))
-  wrote-done {out} {runs} h k w =
-      let t = le-ltb (length out) (length (kept mode s)) (omega (arith, cover-long s (covers mode s small))) in
-      let u = le-ltb (length runs) (length (dropped mode s)) (omega (arith, few)) in
-      w.said ∙ simp (salvage-both mode s small, t, u)
-
-pub salvage-meant : SalvageMeant
-unfolding salvaging
-salvage-meant mode s out runs out' runs' r w =
-    record {
-      wrote = λ bytes slots e.
-          let d = wrote_by (ltb limit (length s)) _ (kept mode s) (dropped mode s) (subst (WritesBoth (salvaging mode s) out runs out' runs') e w) in
-          record {
-            there = (d.1.0.there, d.1.1.there);
-            salvages = subst (λ (n : List ℕ). Salvages mode s n (take slots runs')) (sym d.1.0.is) (subst (Salvages mode s (kept mode s)) (sym d.1.1.is) (salvages mode s (ltb-false limit (length s) d.0)));
-            behind = (d.1.0.behind, d.1.1.behind);
-          };
-      refused = λ why e. untouched (salvaging mode s) (subst (WritesBoth (salvaging mode s) out runs out' runs') e w);
-      done = λ small h k. (length (kept mode s), (length (dropped mode s), wrote-done mode s small h k w));
-    }

@@ -1,4 +1,4 @@
 pub mod Both
-pub mod Pieces
 pub mod Salvage
+pub mod Cover
 pub mod Meaning

@@ -1,50 +1,20 @@
--- What a salvage means, in a mode.
-use Rattle.std.specs.Prelude.{ℕ, suc, ◌+◌, ◌*◌, ◌<◌, ◌≤◌, ◌≡◌, Bool, List, [], ◌∷◌, ◌++◌, map, length, take, drop}
+-- docs/FORMAT.md, "Salvage". What a salvage means, by what a step tells of a record, and of why there is none.
+use Rattle.std.specs.Prelude.{ℕ, suc, ◌+◌, ◌*◌, ◌<◌, ◌≤◌, ◌≡◌, List, [], ◌∷◌, ◌++◌, map, length, take, drop, Result, Ok, Err}
+use Rattle.std.specs.Borrow.{Bor}
 use Rattle.le.specs.Le.{part}
 use Rattle.refusal.specs.Refusal.{limit}
-use Rattle.refusal.specs.Ends.{checkedMode}
 use Rattle.refusal.specs.declared.Figures.{Figures}
 use Rattle.refusal.specs.declared.Refusal.{Refusal}
-use Rattle.entry.specs.Tells.{Tells, Entry, Refused, End}
 use Rattle.entry.specs.Walk.{steps, walk}
-use Rattle.walk.specs.Walk.{symbolStep}
-use Rattle.walk.specs.Told.{Symbol, stepTold, cursorOf}
+use Rattle.walk.specs.Step.{step_at}
+use Rattle.walk.specs.Theorems.{cursor_of}
+use Rattle.walk.specs.Pieces.{pieces}
 use Rattle.index.specs.Index.{starts}
+use Rattle.regrown.specs.Regrown.{Tells, Entry, Refused, End, lying}
+use Rattle.regrown.specs.Tells.{tells}
 use Rattle.salvage.specs.declared.Salvaged.{Salvaged}
-use Rattle.salvage.specs.declared.Salvaged.TheVariants as salvaged
-use Rattle.salvage.specs.Both.{Both, WritesBoth}
+use Rattle.salvage.specs.Both.{wrote, WritesBoth}
 use Rattle.salvage.specs.Salvage.{salvaging}
-
--- what a step from a place tells
-abbrev pub toldAt : Bool → List ℕ → ℕ → Tells Symbol
-toldAt mode s at = stepTold mode s (symbolStep mode s at)
-
--- the numbers that a step within an upload of no more than the limit is refused with; 16 only in the checked mode
-pub data Reason (mode : Bool) : ℕ → Type 0 where
-  too_short : Reason mode 2
-  mismatch : Reason mode 3
-  end-byte : mode ≡ checkedMode → Reason mode 16
-
--- An upload from a place on, piece by piece: where the entries that are kept begin, their bytes one after another, and the slots of the runs that are
--- dropped. No piece is empty, each begins where the one before it ended, and the last ends where the upload ends
-pub data Cover (mode : Bool) (s : List ℕ) : ℕ → List ℕ → List ℕ → List ℕ → Type 0 where
-  done : Cover mode s (length s) [] [] []
-  -- a step that tells a record: its entry
-  entry : {at long : ℕ} {more new runs : List ℕ} {r : Symbol}
-      → 0 < long → toldAt mode s at ≡ Entry r long (at + long)
-      → Cover mode s (at + long) more new runs → Cover mode s at (at ∷ more) (part s at long ++ new) runs
-  -- a refused step: what it passed over, under its own number
-  run : {at long : ℕ} {more new runs : List ℕ} {why : Figures}
-      → 0 < long → toldAt mode s at ≡ Refused why (at + long) → Reason mode why.number
-      → Cover mode s (at + long) more new runs → Cover mode s at more new (at ∷ long ∷ why.number ∷ runs)
-  -- a refused step that stays where it is: all that is left, under 10, and nothing follows
-  zero-claim : {at long : ℕ} {more new runs : List ℕ} {why : Figures}
-      → 0 < long → toldAt mode s at ≡ Refused why at → at + long ≡ length s
-      → Cover mode s (at + long) more new runs → Cover mode s at more new (at ∷ long ∷ 10 ∷ runs)
-
--- there is one cover: it decides what is kept and what is listed
-abbrev pub CoverOnce : Type 0
-CoverOnce = (mode : Bool) (s : List ℕ) (at : ℕ) (more new runs more' new' runs' : List ℕ) → Cover mode s at more new runs → Cover mode s at more' new' runs' → (more ≡ more') × ((new ≡ new') × (runs ≡ runs'))
 
 -- what a walk told, without its refusals: its records one after another from a place on, and then the end
 unfoldable pub relaid : {S : Type 0} → ℕ → List (Tells S) → List (Tells S)
@@ -53,32 +23,59 @@ relaid at (Entry r size next ∷ more) = Entry r size (at + size) ∷ relaid (at
 relaid at (Refused figures next ∷ more) = relaid at more
 relaid at (End next ∷ more) = relaid at more
 
--- what the walk over an upload tells, in at most so many steps
-abbrev pub walkTold : Bool → List ℕ → ℕ → List (Tells Symbol)
-walkTold mode s most = map (stepTold mode s) (walk (symbolStep mode) cursorOf s 0 most)
+-- `read` is a mode's reader of an entry's own bytes, `Reason` the numbers that a step within an upload of no more than the limit is refused with
+module _ {R S : Type 0} (read : Bor (List ℕ) → Result R Refusal) (length_of : R → ℕ) (told : R → S) (Reason : ℕ → Type 0) where
+  -- what a step from a place tells
+  abbrev pub told_at : Bor (List ℕ) → ℕ → Tells S
+  told_at s at = tells length_of told (step_at read s at)
 
--- an upload, what was kept of it, and the runs that were dropped
-pub record Salvages (mode : Bool) (s new runs : List ℕ) : Type 0 where
-  -- they are the whole of it, without overlap, and the entries kept are those that the index of starts names
-  pub covered : Cover mode s 0 (starts mode s) new runs
-  -- where nothing was dropped the same bytes come back
-  pub undamaged : runs ≡ [] → new ≡ s
-  -- the walk over what was kept tells the records that the steps over the upload told, and then the end; more steps tell nothing more
-  pub walked : (spare : ℕ) → walkTold mode new (suc (length (starts mode s) + spare)) ≡ relaid 0 (map (toldAt mode s) (steps s))
-  -- a second salvage drops nothing and gives the same bytes
-  pub again : salvaging mode new ≡ Both new []
+  -- An upload from a place on, piece by piece: where the entries that are kept begin, their bytes one after another, and the slots of the runs that are
+  -- dropped. No piece is empty, each begins where the one before it ended, and the last ends where the upload ends
+  pub data Cover (s : Bor (List ℕ)) : ℕ → List ℕ → List ℕ → List ℕ → Type 0 where
+    done : Cover s (length s.now) [] [] []
+    -- a step that tells a record: its entry
+    entry : {at long : ℕ} {more new runs : List ℕ} {r : S}
+        → 0 < long → told_at s at ≡ Entry r long (at + long)
+        → Cover s (at + long) more new runs → Cover s at (at ∷ more) (part s.now at long ++ new) runs
+    -- a refused step: what it passed over, under its own number
+    run : {at long : ℕ} {more new runs : List ℕ} {why : Figures}
+        → 0 < long → told_at s at ≡ Refused why (at + long) → Reason why.number
+        → Cover s (at + long) more new runs → Cover s at more new (at ∷ long ∷ why.number ∷ runs)
+    -- a refused step that stays where it is: all that is left, under 10, and nothing follows
+    zero_claim : {at long : ℕ} {more new runs : List ℕ} {why : Figures}
+        → 0 < long → told_at s at ≡ Refused why at → at + long ≡ length s.now
+        → Cover s (at + long) more new runs → Cover s at more new (at ∷ long ∷ 10 ∷ runs)
 
--- where a salvage answers that it wrote so many bytes and slots: they are there, and what stands behind them is as it was
-pub record Wrote (mode : Bool) (s out runs out' runs' : List ℕ) (bytes slots : ℕ) : Type 0 where
-  pub there : (bytes ≤ length out') × (slots ≤ length runs')
-  pub salvages : Salvages mode s (take bytes out') (take slots runs')
-  pub behind : (drop bytes out' ≡ drop bytes out) × (drop slots runs' ≡ drop slots runs)
+  -- there is one cover: it decides what is kept and what is listed
+  abbrev pub CoverOnce : Type 0
+  CoverOnce = (s : Bor (List ℕ)) (at : ℕ) (more new runs more' new' runs' : List ℕ) → Cover s at more new runs → Cover s at more' new' runs' → (more ≡ more') × (new ≡ new') × (runs ≡ runs')
 
--- and it does answer so of an upload within the limit, if it is lent as many bytes as the upload has and three slots for every step
-pub record Meant (mode : Bool) (s out runs out' runs' : List ℕ) (r : Salvaged) : Type 0 where
-  pub wrote : (bytes slots : ℕ) → r ≡ salvaged.Done bytes slots → Wrote mode s out runs out' runs' bytes slots
-  pub refused : (why : Refusal) → r ≡ salvaged.Refused why → (out' ≡ out) × (runs' ≡ runs)
-  pub done : length s ≤ limit → length s ≤ length out → 3 * length (steps s) ≤ length runs → (bytes : ℕ) × ((slots : ℕ) × (r ≡ salvaged.Done bytes slots))
+  -- what the walk over an upload, wherever it lies, tells in at most so many steps
+  abbrev pub walk_told : ℕ × ℕ → List ℕ → ℕ → List (Tells S)
+  walk_told m s most = map (tells length_of told) (walk (step_at read) cursor_of (lying m s) 0 most)
 
-abbrev pub SalvageMeant : Type 0
-SalvageMeant = (mode : Bool) (s out runs out' runs' : List ℕ) (r : Salvaged) → WritesBoth (salvaging mode s) out runs out' runs' r → Meant mode s out runs out' runs' r
+  -- an upload, what was kept of it, and the runs that were dropped
+  pub record Salvages (s : Bor (List ℕ)) (new runs : List ℕ) : Type 0 where
+    -- they are the whole of it, without overlap, and the entries kept are those that the index of starts names
+    pub covered : Cover s 0 (starts (pieces read s)) new runs
+    -- where nothing was dropped the same bytes come back
+    pub undamaged : runs ≡ [] → new ≡ s.now
+    -- the walk over what was kept tells the records that the steps over the upload told, and then the end; more steps tell nothing more
+    pub walked : (m : ℕ × ℕ) (spare : ℕ) → walk_told m new (suc (length (starts (pieces read s)) + spare)) ≡ relaid 0 (map (told_at s) (steps s.now))
+    -- a second salvage drops nothing and gives the same bytes
+    pub again : (m : ℕ × ℕ) → salvaging read (lying m new) ≡ Ok (new, [])
+
+  -- where a salvage answers that it wrote so many bytes and slots: they are there, and what stands behind them is as it was
+  pub record Wrote (s : Bor (List ℕ)) (out runs out' runs' : List ℕ) (bytes slots : ℕ) : Type 0 where
+    pub there : (bytes ≤ length out') × (slots ≤ length runs')
+    pub salvages : Salvages s (take bytes out') (take slots runs')
+    pub behind : (drop bytes out' ≡ drop bytes out) × (drop slots runs' ≡ drop slots runs)
+
+  -- and it does answer so of an upload within the limit, if it is lent as many bytes as the upload has and three slots for every step
+  pub record Meant (s : Bor (List ℕ)) (out runs out' runs' : List ℕ) (r : Result Salvaged Refusal) : Type 0 where
+    pub wrote_it : (bytes slots : ℕ) → r ≡ Ok (wrote bytes slots) → Wrote s out runs out' runs' bytes slots
+    pub refused : (why : Refusal) → r ≡ Err why → (out' ≡ out) × (runs' ≡ runs)
+    pub done_it : length s.now ≤ limit → length s.now ≤ length out → 3 * length (steps s.now) ≤ length runs → (bytes : ℕ) × (slots : ℕ) × (r ≡ Ok (wrote bytes slots))
+
+  abbrev pub SalvageMeant : Type 0
+  SalvageMeant = (s : Bor (List ℕ)) (out runs out' runs' : List ℕ) (r : Result Salvaged Refusal) → WritesBoth (salvaging read s) out runs out' runs' r → Meant s out runs out' runs' r

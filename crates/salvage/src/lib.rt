@@ -1,82 +1,41 @@
-// Salvages an upload (W-203): every accepted entry of a damaged upload into a new one, and beside it what was dropped.
+//! Salvages an upload of entries of any kind: every accepted entry into a new upload, and beside it what was dropped.
 #![tactic(auto)]
 
-ghost use Rattle.std.specs.Prelude.{◌≡◌, ◌+◌, ◌≤◌, ◌<◌, ◌∷◌, [], length};
+ghost use Rattle.std.specs.Prelude.{◌≡◌, ◌+◌, ◌≤◌, ◌∷◌, [], ℕ, List, Err, length};
+ghost use Rattle.std.specs.Borrow.{Bor};
 ghost use Rattle.le.specs.Put.{put, Wrote};
-ghost use Rattle.refusal.specs.Refusal.{limit, figuresOf};
-ghost use Rattle.entry.specs.Entry.{claimAt};
-ghost use Rattle.walk.specs.Walk.{stepIs};
-ghost use Rattle.salvage.specs.Both.{WritesBoth};
-ghost use Rattle.salvage.specs.Pieces.{pieceEnd, refusedWith, droppedWith};
-ghost use Rattle.salvage.specs.Salvage.{kept, dropped, salvaging, neededBy};
+ghost use Rattle.refusal.specs.Refusal.{limit, figures_of};
+ghost use Rattle.refusal.specs.declared.Mode.{Mode};
+ghost use Rattle.refusal.specs.declared.Refusal.{Refusal};
+ghost use Rattle.walk.specs.Mapped.{map_ok};
+ghost use Rattle.walk.specs.Pieces.{pieces};
+ghost use Rattle.salvage.specs.Salvage.{kept, dropped, salvaging};
+ghost use Rattle.salvage.specs.Cover.{Covers};
 ghost use Rattle.salvage.specs.Meaning.{SalvageMeant, CoverOnce};
+ghost use Rattle.salvage.specs.Both.{WritesBoth};
 
-use entry::Met;
-use refusal::Refusal;
-use symbol::{SymbolAnswer, SymbolRead};
+use refusal::{LIMIT, Mode, Refusal};
+use walk::{Entry, Walker};
 
-// How many bytes of the new upload and how many slots of the list were written, or why nothing was.
-#[derive(Drop)]
-pub enum Salvaged {
-    Done { bytes: usize, slots: usize },
-    Refused(Refusal),
-}
-
-#[derive(Drop)]
-struct Needed {
-    bytes: usize,
-    slots: usize,
-}
-
-// Where the piece of a step ends. A zero claim would stay where it is: all that is left goes with it.
-#[tactic(auto, unfolding(crate::specs::Pieces::pieceEnd))]
-fn piece_end(bytes: &[u8], at: usize, next: usize) -> usize
-    requires { next ≡ (claimAt bytes.now at).next }
-    ensures { result ≡ pieceEnd bytes.now at }
-{
-    if next == at {
-        return bytes.len();
-    }
-    next
+/// How many bytes of the new upload and how many slots of the list were written.
+#[derive(Clone, Copy, Debug, PartialEq, Eq)]
+pub struct Salvaged {
+    pub bytes: usize,
+    pub slots: usize,
 }
 
 fn number_of(why: Refusal) -> u32
-    ensures { result ≡ (figuresOf why).number }
+    ensures { result ≡ (figures_of why).number }
 {
     let figures = why.figures();
     figures.number
 }
 
-fn number_read(read: SymbolRead) -> u32
-    ensures { result ≡ refusedWith (stepIs read.answer) }
-{
-    let answer = read.answer;
-    match answer {
-        SymbolAnswer::Record(_) => 0,
-        SymbolAnswer::Refused(why) => number_of(why),
-    }
-}
-
-// Asked only of a step that is refused, so that a step which gives a record is looked at as lightly as an index does.
-#[tactic(auto, unfolding(crate::specs::Pieces::droppedWith, walk::specs::Walk::symbolStep))]
-fn number_at(bytes: &[u8], at: usize, checked: bool) -> u32
-    ensures { result ≡ droppedWith checked bytes.now at }
-{
-    let claimed = entry::claim_at(bytes, at);
-    let met = claimed.met;
-    if claimed.next == at {
-        return number_of(Refusal::ZeroEntryLength);
-    }
-    match met {
-        Met::Entry(size) => number_read(symbol::read_entry(le::part_of(bytes, at, size), checked)),
-        Met::Finished => 0,
-        Met::Refused(why) => number_of(why),
-    }
-}
-
 // A run: where it starts, how long it is, and the number that it was refused with.
 fn put_run(runs: &mut [u32], at: usize, start: usize, long: usize, number: u32) -> usize
-    requires { (at + 3 ≤ length runs.old) × ((start ≤ limit) × (long ≤ limit)) }
+    requires room { at + 3 ≤ length runs.old }
+    requires start_fits { start ≤ limit }
+    requires long_fits { long ≤ limit }
     ensures { Wrote runs.old at (start ∷ long ∷ number ∷ []) runs.new result }
 {
     runs[at] = start as u32;
@@ -86,96 +45,112 @@ fn put_run(runs: &mut [u32], at: usize, start: usize, long: usize, number: u32) 
 }
 
 // What a salvage writes, counted before a byte is written.
-fn measure(bytes: &[u8], checked: bool) -> Needed
+fn measure<'a, E: Entry<'a>>(bytes: &'a [u8], mode: Mode) -> Salvaged
     requires { length bytes.now ≤ limit }
-    ensures { result ≡ neededBy checked bytes.now }
+    ensures kept_bytes { result.bytes ≡ length (kept bytes.now (pieces (E.read mode) bytes.entry)) }
+    ensures run_slots { result.slots ≡ length (dropped (pieces (E.read mode) bytes.entry)) }
 {
-    let mut at = 0;
-    let mut count = 0;
+    let mut kept = 0;
     let mut slots = 0;
-    while at < bytes.len() {
-        let looked = index::look_at(bytes, at, checked);
-        let accepted = looked.accepted;
-        let start = at;
-        at = piece_end(bytes, start, looked.next);
-        if accepted {
-            count = count + (at - start);
-        } else {
-            slots = slots + 3;
+    for piece in Walker::<E>::new(bytes, mode) {
+        match piece.answer {
+            Ok(_) => kept += piece.end - piece.start,
+            Err(_) => slots += 3,
         }
     }
-    Needed {
-        bytes: count,
-        slots,
-    }
+    Salvaged { bytes: kept, slots }
 }
 
 // Both buffers are known to be large enough.
-fn write(bytes: &[u8], checked: bool, out: &mut [u8], runs: &mut [u32])
-    requires { (length bytes.now ≤ limit) × ((length (kept checked bytes.now) ≤ length out.old) × (length (dropped checked bytes.now) ≤ length runs.old)) }
-    ensures out_after { out.new ≡ put out.old 0 (kept checked bytes.now) }
-    ensures runs_after { runs.new ≡ put runs.old 0 (dropped checked bytes.now) }
+fn write<'a, E: Entry<'a>>(bytes: &'a [u8], mode: Mode, out: &mut [u8], runs: &mut [u32])
+    requires limited { length bytes.now ≤ limit }
+    requires out_room { length (kept bytes.now (pieces (E.read mode) bytes)) ≤ length out.old }
+    requires runs_room { length (dropped (pieces (E.read mode) bytes)) ≤ length runs.old }
+    ensures out_after { out.new ≡ put out.old 0 (kept bytes.now (pieces (E.read mode) bytes.entry)) }
+    ensures runs_after { runs.new ≡ put runs.old 0 (dropped (pieces (E.read mode) bytes.entry)) }
 {
-    let mut at = 0;
     let mut count = 0;
     let mut slots = 0;
-    while at < bytes.len() {
-        let looked = index::look_at(bytes, at, checked);
-        let accepted = looked.accepted;
-        let start = at;
-        at = piece_end(bytes, start, looked.next);
-        if accepted {
-            count = le::put_bytes(out, count, le::part_of(bytes, start, at - start));
-        } else {
-            slots = put_run(
-                runs,
-                slots,
-                start,
-                at - start,
-                number_at(bytes, start, checked),
-            );
+    for piece in Walker::<E>::new(bytes, mode) {
+        let start = piece.start;
+        let long = piece.end - start;
+        match piece.answer {
+            Ok(_) => count = le::put_bytes(out, count, &bytes[start..piece.end]),
+            Err(why) => slots = put_run(runs, slots, start, long, number_of(why)),
         }
     }
 }
 
-// The upload is walked before a byte is written, so a refusal leaves both buffers as they were.
-pub fn salvage(bytes: &[u8], checked: bool, out: &mut [u8], runs: &mut [u32]) -> Salvaged
-    ensures { WritesBoth (salvaging checked bytes.now) out.old runs.old out.new runs.new result }
+/// Copies each accepted entry to the new upload `out`, unchanged and in order, and lists in `runs` what was dropped, three slots each: where it starts, how
+/// long it is, and the number of the refusal; what a zero claim leaves is one run, under 10. Refuses with 5, then with 6 for `out`, then with 6 for `runs`.
+/// The upload is walked before a byte is written, so a refusal leaves both as they were.
+pub fn salvage<'a, E: Entry<'a>>(
+    bytes: &'a [u8],
+    mode: Mode,
+    out: &mut [u8],
+    runs: &mut [u32],
+) -> Result<Salvaged, Refusal>
+    ensures { WritesBoth (salvaging (E.read mode) bytes.entry) out.old runs.old out.new runs.new result }
 {
     let length = bytes.len();
-    if refusal::LIMIT < length {
-        return Salvaged::Refused(Refusal::TooLarge { length });
+    if length > LIMIT {
+        return Err(Refusal::TooLarge { length });
     }
-    let needed = measure(bytes, checked);
+    let needed = measure::<E>(bytes, mode);
     let lent = out.len();
     if lent < needed.bytes {
-        return Salvaged::Refused(Refusal::OutputTooSmall {
+        return Err(Refusal::OutputTooSmall {
             needed: needed.bytes,
             lent,
         });
     }
     let free = runs.len();
     if free < needed.slots {
-        return Salvaged::Refused(Refusal::OutputTooSmall {
+        return Err(Refusal::OutputTooSmall {
             needed: needed.slots,
             lent: free,
         });
     }
-    write(bytes, checked, out, runs);
-    Salvaged::Done {
-        bytes: needed.bytes,
-        slots: needed.slots,
-    }
+    write::<E>(bytes, mode, out, runs);
+    Ok(needed)
 }
 
 // The theorems. Each is the contract of a function that does nothing, so that none goes unnoticed if its proof does.
 
-// What a salvage wrote covers the upload, each entry kept and the rest listed; the walk over it tells the same records, and a second salvage drops nothing.
-pub fn salvage_meant()
-    ensures { SalvageMeant }
+/// Each piece is kept or listed, and the pieces, one after another, are the upload.
+pub fn pieces_cover<'a, E: Entry<'a>>()
+    ensures { (mode : Mode) → Covers (E.read mode) }
 {}
 
-// There is one cover of an upload from a place: it decides what is kept and what is listed.
-pub fn cover_once()
-    ensures { CoverOnce }
+/// A kind of entry with what its records tell, and with the numbers of its steps' refusals.
+pub trait Salvageable<'a> {
+    type Record: Entry<'a>;
+
+    // all that a record tells: no part of where it stands
+    ghost Told: { Type 0 };
+
+    ghost told: { Self.Record → Told };
+
+    // the numbers that a step within an upload of no more than the limit is refused with, in a mode
+    ghost Reason: { Mode → ℕ → Type 0 };
+
+    // an entry tells the same wherever it lies
+    ghost alike: { (mode : Mode) (e f : Bor (List ℕ)) → e.now ≡ f.now → map_ok told (Self.Record.read mode e) ≡ map_ok told (Self.Record.read mode f) };
+
+    // no room for a claim, and less than is claimed
+    ghost short: { (mode : Mode) → Reason mode 2 };
+
+    ghost beyond: { (mode : Mode) → Reason mode 3 };
+
+    ghost own: { (mode : Mode) (e : Bor (List ℕ)) (why : Refusal) → Self.Record.read mode e ≡ Err why → Reason mode (figures_of why).number };
+}
+
+/// What a salvage wrote covers the upload, each entry kept and the rest listed; the walk over it tells the same records, and a second salvage drops nothing.
+pub fn salvage_meant<'a, K: Salvageable<'a>>()
+    ensures { (mode : Mode) → SalvageMeant (K.Record.read mode) K.Record.length_of K.told (K.Reason mode) }
+{}
+
+/// There is one cover of an upload from a place: it decides what is kept and what is listed.
+pub fn cover_once<'a, K: Salvageable<'a>>()
+    ensures { (mode : Mode) → CoverOnce (K.Record.read mode) K.Record.length_of K.told (K.Reason mode) }
 {}

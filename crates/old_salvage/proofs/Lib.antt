@@ -1,0 +1,5 @@
+pub mod Laws
+pub mod Entries
+pub mod Reasons
+pub mod Meaning
+pub mod Once

@@ -1,0 +1,4 @@
+pub mod Both
+pub mod Pieces
+pub mod Salvage
+pub mod Meaning

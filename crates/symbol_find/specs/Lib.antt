@@ -1,0 +1,4 @@
+pub mod Find
+pub mod Looks
+pub mod Meaning
+pub mod Alike

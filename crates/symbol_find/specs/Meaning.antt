@@ -1,0 +1,51 @@
+-- What finding means, in a mode: the name is that of a symbol which its entry gives when it is read by itself.
+use Rattle.std.specs.Prelude.{ℕ, ◌≤◌, ◌≡◌, true, false, List, ◌∷◌, ◌++◌, length, take, Some, Ok, Err}
+use Rattle.std.specs.List.{list_any}
+use Rattle.std.specs.Borrow.{Bor}
+use Rattle.part.specs.Slice.{part}
+use Rattle.refusal.specs.Refusal.{limit}
+use Rattle.refusal.specs.declared.Mode.{Mode}
+use Rattle.refusal.specs.declared.Refusal.{Refusal}
+use Rattle.names.specs.Names.{same_name}
+use Rattle.entry.specs.Walk.{steps}
+use Rattle.writing.specs.Writing.{Writes}
+use Rattle.walk.specs.Step.{parse_of}
+use Rattle.symbol.specs.declared.AdsSymbolInfo.{AdsSymbolInfo}
+use Rattle.symbol.specs.Symbol.{symbol_of}
+use Rattle.symbol.specs.Head.{head_of}
+use Rattle.index.specs.Index.{indexing}
+use Rattle.symbol_find.specs.Find.{is_named, find, find_indexed}
+
+-- a symbol of that name begins at a place
+pub record HasName (mode : Mode) (s : Bor (List ℕ)) (name : List ℕ) (at : ℕ) : Type 0 where
+  pub symbol : AdsSymbolInfo
+  pub read : parse_of 30 (symbol_of mode) (part s at symbol.length) ≡ Ok symbol
+  pub named : same_name symbol.name.now name ≡ true
+
+-- a place is one of some places, has the name, and none before it has
+pub record Finds (mode : Mode) (s : Bor (List ℕ)) (name places : List ℕ) (at : ℕ) : Type 0 where
+  pub before : List ℕ
+  pub behind : List ℕ
+  pub among : places ≡ before ++ (at ∷ behind)
+  pub has : HasName mode s name at
+  pub first : list_any (is_named mode s name) before ≡ false
+
+-- what is found is the first that has the name: of the steps of the walk, and through an index of the slots, whatever they hold
+pub record FoundIsFirst : Type 0 where
+  pub walked : (mode : Mode) (s : Bor (List ℕ)) (name : List ℕ) (at : ℕ) → find mode s name ≡ Ok at → Finds mode s name (steps s.now) at
+  pub indexed : (mode : Mode) (s : Bor (List ℕ)) (slots name : List ℕ) (at : ℕ) → find_indexed mode s slots name ≡ Ok at → Finds mode s name slots at
+
+-- where an upload within the limit is refused, with 13 or with 10, no step of its walk has the name, and through an index no slot
+pub record RefusedIsNowhere : Type 0 where
+  pub walked : (mode : Mode) (s : Bor (List ℕ)) (name : List ℕ) (why : Refusal) → length s.now ≤ limit → find mode s name ≡ Err why → list_any (is_named mode s name) (steps s.now) ≡ false
+  pub indexed : (mode : Mode) (s : Bor (List ℕ)) (slots name : List ℕ) (why : Refusal) → length s.now ≤ limit → find_indexed mode s slots name ≡ Err why → list_any (is_named mode s name) slots ≡ false
+
+-- a name in any case is found as in any other, without an index and through any slots
+pub record AnyCase : Type 0 where
+  pub walked : (mode : Mode) (s : Bor (List ℕ)) (name typed : List ℕ) → same_name name typed ≡ true → find mode s typed ≡ find mode s name
+  pub indexed : (mode : Mode) (s : Bor (List ℕ)) (slots name typed : List ℕ) → same_name name typed ≡ true → find_indexed mode s slots typed ≡ find_indexed mode s slots name
+
+-- through an index that was built, of the symbols or of their heads, a name is found as without one
+pub record SameFind : Type 0 where
+  pub symbols : (mode : Mode) (s : Bor (List ℕ)) (old new : List ℕ) (n : ℕ) → Writes (indexing (symbol_of mode) s) old new (Ok n) → (name : List ℕ) → find_indexed mode s (take n new) name ≡ find mode s name
+  pub heads : (mode : Mode) (s : Bor (List ℕ)) (old new : List ℕ) (n : ℕ) → Writes (indexing (head_of mode) s) old new (Ok n) → (name : List ℕ) → find_indexed mode s (take n new) name ≡ find mode s name
