@@ -1,14 +1,16 @@
 // `list` on odd frames: crates/list_odd/stdin and stdout are written by tools/list_odd.py.
 #![tactic(auto)]
 
+use listing::Failure;
+use refusal::Mode;
 use std::io;
+use std::io::BufWriter;
 
 fn main(rt: HostRuntime) -> io::Result<()> {
-    // The listing program is of the present mode.
-    lister::list(
-        &mut rt.stdin(),
-        &mut rt.stdout(),
-        rt.alloc(),
-        refusal::PRESENT,
-    )
+    let mut output = BufWriter::with_capacity(rt.alloc(), 65536, rt.stdout())?;
+    match listing::list(&mut rt.stdin(), &mut output, rt.alloc(), Mode::Present) {
+        Ok(()) => Ok(()),
+        Err(Failure::Input(why)) => Err(why),
+        Err(Failure::Output(why)) => Err(why),
+    }
 }

@@ -1,2 +1,5 @@
-pub mod Laws
-pub mod Cut
+mod Rows
+mod Lines
+mod Texts
+mod Spelling
+mod Anywhere

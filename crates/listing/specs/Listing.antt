@@ -1,67 +1,88 @@
--- 01, "Listing": the text that `list` prints, in a mode. The program that 01 asks for is of the present one.
-use Rattle.std.specs.Prelude.{ℕ, ◌+◌, ◌-◌, ◌*◌, ◌/◌, ◌≡◌, Bool, List, [], ◌∷◌, ◌++◌, eqb, length, if◌then◌else◌}
-use Rattle.le.specs.Le.{part}
-use Rattle.refusal.specs.declared.Refusal.TheVariants.{ZeroEntryLength}
-use Rattle.refusal.specs.Writing.{Writing, Bytes, Refuse, leaves}
-use Rattle.entry.specs.Walk.{steps}
-use Rattle.digits.specs.Frame.{frame_of}
-use Rattle.digits.specs.Text.{Put}
-use Rattle.lines.specs.Lines.{lineFeed}
-use Rattle.rows.specs.Rows.{refusalLine, entryLine}
-use Rattle.walk.specs.Walk.{by_step, symbolStep}
+-- docs/FORMAT.md, "Listing". What is listed of an input: a header, and for each line the rows of the upload that it spells.
+use Rattle.std.specs.Prelude.{ℕ, ◌+◌, ◌-◌, ◌==◌, ◌≡◌, ltb, List, [], ◌∷◌, ◌++◌, length, take, codes, Option, Some, None, Ok, Err, ⊤, if◌then◌else◌}
+use Rattle.std.specs.List.{flat_map, slice_split, enumerate_from}
+use Rattle.std.specs.Io.KnownBytes.{Appends, Consumes}
+use Rattle.std.specs.Borrow.{Bor}
+use Rattle.std.specs.declared.result.Result.{Result}
+use Rattle.hex.specs.Hex.{decode_of}
+use Rattle.refusal.specs.Refusal.{figures_of}
+use Rattle.refusal.specs.declared.Mode.{Mode}
+use Rattle.refusal.specs.declared.Refusal.{Refusal}
+use Rattle.refusal.specs.declared.Refusal.TheVariants.{BadHexadecimal}
+use Rattle.walk.specs.declared.Piece.{Piece}
+use Rattle.walk.specs.Pieces.{pieces}
+use Rattle.symbol.specs.declared.AdsSymbolInfo.{AdsSymbolInfo}
+use Rattle.symbol.specs.Symbol.{symbol_of}
+use Rattle.listing.specs.Row.{entry_row, refusal_row}
+use Rattle.listing.specs.declared.Line.{Line}
+use Rattle.listing.specs.declared.Failure.{Failure}
+use Rattle.listing.specs.declared.Failure.TheVariants.{Input, Output}
 
--- "line at len group offset size type flags unread attrs refs name typename high"
+-- the digits of the longest upload that is listed, 16,384 bytes
+abbrev pub longest : ℕ
+longest = 32768
+
+-- the row of what was read at a place of an upload
+abbrev pub answer_row : ℕ → ℕ → Result AdsSymbolInfo Refusal → List ℕ
+answer_row line start (Ok symbol) = entry_row line start symbol
+answer_row line start (Err why) = refusal_row line start (figures_of why)
+
+unfoldable pub row : ℕ → Piece AdsSymbolInfo → List ℕ
+row line piece = answer_row line piece.start piece.answer ++ codes "\n"
+
+-- the upload that a line spells: what is listed of it does not depend on where it lies in memory
+abbrev pub lying : List ℕ → Bor (List ℕ)
+lying s = record { ref_ptr = (0, 0); now = s }
+
+-- the rows of a line of digits in either case; an odd number of them, another character or more than the longest are no upload
+abbrev pub rows : Mode → ℕ → Option (List ℕ) → List ℕ
+rows mode line (Some s) = flat_map (row line) (pieces (symbol_of mode) (lying s))
+rows mode line None = refusal_row line 0 (figures_of BadHexadecimal) ++ codes "\n"
+
+abbrev pub ok_of : {E : Type 0} → Result (List ℕ) E → Option (List ℕ)
+ok_of (Ok s) = Some s
+ok_of (Err e) = None
+
+unfoldable pub line_text : Mode → ℕ → List ℕ → List ℕ
+line_text mode line digits = rows mode line (if ltb longest (length digits) then None else ok_of (decode_of digits))
+
 abbrev pub header : List ℕ
-header =
-    108 ∷ 105 ∷ 110 ∷ 101 ∷ 32 ∷
-    97 ∷ 116 ∷ 32 ∷
-    108 ∷ 101 ∷ 110 ∷ 32 ∷
-    103 ∷ 114 ∷ 111 ∷ 117 ∷ 112 ∷ 32 ∷
-    111 ∷ 102 ∷ 102 ∷ 115 ∷ 101 ∷ 116 ∷ 32 ∷
-    115 ∷ 105 ∷ 122 ∷ 101 ∷ 32 ∷
-    116 ∷ 121 ∷ 112 ∷ 101 ∷ 32 ∷
-    102 ∷ 108 ∷ 97 ∷ 103 ∷ 115 ∷ 32 ∷
-    117 ∷ 110 ∷ 114 ∷ 101 ∷ 97 ∷ 100 ∷ 32 ∷
-    97 ∷ 116 ∷ 116 ∷ 114 ∷ 115 ∷ 32 ∷
-    114 ∷ 101 ∷ 102 ∷ 115 ∷ 32 ∷
-    110 ∷ 97 ∷ 109 ∷ 101 ∷ 32 ∷
-    116 ∷ 121 ∷ 112 ∷ 101 ∷ 110 ∷ 97 ∷ 109 ∷ 101 ∷ 32 ∷
-    104 ∷ 105 ∷ 103 ∷ 104 ∷ 10 ∷ []
+header = codes "line at len group offset size type flags unread attrs refs name typename high\n"
 
--- what is printed of the step at a place of a frame: a step that does not move is a zero claim, refusal 10, any other moves over its entry
-unfoldable pub stepText : Bool → ℕ → List ℕ → ℕ → List ℕ
-stepText mode number s at =
-    if eqb (symbolStep mode s at).cursor.at at then refusalLine number at ZeroEntryLength
-    else by_step (symbolStep mode s at).step []
-    (λ r. entryLine mode number at r (part s at ((symbolStep mode s at).cursor.at - at)))
-    (refusalLine number at)
+-- lines end at LF, and the last may lack it; they count from 1
+abbrev pub lines : List ℕ → List (List ℕ)
+lines s = slice_split (λ c. c == 10) s
 
--- what is printed of the steps that begin at these places
-unfoldable pub stepsText : Bool → ℕ → List ℕ → List ℕ → List ℕ
-stepsText mode number s [] = []
-stepsText mode number s (at ∷ more) = stepText mode number s at ++ stepsText mode number s more
+abbrev pub lines_text : Mode → ℕ → List (List ℕ) → List ℕ
+lines_text mode first ls = flat_map (λ l. line_text mode l.0 l.1) (enumerate_from first ls)
 
--- a frame is walked from its start, and a zero claim ends its line; a line that is no frame is refused at start 0
-abbrev pub text_of : Bool → ℕ → Writing → List ℕ
-text_of mode number (Bytes s) = stepsText mode number s (steps s)
-text_of mode number (Refuse why) = refusalLine number 0 why
+unfoldable pub listing : Mode → List ℕ → List ℕ
+listing mode s = header ++ lines_text mode 1 (lines s)
 
--- what is printed of a line of input, its characters without the LF
-unfoldable pub frameText : Bool → ℕ → List ℕ → List ℕ
-frameText mode number line = text_of mode number (frame_of line)
+-- the same of those lines alone that have ended
+unfoldable pub listing_of_ended : Mode → List ℕ → List ℕ
+listing_of_ended mode s = header ++ lines_text mode 1 (take (length (lines s) - 1) (lines s))
 
--- what is printed of the rest of the input, where the line of this number has these characters so far: an LF ends a line, the last may lack it
-unfoldable pub inputText : Bool → ℕ → List ℕ → List ℕ → List ℕ
-inputText mode number line [] = frameText mode number line
-inputText mode number line (c ∷ s) =
-    if eqb c lineFeed then frameText mode number line ++ inputText mode (number + 1) [] s
-    else inputText mode number (line ++ (c ∷ [])) s
+-- what was read is listed, its whole lines
+abbrev pub Listed : Mode → Option (List ℕ) → Option (List ℕ) → Option (List ℕ) → Option (List ℕ) → Type 0
+Listed mode input left before after = (read : List ℕ) × Consumes input left read × Appends before after (listing_of_ended mode read)
 
--- what `list` prints of its input, whole
-unfoldable pub listing : Bool → List ℕ → List ℕ
-listing mode s = header ++ inputText mode 1 [] s
+-- of an error that the reader gave
+abbrev pub IfInput : Failure → Type 0 → Type 0
+IfInput (Input e) P = P
+IfInput (Output e) P = ⊤
 
--- the promise of the listing of a line: its text from a place of one buffer on, at most 239 bytes for two characters, and the frame that it spells in the other
-pub record ListsLine (mode : Bool) (number : ℕ) (line oldFrame newFrame old : List ℕ) (at : ℕ) (new : List ℕ) (r : ℕ) : Type 0 where
-  pub text : Put (length line * 239 / 2) old at (frameText mode number line) new r
-  pub frame : newFrame ≡ leaves (frame_of line) oldFrame
+-- a line that began with some characters, and the lines after it
+abbrev pub goes_on : List ℕ → List (List ℕ) → List (List ℕ)
+goes_on line [] = line ∷ []
+goes_on line (l ∷ ls) = (line ++ l) ∷ ls
+
+-- where the program stands: of what was `read`, `rest` is still to be looked at. The lines that have ended are listed, and of the one under way no more
+-- is held than tells that it is too long
+pub record Reading (mode : Mode) (read rest : List ℕ) (before now : Option (List ℕ)) (line : Line) : Type 0 where
+  pub done : List (List ℕ)
+  pub last : List ℕ
+  pub splits : (t : List ℕ) → lines (read ++ t) ≡ done ++ goes_on last (lines (rest ++ t))
+  pub number : line.number ≡ 1 + length done
+  pub held : line.digits.items ≡ take (longest + 1) last
+  pub written : Appends before now (header ++ lines_text mode 1 done)

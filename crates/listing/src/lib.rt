@@ -1,114 +1,199 @@
-// The text of a listing, formed in lent buffers. 01, "Listing".
+//! The listing of hexadecimal lines, an upload each: a row of text for each entry of an upload and for each refused step.
 #![tactic(auto)]
 
-ghost use Rattle.std.specs.Prelude.{◌≡◌, ◌+◌, ◌-◌, ◌*◌, ◌/◌, ◌≤◌, ◌<◌, length};
-ghost use Rattle.refusal.specs.Writing.{Writes, Bytes};
-ghost use Rattle.digits.specs.Text.{Put};
-ghost use Rattle.listing.specs.Listing.{header, stepText, ListsLine};
-ghost use Rattle.listing.specs.Inside.{stepNext, walkText};
+ghost use Rattle.std.specs.Prelude.{◌≡◌, ◌++◌, IfSome, IfErr, OnOk, List, take, [], ◌+◌, ◌-◌, ℕ, Option, codes, length};
+ghost use Rattle.std.specs.List.{flat_map};
+ghost use Rattle.std.specs.Io.KnownBytes.{Appends, Consumes};
+ghost use Rattle.refusal.specs.Refusal.{figures_of};
+ghost use Rattle.symbol.specs.Symbol.{symbol_of};
+ghost use Rattle.walk.specs.Pieces.{pieces};
+ghost use Rattle.listing.specs.declared.Failure.TheVariants.{Output};
+ghost use Rattle.listing.specs.Row.{refusal_row};
+ghost use Rattle.listing.specs.Listing.{row, line_text, header, listing, listing_of_ended, longest, IfInput, Listed, Reading};
 
-use refusal::{Refusal, Written};
-use walk::{Cursor, Step};
+pub mod row;
 
-// Bytes of a frame.
-pub const FRAME: usize = 16384;
+use memchr::memchr;
+use refusal::{Mode, Refusal};
+use row::{EntryRow, Hex, RefusalRow};
+use std::alloc::{AllocError, Global};
+use std::io;
+use std::io::{ErrorKind, Read, Write};
+use symbol::{AdsSymbolInfo, Symbols};
+use walk::Piece;
 
-// Where the text of a step ends, and the place of the frame where the next step begins.
+// The digits of the longest frame, 16,384 bytes.
+const LONGEST: usize = 32768;
+
+/// Why a listing stopped: the reader failed, or the writer did or memory ran out.
+#[derive(Debug, Drop)]
+pub enum Failure {
+    Input(io::Error),
+    Output(io::Error),
+}
+
+// Only the reader's errors are told apart.
+impl From<io::Error> for Failure {
+    ghost from_gives = { λ e r. r ≡ Output e };
+
+    fn from(why: io::Error) -> Self {
+        Failure::Output(why)
+    }
+}
+
+#[tactic(auto, unfolding(crate::specs::Listing::row))]
+fn write_row<W: Write>(piece: Piece<AdsSymbolInfo<'_>>, line: u64, output: &mut W) -> io::Result<()>
+    ensures { OnOk result (Appends (W.contents output.old) (W.contents output.new) (row line piece.entry)) }
+{
+    let start = piece.start;
+    match piece.answer {
+        Ok(symbol) => {
+            let row = EntryRow {
+                line,
+                start,
+                info: &symbol,
+            };
+            writeln!(output, "{row}")
+        }
+        Err(why) => {
+            let row = RefusalRow {
+                line,
+                start,
+                figures: why.figures(),
+            };
+            writeln!(output, "{row}")
+        }
+    }
+}
+
+fn write_frame<W: Write>(frame: &[u8], mode: Mode, line: u64, output: &mut W) -> io::Result<()>
+    ensures { OnOk result (Appends (W.contents output.old) (W.contents output.new)
+        (flat_map (row line) (pieces (symbol_of mode) frame.entry))) }
+{
+    for piece in Symbols::new(frame, mode) {
+        write_row(piece, line, output)?;
+    }
+    Ok(())
+}
+
+fn write_bad_line<W: Write>(line: u64, output: &mut W) -> io::Result<()>
+    ensures { OnOk result (Appends (W.contents output.old) (W.contents output.new)
+        (refusal_row line 0 (figures_of Refusal.BadHexadecimal) ++ codes "\n")) }
+{
+    let row = RefusalRow {
+        line,
+        start: 0,
+        figures: Refusal::BadHexadecimal.figures(),
+    };
+    writeln!(output, "{row}")
+}
+
+// The line that is being read: what is above the longest that is good tells nothing more.
 #[derive(Drop)]
-struct Listed {
-    said: usize,
-    next: usize,
+struct Line {
+    number: u64,
+    digits: Vec<u8>,
 }
 
-// The line of column names.
-pub fn write_header(out: &mut [u8]) -> Written
-    ensures { Writes (Bytes header) out.old out.new result }
-{
-    if out.len() < 78 {
-        return Written::Refused(Refusal::OutputTooSmall {
-            needed: 78,
-            lent: out.len(),
-        });
+impl Line {
+    fn write<W: Write>(&self, mode: Mode, alloc: Global, output: &mut W) -> io::Result<()>
+        ensures { OnOk result (Appends (W.contents output.old) (W.contents output.new)
+            (line_text mode self.now.number self.now.digits.items)) }
+    {
+        if self.digits.len() > LONGEST {
+            return write_bad_line(self.number, output);
+        }
+        match hex::decode(alloc, self.digits.as_slice()) {
+            Ok(frame) => write_frame(&frame, mode, self.number, output),
+            Err(hex::FromHexError::OutOfMemory) => Err(io::Error::from(AllocError)),
+            Err(_) => write_bad_line(self.number, output),
+        }
     }
-    Written::Done(le::put_bytes(
-        out,
-        0,
+
+    // Adds the digits of a line that goes on.
+    #[tactic(auto, unfolding(le::specs::Le::part))]
+    fn hold(&mut self, digits: &[u8]) -> io::Result<()>
+        ensures number { self.new.number ≡ self.old.number }
+        ensures digits { OnOk result (self.new.digits.items ≡ self.old.digits.items ++ take (longest + 1 - length self.old.digits.items) digits.now) }
+    {
+        let room = (LONGEST + 1).saturating_sub(self.digits.len());
+        self.digits.extend_from_slice(le::part_of(digits, 0, room))?;
+        Ok(())
+    }
+
+    // Lists a line that has ended, and begins the next.
+    fn end<W: Write>(&mut self, mode: Mode, alloc: Global, output: &mut W) -> io::Result<()>
+        ensures text { OnOk result (Appends (W.contents output.old) (W.contents output.new)
+            (line_text mode self.old.number self.old.digits.items)) }
+        ensures number { OnOk result (self.new.number ≡ self.old.number + 1) }
+        ensures digits { OnOk result (self.new.digits.items ≡ []) }
+    {
+        self.write(mode, alloc, output)?;
+        if self.number == u64::MAX {
+            return Err(io::Error::from(ErrorKind::TimedOut));
+        }
+        self.number += 1;
+        self.digits.clear();
+        Ok(())
+    }
+
+    // Looks at a part of the input: the lines that end in it are listed.
+    fn take<W: Write>(
+        &mut self,
+        part: &[u8],
+        mode: Mode,
+        alloc: Global,
+        output: &mut W,
+    ) -> io::Result<()>
+        ensures { OnOk result ((read : List ℕ) (before : Option (List ℕ)) → Reading mode read part.now before (W.contents output.old) self.old
+            → Reading mode read [] before (W.contents output.new) self.new) }
+    {
+        let mut rest = part;
+        while let Some(end) = memchr(b'\n', rest) {
+            self.hold(le::part_of(rest, 0, end))?;
+            self.end(mode, alloc, output)?;
+            rest = le::part_of(rest, end + 1, rest.len());
+        }
+        self.hold(rest)
+    }
+}
+
+/// The listing of all that the input has left. Each line is listed as soon as it is whole.
+pub fn list<R: Read, W: Write>(
+    input: &mut R,
+    output: &mut W,
+    alloc: Global,
+    mode: Mode,
+) -> Result<(), Failure>
+    ensures whole { OnOk result (IfSome (R.remaining input.old) (λ s. Appends (W.contents output.old) (W.contents output.new) (listing mode s))) }
+
+    // At an error of the reader the lines that were read whole are listed.
+    ensures ended { IfErr result (λ e. IfInput e (Listed mode (R.remaining input.old) (R.remaining input.new) (W.contents output.old) (W.contents output.new))) }
+{
+    output.write_all(
         b"line at len group offset size type flags unread attrs refs name typename high\n",
-    ))
-}
-
-// The line of text of one step of the walk.
-fn put_step(
-    out: &mut [u8],
-    said: usize,
-    number: usize,
-    frame: &[u8],
-    checked: bool,
-    at: usize,
-) -> Listed
-    requires { (at < length frame.now) × (said + (length frame.now - at) * 239 ≤ length out.old) }
-    ensures { (Put ((stepNext frame.now at - at) * 239) out.old said (stepText checked number frame.now at) out.new result.said) × (result.next ≡ stepNext frame.now at) }
-{
-    let stepped = Cursor { at }.step(frame, checked);
-    let next = stepped.cursor.at;
-    if next == at {
-        return Listed {
-            said: rows::put_refusal(out, said, number, at, Refusal::ZeroEntryLength),
-            next: frame.len(),
-        };
-    }
-    let step = stepped.step;
-    match step {
-        Step::Finished => Listed { said, next },
-        Step::Record(info) => {
-            let e = le::part_of(frame, at, le::room(next, at));
-            Listed {
-                said: rows::put_entry(out, said, number, at, info, e, checked),
-                next,
+    )?;
+    let mut line = Line {
+        number: 1,
+        digits: Vec::new(alloc),
+    };
+    let mut part = [0u8; 8192];
+    for _ in 0..u64::MAX {
+        // Who follows the output sees each line as it ends, before more of the input is waited for.
+        output.flush()?;
+        match input.read(&mut part) {
+            Ok(0) => {
+                line.write(mode, alloc, output)?;
+                output.flush()?;
+                return Ok(());
+            }
+            Ok(n) => line.take(le::part_of(&part, 0, n), mode, alloc, output)?,
+            Err(why) => {
+                if why.kind() != ErrorKind::Interrupted {
+                    return Err(Failure::Input(why));
+                }
             }
         }
-        Step::Refused(why) => Listed {
-            said: rows::put_refusal(out, said, number, at, why),
-            next,
-        },
     }
-}
-
-// The text of a frame, of which no step prints more than 239 bytes for each byte that it moves. Every step moves, so there are no more steps than
-// bytes.
-fn put_frame(out: &mut [u8], start: usize, number: usize, frame: &[u8], checked: bool) -> usize
-    requires { start + length frame.now * 239 ≤ length out.old }
-    ensures { Put (length frame.now * 239) out.old start (walkText checked number frame.now 0 (length frame.now)) out.new result }
-{
-    let mut at = 0;
-    let mut said = start;
-    let mut left = frame.len();
-    while 0 < left {
-        left = left - 1;
-        if frame.len() <= at {
-            return said;
-        }
-        let step = put_step(out, said, number, frame, checked, at);
-        said = step.said;
-        at = step.next;
-    }
-    said
-}
-
-// The text of a line of input, at a place: a byte of a frame is two characters, and a line that is refused has at least one.
-pub fn list_line(
-    line: &[u8],
-    checked: bool,
-    number: usize,
-    frame: &mut [u8; FRAME],
-    out: &mut [u8],
-    said: usize,
-) -> usize
-    requires { said + length line.now * 239 / 2 ≤ length out.old }
-    ensures { ListsLine checked number line.now frame.old frame.new out.old said out.new result }
-{
-    match digits::read_frame(line, frame) {
-        Written::Done(n) => put_frame(out, said, number, le::part_of(frame, 0, n), checked),
-        Written::Refused(why) => rows::put_refusal(out, said, number, 0, why),
-    }
+    Err(Failure::Output(io::Error::from(ErrorKind::TimedOut)))
 }
