@@ -1,5 +1,7 @@
+pub mod Skip
+pub mod Front
+pub mod Tail
 pub mod Field
-pub mod Questions
-pub mod Inside
-pub mod Named
-pub mod Modes
+pub mod Own
+pub mod Kind
+pub mod Writing

@@ -6,10 +6,10 @@ use mathlib.Core.List.{List}
 use lib.ListN.{length}
 use borrow.Author.Tests.{le-leb}
 use Rattle.le.specs.Place.{begins}
-use Rattle.field.specs.Questions.{name_at, typeNameAt, commentAt, nameStart, typeNameStart, commentStart}
-use Rattle.field.specs.declared.AdsFieldInfo.{AdsFieldInfo}
-use Rattle.field.specs.declared.FieldAnswer.{FieldAnswer}
-use Rattle.field.specs.declared.FieldAnswer.TheVariants.{Record, Refused}
+use Rattle.old_field.specs.Questions.{name_at, typeNameAt, commentAt, nameStart, typeNameStart, commentStart}
+use Rattle.old_field.specs.declared.AdsFieldInfo.{AdsFieldInfo}
+use Rattle.old_field.specs.declared.FieldAnswer.{FieldAnswer}
+use Rattle.old_field.specs.declared.FieldAnswer.TheVariants.{Record, Refused}
 use Rattle.field_asked.specs.Asked.{nameBegins, typeNameBegins, commentBegins}
 
 -- the strings that an answer tells stand in these bytes

@@ -3,12 +3,12 @@
 
 ghost use Rattle.std.specs.Prelude.{◌≡◌};
 ghost use Rattle.le.specs.Place.{Behind};
-ghost use Rattle.field.specs.Questions.{name_of, typeNameOf, commentOf, shownNth, shownNamed};
-ghost use Rattle.entry.specs.Entry.{ownBytes};
+ghost use Rattle.old_field.specs.Questions.{name_of, typeNameOf, commentOf, shownNth, shownNamed};
+ghost use Rattle.old_entry.specs.Entry.{ownBytes};
 ghost use Rattle.field_asked.specs.Asked.{nameBegins, typeNameBegins, commentBegins};
 
 use attr::AttributeAnswer;
-use field::FieldAnswer;
+use old_field::FieldAnswer;
 use refusal::Refusal;
 
 pub fn name(bytes: &[u8], answer: FieldAnswer) -> &[u8]
@@ -53,7 +53,7 @@ pub fn attribute(bytes: &[u8], answer: FieldAnswer, number: usize) -> AttributeA
         FieldAnswer::Record(r) => {
             let shown = r.attributes;
             if number < shown.count {
-                return attr::attribute_nth(entry::own_bytes(bytes, 42), shown.first, number);
+                return attr::attribute_nth(old_entry::own_bytes(bytes, 42), shown.first, number);
             }
             AttributeAnswer::Refused(Refusal::NoSuchNumber {
                 count: shown.count,
@@ -71,7 +71,7 @@ pub fn attribute_named(bytes: &[u8], answer: FieldAnswer, name: &[u8]) -> Attrib
     match answer {
         FieldAnswer::Record(r) => {
             let shown = r.attributes;
-            attr::attribute_named(entry::own_bytes(bytes, 42), name, shown.first, shown.count)
+            attr::attribute_named(old_entry::own_bytes(bytes, 42), name, shown.first, shown.count)
         }
         FieldAnswer::Refused(why) => AttributeAnswer::Refused(why),
     }

@@ -10,7 +10,7 @@ use Rattle.refusal.specs.declared.Checked.{Checked}
 use Rattle.refusal.specs.declared.Checked.TheVariants.{Passed}
 use Rattle.refusal.proofs.Laws.{check-passed}
 use Rattle.attr.specs.Writing.{goodAttribute}
-use Rattle.field.specs.Field.{attributes}
+use Rattle.old_field.specs.Field.{attributes}
 use Rattle.wire.specs.Wire as wire
 use Rattle.wire.proofs.Laws.{fit, count_fits}
 use Rattle.wire.proofs.Read.{both-passed, block-good}

@@ -10,10 +10,10 @@ use Rattle.refusal.specs.Writing.{Bytes}
 use Rattle.refusal.proofs.Laws.{check-passed}
 use Rattle.refusal.proofs.DoneBy.{done-by}
 use Rattle.le.specs.Le.{part}
-use Rattle.entry.specs.Tells.{Entry}
-use Rattle.entry.specs.Demand3.{grown}
-use Rattle.entry.proofs.Whole.{Whole}
-use Rattle.entry.proofs.Demand3 as entries
+use Rattle.old_entry.specs.Tells.{Entry}
+use Rattle.old_entry.specs.Demand3.{grown}
+use Rattle.old_entry.proofs.Whole.{Whole}
+use Rattle.old_entry.proofs.Demand3 as entries
 use Rattle.field_walk.specs.Walk.{entry}
 use Rattle.field_walk.specs.Told.{stepTold}
 use Rattle.field_walk.proofs.Kind.{kind}

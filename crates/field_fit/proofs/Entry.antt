@@ -13,14 +13,14 @@ use Rattle.guid.specs.Guid.{guidAt, zeros16}
 use Rattle.guid.specs.declared.Guid.{Guid}
 use Rattle.guid.proofs.Read.{guid-read}
 use Rattle.attr.specs.declared.Attributes.{Attributes}
-use Rattle.field.specs.Field as fields
-use Rattle.field.specs.Field.{typeGuid, copyMask, attributes, stringsEnd, skipFrom, itemsEnd, attributesAfter, fieldWith, frontOf, fieldEntry}
+use Rattle.old_field.specs.Field as fields
+use Rattle.old_field.specs.Field.{typeGuid, copyMask, attributes, stringsEnd, skipFrom, itemsEnd, attributesAfter, fieldWith, frontOf, fieldEntry}
 use Rattle.refusal.specs.declared.Checked.TheVariants.{Passed}
 use Rattle.refusal.specs.Ends.{endsMet}
 use Rattle.refusal.proofs.Ends.{pass-in}
-use Rattle.entry.specs.Entry.{stringEnds}
+use Rattle.old_entry.specs.Entry.{stringEnds}
 use Rattle.attr.specs.Attribute.{attributeEnds}
-use Rattle.field.specs.declared.Tail.{Tail}
+use Rattle.old_field.specs.declared.Tail.{Tail}
 use Rattle.wire.proofs.Header as strings
 use Rattle.wire.specs.Wire.{attributesOf, entryOf}
 use Rattle.field_writer.specs.Writing.{flagged, guidOf}

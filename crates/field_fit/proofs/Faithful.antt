@@ -9,7 +9,7 @@ use lib.ListN.{length}
 use Rattle.refusal.specs.Writing.{counted, goodFrom}
 use Rattle.attr.specs.Writing.{goodAttribute}
 use Rattle.attr.specs.Told.{attributesIn}
-use Rattle.field.specs.Field.{typeGuid, attributes}
+use Rattle.old_field.specs.Field.{typeGuid, attributes}
 use Rattle.field_walk.specs.Told.{Field}
 use Rattle.record_fit.proofs.Given.{same-given}
 use Rattle.record_fit.proofs.Same.{same-attributes}

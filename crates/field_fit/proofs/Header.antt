@@ -5,7 +5,7 @@ use mathlib.Core.Path.{◌≡◌, refl}
 use mathlib.Core.List.{List, ◌++◌, append_assoc}
 use lib.ListN.{length}
 use Rattle.le.specs.Le.{le2, le4, bytes4, part}
-use Rattle.field.specs.Field.{typeGuid, copyMask, attributes}
+use Rattle.old_field.specs.Field.{typeGuid, copyMask, attributes}
 use Rattle.wire.specs.Wire.{lengthsOf, stringsOf, attributesOf, entryOf}
 use Rattle.wire.proofs.Laws as laws
 use Rattle.wire.proofs.Header as strings

@@ -11,21 +11,21 @@ use Rattle.le.specs.Le.{part}
 use Rattle.refusal.specs.Refusal.{limit}
 use Rattle.refusal.specs.Asked.{Given, asks}
 use Rattle.refusal.proofs.Asked.{asks-same}
-use Rattle.entry.specs.Entry.{ownBytes}
-use Rattle.entry.specs.Tells.{Entry}
-use Rattle.entry.proofs.Whole.{Whole}
-use Rattle.entry.proofs.Direct.{direct-whole, part-all, own-whole}
+use Rattle.old_entry.specs.Entry.{ownBytes}
+use Rattle.old_entry.specs.Tells.{Entry}
+use Rattle.old_entry.proofs.Whole.{Whole}
+use Rattle.old_entry.proofs.Direct.{direct-whole, part-all, own-whole}
 use Rattle.attr.specs.Attribute.{attributeNth}
 use Rattle.attr.specs.Told.{attributeTold, attributesIn, firstNamed}
 use Rattle.attr.proofs.Named.{told_named}
 use Rattle.attr.proofs.Asked.{section-asked}
 use Rattle.guid.specs.Guid.{zeros16}
 use Rattle.guid.proofs.Read.{guid-told}
-use Rattle.field.specs.Field.{typeGuid, attributes, infoOf, fieldWith, fieldRead}
-use Rattle.field.specs.Questions.{fieldName, fieldTypeName, fieldComment, fieldAttribute, fieldAttributeNamed}
-use Rattle.field.specs.declared.FieldAnswer.TheVariants.{Record}
-use Rattle.field.proofs.Named.{fields-named}
-use Rattle.field.specs.declared.AdsFieldInfo.{AdsFieldInfo}
+use Rattle.old_field.specs.Field.{typeGuid, attributes, infoOf, fieldWith, fieldRead}
+use Rattle.old_field.specs.Questions.{fieldName, fieldTypeName, fieldComment, fieldAttribute, fieldAttributeNamed}
+use Rattle.old_field.specs.declared.FieldAnswer.TheVariants.{Record}
+use Rattle.old_field.proofs.Named.{fields-named}
+use Rattle.old_field.specs.declared.AdsFieldInfo.{AdsFieldInfo}
 use Rattle.field_walk.specs.Walk.{entry}
 use Rattle.field_walk.specs.Told.{fieldTold, stepTold}
 use Rattle.wire.specs.Wire.{attributesOf, entryOf}

@@ -4,8 +4,8 @@ use mathlib.Core.Path.{◌≡◌, refl}
 use mathlib.Core.Bool.{false}
 use mathlib.Core.List.{[]}
 use Rattle.refusal.specs.Writing.{Bytes}
-use Rattle.entry.specs.Demand3.{grown, Grown}
-use Rattle.entry.proofs.Useless.{shuts-out}
+use Rattle.old_entry.specs.Demand3.{grown, Grown}
+use Rattle.old_entry.proofs.Useless.{shuts-out}
 use Rattle.guid.specs.Guid.{zeros16}
 use Rattle.field_walk.specs.Told.{stepTold, cursorOf}
 use Rattle.wire.specs.Wire.{lengthsOf, stringsOf, attributesOf, stringsChecked, entryOf, entryWriting}

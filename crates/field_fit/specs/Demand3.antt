@@ -4,10 +4,10 @@ use Rattle.std.proofs.Math.Option.{none, some}
 use Rattle.refusal.specs.Asked.{Given}
 use Rattle.refusal.specs.Writing.{Writing, Bytes, Writes}
 use Rattle.refusal.specs.declared.Written.TheVariants.{Done}
-use Rattle.entry.specs.Demand3.{Demand3}
-use Rattle.entry.specs.Useless.{ShutsOut}
+use Rattle.old_entry.specs.Demand3.{Demand3}
+use Rattle.old_entry.specs.Useless.{ShutsOut}
 use Rattle.attr.specs.Told.{attributesIn}
-use Rattle.field.specs.Field.{typeGuid, methodInfos, attributes}
+use Rattle.old_field.specs.Field.{typeGuid, methodInfos, attributes}
 use Rattle.field_walk.specs.Walk.{fieldStep}
 use Rattle.field_walk.specs.Told.{Field, stepTold, cursorOf}
 use Rattle.field_writer.specs.Writing.{flagged, fieldBytes, fieldWriting}

@@ -1,10 +1,10 @@
 -- What was written under a name is told for that name, stated: of the attributes of a fit field, the first that has it, and 13 where none has.
 use Rattle.std.specs.Prelude.{ℕ, ◌≤◌, ◌≡◌, Bool, List, length}
 use Rattle.refusal.specs.Refusal.{limit}
-use Rattle.entry.specs.Entry.{ownBytes}
-use Rattle.entry.specs.Demand3.{grown}
+use Rattle.old_entry.specs.Entry.{ownBytes}
+use Rattle.old_entry.specs.Demand3.{grown}
 use Rattle.attr.specs.Told.{attributeTold, attributesIn, firstNamed}
-use Rattle.field.specs.Questions.{fieldAttributeNamed}
+use Rattle.old_field.specs.Questions.{fieldAttributeNamed}
 use Rattle.field_fit.specs.Demand3.{Parts, bytes_of, Fit}
 
 -- of the entry's bytes, grown by any bytes at its end

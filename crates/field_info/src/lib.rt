@@ -1,23 +1,23 @@
 // Field entries, parsed directly from bytes of any kind, in the present or the checked mode. The Rust's field_info.rs; crate field has what stands below, and the record, and field_writer is its to_vec.
-#![tactic(auto, unfolding(field::specs::Field::fieldRead, field::specs::Questions::fieldName, field::specs::Questions::fieldTypeName, field::specs::Questions::fieldComment, field::specs::Questions::fieldNameAt, field::specs::Questions::fieldTypeNameAt, field::specs::Questions::fieldCommentAt, field::specs::Questions::fieldAttribute, field::specs::Questions::fieldAttributeNamed))]
+#![tactic(auto, unfolding(old_field::specs::Field::fieldRead, old_field::specs::Questions::fieldName, old_field::specs::Questions::fieldTypeName, old_field::specs::Questions::fieldComment, old_field::specs::Questions::fieldNameAt, old_field::specs::Questions::fieldTypeNameAt, old_field::specs::Questions::fieldCommentAt, old_field::specs::Questions::fieldAttribute, old_field::specs::Questions::fieldAttributeNamed))]
 
 ghost use Rattle.std.specs.Prelude.{◌≡◌};
 ghost use Rattle.le.specs.Place.{Behind};
-ghost use Rattle.field.specs.Field.{fieldRead};
-ghost use Rattle.field.specs.Questions.{fieldName, fieldTypeName, fieldComment, fieldNameAt, fieldTypeNameAt, fieldCommentAt, fieldAttribute, fieldAttributeNamed};
+ghost use Rattle.old_field.specs.Field.{fieldRead};
+ghost use Rattle.old_field.specs.Questions.{fieldName, fieldTypeName, fieldComment, fieldNameAt, fieldTypeNameAt, fieldCommentAt, fieldAttribute, fieldAttributeNamed};
 ghost use Rattle.attr.specs.Attribute.{nameIn, valueIn, name_at, value_at};
-ghost use Rattle.entry.specs.Entry.{ownBytes};
+ghost use Rattle.old_entry.specs.Entry.{ownBytes};
 
 use attr::AttributeAnswer;
-use entry::Claim;
-use field::{FieldAnswer, FieldRead};
+use old_entry::Claim;
+use old_field::{FieldAnswer, FieldRead};
 
 pub fn try_from_slice(bytes: &[u8], checked: bool) -> FieldRead
     ensures { result ≡ fieldRead checked bytes.now }
 {
-    match entry::direct_claim(bytes, 42) {
-        Claim::Entry(size) => field::read_entry(le::part_of(bytes, 0, size), checked),
-        Claim::Refused(why) => field::refused(why),
+    match old_entry::direct_claim(bytes, 42) {
+        Claim::Entry(size) => old_field::read_entry(le::part_of(bytes, 0, size), checked),
+        Claim::Refused(why) => old_field::refused(why),
     }
 }
 
@@ -53,7 +53,7 @@ pub fn attribute_name(bytes: &[u8], checked: bool, number: usize) -> &[u8]
     ensures behind { Behind bytes.entry result (name_at (fieldAttribute checked bytes.now number)) }
 {
     attr::name_in(
-        entry::own_bytes(bytes, 42),
+        old_entry::own_bytes(bytes, 42),
         attribute(bytes, checked, number),
     )
 }
@@ -63,7 +63,7 @@ pub fn attribute_value(bytes: &[u8], checked: bool, number: usize) -> &[u8]
     ensures behind { Behind bytes.entry result (value_at (fieldAttribute checked bytes.now number)) }
 {
     attr::value_in(
-        entry::own_bytes(bytes, 42),
+        old_entry::own_bytes(bytes, 42),
         attribute(bytes, checked, number),
     )
 }
@@ -79,7 +79,7 @@ pub fn attribute_value_named<'a>(bytes: &'a [u8], checked: bool, name: &[u8]) ->
     ensures behind { Behind bytes.entry result (value_at (fieldAttributeNamed checked bytes.now name.now)) }
 {
     attr::value_in(
-        entry::own_bytes(bytes, 42),
+        old_entry::own_bytes(bytes, 42),
         attribute_named(bytes, checked, name),
     )
 }

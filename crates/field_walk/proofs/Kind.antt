@@ -1,8 +1,8 @@
 -- A step over an upload of fields, by what it makes of an end, of an entry and of a refusal; so its walk is the one walk.
 use mathlib.Core.Path.{refl}
 use mathlib.Core.Bool.{Bool}
-use Rattle.entry.proofs.Demand3.{Kind, moves}
-use Rattle.entry.proofs.Laws.{one-walk}
+use Rattle.old_entry.proofs.Demand3.{Kind, moves}
+use Rattle.old_entry.proofs.Laws.{one-walk}
 use Rattle.field_walk.specs.Walk.{finished, entry, refused, fieldStep}
 use Rattle.field_walk.specs.Told.{stepTold, cursorOf, OneFieldWalk}
 

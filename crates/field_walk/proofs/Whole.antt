@@ -6,17 +6,17 @@ use mathlib.Core.Bool.{Bool}
 use mathlib.Core.List.{List}
 use lib.ListN.{length}
 use Rattle.le.specs.Le.{part}
-use Rattle.entry.specs.Entry.{claimAt, byMet}
-use Rattle.entry.specs.declared.Met.{Met}
-use Rattle.entry.specs.declared.Met.TheVariants as met
+use Rattle.old_entry.specs.Entry.{claimAt, byMet}
+use Rattle.old_entry.specs.declared.Met.{Met}
+use Rattle.old_entry.specs.declared.Met.TheVariants as met
 use Rattle.le.proofs.Laws.{length_part}
-use Rattle.entry.proofs.Claims.{meets, own-whole}
-use Rattle.entry.proofs.Direct.{direct-whole, part-all}
-use Rattle.field.specs.Field.{fieldEntry, fieldRead}
-use Rattle.field.specs.declared.AdsFieldInfo.{AdsFieldInfo}
-use Rattle.field.specs.declared.FieldAnswer.{FieldAnswer}
-use Rattle.field.specs.declared.FieldAnswer.TheVariants as answer
-use Rattle.field.proofs.Inside.{fields-inside}
+use Rattle.old_entry.proofs.Claims.{meets, own-whole}
+use Rattle.old_entry.proofs.Direct.{direct-whole, part-all}
+use Rattle.old_field.specs.Field.{fieldEntry, fieldRead}
+use Rattle.old_field.specs.declared.AdsFieldInfo.{AdsFieldInfo}
+use Rattle.old_field.specs.declared.FieldAnswer.{FieldAnswer}
+use Rattle.old_field.specs.declared.FieldAnswer.TheVariants as answer
+use Rattle.old_field.proofs.Inside.{fields-inside}
 use Rattle.field_walk.specs.declared.Step.TheVariants as step
 use Rattle.field_walk.specs.Walk.{finished, entry, refused, stepIs, fieldStep}
 use Rattle.field_walk.specs.Whole.{Reads, StepsRead}

@@ -2,15 +2,15 @@
 use Rattle.std.specs.Prelude.{ℕ, ◌-◌, Bool, List, if◌then◌else◌}
 use Rattle.std.proofs.Math.Option.{Option, none, some}
 use Rattle.le.specs.Le.{part}
-use Rattle.refusal.specs.Refusal.{figuresOf}
+use Rattle.refusal.specs.Refusal.{figures_of}
 use Rattle.refusal.specs.Asked.{Asked, asks}
-use Rattle.entry.specs.Entry.{ownBytes}
-use Rattle.entry.specs.Tells.{Tells, Entry, Refused, End}
-use Rattle.entry.specs.Walk.{OneWalk}
+use Rattle.old_entry.specs.Entry.{ownBytes}
+use Rattle.old_entry.specs.Tells.{Tells, Entry, Refused, End}
+use Rattle.old_entry.specs.Walk.{OneWalk}
 use Rattle.flags.specs.declared.type_flags.AdsTypeFlags.{AdsTypeFlags}
 use Rattle.attr.specs.Told.{Attribute, attributeTold}
-use Rattle.field.specs.Questions.{fieldName, fieldTypeName, fieldComment, fieldAttribute}
-use Rattle.field.specs.declared.AdsFieldInfo.{AdsFieldInfo}
+use Rattle.old_field.specs.Questions.{fieldName, fieldTypeName, fieldComment, fieldAttribute}
+use Rattle.old_field.specs.declared.AdsFieldInfo.{AdsFieldInfo}
 use Rattle.field_walk.specs.declared.Stepped.{Stepped}
 use Rattle.field_walk.specs.Walk.{by_step, fieldStep}
 
@@ -53,7 +53,7 @@ stepTold mode s t =
     by_step t.step
     (End t.cursor.at)
     (λ info. Entry (fieldTold mode info t.guid (part s (t.cursor.at - info.length) info.length)) info.length t.cursor.at)
-    (λ why. Refused (figuresOf why) t.cursor.at)
+    (λ why. Refused (figures_of why) t.cursor.at)
 
 -- the cursor beside an answer
 abbrev pub cursorOf : Stepped → ℕ

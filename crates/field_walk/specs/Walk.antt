@@ -2,12 +2,12 @@
 use Rattle.std.specs.Prelude.{ℕ, Bool, List}
 use Rattle.refusal.specs.declared.Refusal.{Refusal}
 use Rattle.guid.specs.Guid.{zeros16}
-use Rattle.entry.specs.Walk.{stepBy}
-use Rattle.field.specs.Field.{fieldEntry}
-use Rattle.field.specs.declared.AdsFieldInfo.{AdsFieldInfo}
-use Rattle.field.specs.declared.FieldAnswer.{FieldAnswer}
-use Rattle.field.specs.declared.FieldAnswer.TheVariants as answer
-use Rattle.field.specs.declared.FieldRead.{FieldRead}
+use Rattle.old_entry.specs.Walk.{stepBy}
+use Rattle.old_field.specs.Field.{fieldEntry}
+use Rattle.old_field.specs.declared.AdsFieldInfo.{AdsFieldInfo}
+use Rattle.old_field.specs.declared.FieldAnswer.{FieldAnswer}
+use Rattle.old_field.specs.declared.FieldAnswer.TheVariants as answer
+use Rattle.old_field.specs.declared.FieldRead.{FieldRead}
 use Rattle.field_walk.specs.declared.Step.{Step}
 use Rattle.field_walk.specs.declared.Step.TheVariants.{Finished, Record, Refused}
 use Rattle.field_walk.specs.declared.Stepped.{Stepped}

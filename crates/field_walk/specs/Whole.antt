@@ -1,9 +1,9 @@
 -- A step that gives a record gives what a direct parse of the entry's bytes gives, so that everything asked of these bytes is told of that record.
 use Rattle.std.specs.Prelude.{ℕ, ◌+◌, ◌≡◌, Bool, List}
 use Rattle.le.specs.Le.{part}
-use Rattle.field.specs.Field.{fieldRead}
-use Rattle.field.specs.declared.AdsFieldInfo.{AdsFieldInfo}
-use Rattle.field.specs.declared.FieldAnswer.TheVariants as answer
+use Rattle.old_field.specs.Field.{fieldRead}
+use Rattle.old_field.specs.declared.AdsFieldInfo.{AdsFieldInfo}
+use Rattle.old_field.specs.declared.FieldAnswer.TheVariants as answer
 use Rattle.field_walk.specs.declared.Step.TheVariants as step
 use Rattle.field_walk.specs.Walk.{fieldStep}
 

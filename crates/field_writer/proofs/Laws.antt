@@ -9,7 +9,7 @@ use lib.ListN.{length, set, length-append, length-replicate, replicate-append-re
 use Rattle.le.specs.Put.{put}
 use Rattle.le.proofs.Laws.{put-more}
 use Rattle.refusal.specs.declared.Checked.TheVariants.{Passed}
-use Rattle.field.specs.Field.{typeGuid, attributes}
+use Rattle.old_field.specs.Field.{typeGuid, attributes}
 use Rattle.wire.specs.Wire.{lengthsOf, stringsChecked, blockChecked, entryWriting, Fit}
 use Rattle.wire.proofs.Laws.{fit, count_fits, length-strings, length-attributes, length-entry}
 use Rattle.wire.proofs.Read.{both-passed}

@@ -5,7 +5,7 @@ use Rattle.refusal.specs.Writing.{Writing, afterCheck}
 use Rattle.refusal.specs.declared.Checked.{Checked}
 use Rattle.refusal.specs.declared.Checked.TheVariants.{Passed}
 use Rattle.guid.specs.Guid.{zeros16}
-use Rattle.field.specs.Field.{typeGuid, copyMask, attributes}
+use Rattle.old_field.specs.Field.{typeGuid, copyMask, attributes}
 use Rattle.wire.specs.Wire.{lengthsOf, stringsOf, attributesOf, thenCheck, stringsChecked, blockChecked, entryOf, entryWriting}
 use Rattle.field_writer.specs.declared.FieldNumbers.{FieldNumbers}
 

@@ -4,7 +4,7 @@
 ghost use Rattle.std.specs.Prelude.{◌≡◌, true, ◌+◌, ◌≤◌, length};
 ghost use Rattle.le.specs.Put.{Wrote};
 ghost use Rattle.refusal.specs.Writing.{Writes};
-ghost use Rattle.field.specs.Field.{attributes};
+ghost use Rattle.old_field.specs.Field.{attributes};
 ghost use Rattle.wire.specs.Wire.{Fit};
 ghost use Rattle.field_writer.specs.Writing.{flagged, numbersOf, headerOf, guidOf, zeros, mask_of, sectionsOf, fieldBytes, fieldChecked, fieldWriting, sizeIf, fieldSize};
 

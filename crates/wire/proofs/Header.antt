@@ -10,7 +10,7 @@ use Rattle.le.specs.Le.{part}
 use Rattle.le.proofs.Inside.{part-whole}
 use Rattle.refusal.specs.declared.Checked.TheVariants.{Passed}
 use Rattle.refusal.specs.Ends.{endsMet}
-use Rattle.entry.specs.Entry.{stringEnds}
+use Rattle.old_entry.specs.Entry.{stringEnds}
 use Rattle.wire.specs.Wire.{stringsOf}
 use Rattle.wire.proofs.Laws.{length-strings}
 

@@ -15,8 +15,8 @@ use Rattle.refusal.specs.declared.Checked.{Checked}
 use Rattle.refusal.specs.declared.Checked.TheVariants.{Passed, Refused}
 use Rattle.refusal.proofs.Laws.{passed, exact}
 use Rattle.attr.specs.Writing.{goodAttribute, attributesChecked}
-use Rattle.entry.specs.Demand3.{grown}
-use Rattle.entry.proofs.Whole.{Whole}
+use Rattle.old_entry.specs.Demand3.{grown}
+use Rattle.old_entry.proofs.Whole.{Whole}
 use Rattle.wire.specs.Wire.{thenCheck, blockChecked, entryOf, entryWriting}
 use Rattle.wire.proofs.Laws as laws
 

@@ -1,7 +1,7 @@
 use Rattle.std.proofs.Common.{ap}
 use Rattle.le.proofs.Place.{at_place, at-start}
 use Rattle.attr.specs.Attribute.{name_at}
-use Rattle.field.proofs.Inside.{attribute-begun}
+use Rattle.old_field.proofs.Inside.{attribute-begun}
 use Rattle.field_info.proofs.attribute_name.Goals as goal
 
 pub returns-clause-behind : goal.returns-clause-behind

@@ -1,6 +1,6 @@
 use Rattle.std.proofs.Common.{sym, ◌∙◌}
-use Rattle.field.specs.Questions.{fieldCommentAt}
-use Rattle.field.proofs.Inside.{strings-there}
+use Rattle.old_field.specs.Questions.{fieldCommentAt}
+use Rattle.old_field.proofs.Inside.{strings-there}
 use Rattle.field_asked.proofs.Begins.{comment-begins}
 use Rattle.field_info.proofs.comment.Goals as goal
 

@@ -1,6 +1,6 @@
 use Rattle.std.proofs.Common.{sym, ◌∙◌}
-use Rattle.field.specs.Questions.{fieldNameAt}
-use Rattle.field.proofs.Inside.{strings-there}
+use Rattle.old_field.specs.Questions.{fieldNameAt}
+use Rattle.old_field.proofs.Inside.{strings-there}
 use Rattle.field_asked.proofs.Begins.{name-begins}
 use Rattle.field_info.proofs.name.Goals as goal
 

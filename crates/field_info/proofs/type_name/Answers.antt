@@ -1,6 +1,6 @@
 use Rattle.std.proofs.Common.{sym, ◌∙◌}
-use Rattle.field.specs.Questions.{fieldTypeNameAt}
-use Rattle.field.proofs.Inside.{strings-there}
+use Rattle.old_field.specs.Questions.{fieldTypeNameAt}
+use Rattle.old_field.proofs.Inside.{strings-there}
 use Rattle.field_asked.proofs.Begins.{type-name-begins}
 use Rattle.field_info.proofs.type_name.Goals as goal
 

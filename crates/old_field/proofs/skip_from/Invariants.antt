@@ -1,6 +1,6 @@
 use Rattle.std.proofs.Common.{◌≡◌}
-use Rattle.field.specs.Field.{skipFrom}
-use Rattle.field.proofs.skip_from.Given as goal
+use Rattle.old_field.specs.Field.{skipFrom}
+use Rattle.old_field.proofs.skip_from.Given as goal
 
 abbrev pub invariant-loop-left : goal.invariant-loop-left
 invariant-loop-left l = skipFrom l.e l.at l.left ≡ skipFrom l.fn.e l.fn.from l.fn.count

@@ -14,20 +14,20 @@ use Rattle.refusal.specs.declared.Refusal.TheVariants.{NoSuchNumber}
 use Rattle.refusal.specs.declared.Checked.{Checked}
 use Rattle.refusal.specs.declared.Checked.TheVariants as checked
 use Rattle.refusal.specs.Ends.{endsIn, byChecked}
-use Rattle.entry.specs.Entry.{ownBytes, stringEnds}
-use Rattle.entry.proofs.Direct.{own-accepted, own-short}
+use Rattle.old_entry.specs.Entry.{ownBytes, stringEnds}
+use Rattle.old_entry.proofs.Direct.{own-accepted, own-short}
 use Rattle.guid.specs.Guid.{guidAt}
 use Rattle.attr.specs.Attribute.{attributeNth}
 use Rattle.attr.specs.Inside as attribute
 use Rattle.attr.specs.declared.AttributeAnswer.TheVariants as attribute-answer
 use Rattle.attr.proofs.Shown.{attributes-inside, Begun, asked-begun}
-use Rattle.field.specs.declared.AdsFieldInfo.{AdsFieldInfo}
-use Rattle.field.specs.declared.FieldAnswer.{FieldAnswer}
-use Rattle.field.specs.declared.FieldAnswer.TheVariants.{Record, Refused}
-use Rattle.field.specs.declared.FieldRead.{FieldRead}
-use Rattle.field.specs.Field.{typeGuid, copyMask, methodInfos, attributes, stringsEnd, itemsEnd, maskEnd, methodsEnd, attributesAfter, infoOf, refused, tailOf, fieldWith, frontOf, fieldEntry, fieldRead}
-use Rattle.field.specs.Questions.{byField, fieldAttribute}
-use Rattle.field.specs.Inside.{Inside, FieldsInside, FieldsShown}
+use Rattle.old_field.specs.declared.AdsFieldInfo.{AdsFieldInfo}
+use Rattle.old_field.specs.declared.FieldAnswer.{FieldAnswer}
+use Rattle.old_field.specs.declared.FieldAnswer.TheVariants.{Record, Refused}
+use Rattle.old_field.specs.declared.FieldRead.{FieldRead}
+use Rattle.old_field.specs.Field.{typeGuid, copyMask, methodInfos, attributes, stringsEnd, itemsEnd, maskEnd, methodsEnd, attributesAfter, infoOf, refused, tailOf, fieldWith, frontOf, fieldEntry, fieldRead}
+use Rattle.old_field.specs.Questions.{byField, fieldAttribute}
+use Rattle.old_field.specs.Inside.{Inside, FieldsInside, FieldsShown}
 
 -- the attributes lie inside wherever the sections before them end
 after-inside : (e : List ℕ) (at flags k : ℕ) → k < (attributesAfter e at flags).list.shown → attribute.Inside e (attributeNth e (attributesAfter e at flags).first k)

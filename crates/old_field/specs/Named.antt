@@ -1,15 +1,15 @@
 -- What an answer to an attribute's name means: the answer to its number.
 use Rattle.std.specs.Prelude.{ℕ, ◌≡◌, Bool, List}
 use Rattle.refusal.specs.declared.Refusal.{Refusal}
-use Rattle.entry.specs.Entry.{ownBytes}
+use Rattle.old_entry.specs.Entry.{ownBytes}
 use Rattle.attr.specs.Named.{FirstNamed}
 use Rattle.attr.specs.declared.AttributeAnswer.{AttributeAnswer}
 use Rattle.attr.specs.declared.AttributeAnswer.TheVariants as attribute
-use Rattle.field.specs.declared.AdsFieldInfo.{AdsFieldInfo}
-use Rattle.field.specs.declared.FieldAnswer.{FieldAnswer}
-use Rattle.field.specs.declared.FieldAnswer.TheVariants.{Record, Refused}
-use Rattle.field.specs.Field.{fieldRead}
-use Rattle.field.specs.Questions.{fieldAttribute, fieldAttributeNamed}
+use Rattle.old_field.specs.declared.AdsFieldInfo.{AdsFieldInfo}
+use Rattle.old_field.specs.declared.FieldAnswer.{FieldAnswer}
+use Rattle.old_field.specs.declared.FieldAnswer.TheVariants.{Record, Refused}
+use Rattle.old_field.specs.Field.{fieldRead}
+use Rattle.old_field.specs.Questions.{fieldAttribute, fieldAttributeNamed}
 
 -- by a reader's answer t on an entry's own bytes e, and what is asked by number
 pub record AnswersName (t : FieldAnswer) (e name : List ℕ) (ask : ℕ → AttributeAnswer) (answer : AttributeAnswer) : Type 0 where

@@ -1,7 +1,7 @@
 use Rattle.std.proofs.Common.{sym, ◌∙◌}
 use borrow.Author.Tests.{lt-ltb, le-ltb}
-use Rattle.field.proofs.Laws.{skip_step, skip-none}
-use Rattle.field.proofs.skip_from.Goals as goal
+use Rattle.old_field.proofs.Laws.{skip_step, skip-none}
+use Rattle.old_field.proofs.skip_from.Goals as goal
 
 pub returns-then-room-lt4 : goal.returns-then-room-lt4
 returns-then-room-lt4 c =

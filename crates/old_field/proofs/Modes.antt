@@ -14,18 +14,18 @@ use Rattle.refusal.specs.Ends.{presentMode, checkedMode, endsMet, endsIn, byChec
 use Rattle.refusal.specs.EndsMeant.{AllZero}
 use Rattle.refusal.proofs.Ends.{ends-append}
 use Rattle.refusal.proofs.EndsMeant.{zero-passes, passed-zero, zero-both, both_zero, ends-meant}
-use Rattle.entry.specs.Entry.{stringEnds}
-use Rattle.entry.proofs.Strings.{strings-ended, ended-strings}
+use Rattle.old_entry.specs.Entry.{stringEnds}
+use Rattle.old_entry.proofs.Strings.{strings-ended, ended-strings}
 use Rattle.guid.specs.Guid.{guidAt}
 use Rattle.attr.specs.Attribute.{attributeEnds}
 use Rattle.attr.specs.declared.Attributes.{Attributes}
 use Rattle.attr.proofs.Modes.{nth-ended, all-ended}
-use Rattle.field.specs.declared.AdsFieldInfo.{AdsFieldInfo}
-use Rattle.field.specs.declared.Shown.{Shown}
-use Rattle.field.specs.declared.FieldRead.{FieldRead}
-use Rattle.field.specs.Field.{typeGuid, stringsEnd, itemsEnd, attributesAfter, infoOf, refused, endedBy, tailOf, fieldWith, frontOf, fieldEntry}
-use Rattle.field.specs.Modes.{EndedBy, Ended, fieldEnds, FieldsModes}
-use Rattle.field.proofs.Inside.{accepted, Accepted}
+use Rattle.old_field.specs.declared.AdsFieldInfo.{AdsFieldInfo}
+use Rattle.old_field.specs.declared.Shown.{Shown}
+use Rattle.old_field.specs.declared.FieldRead.{FieldRead}
+use Rattle.old_field.specs.Field.{typeGuid, stringsEnd, itemsEnd, attributesAfter, infoOf, refused, endedBy, tailOf, fieldWith, frontOf, fieldEntry}
+use Rattle.old_field.specs.Modes.{EndedBy, Ended, fieldEnds, FieldsModes}
+use Rattle.old_field.proofs.Inside.{accepted, Accepted}
 
 module _ (e : List ℕ) where
   abbrev at : ℕ

@@ -8,7 +8,7 @@ use lib.Dec.{ltb}
 use lib.ListN.{length}
 use borrow.Author.Tests.{ltb-false}
 use Rattle.refusal.specs.declared.Checked.TheVariants as checked
-use Rattle.field.specs.Field.{stringsEnd, frontOf}
+use Rattle.old_field.specs.Field.{stringsEnd, frontOf}
 
 fits_by : (mode : Bool) (e : List ℕ) (a b : Bool) → ltb (length e) 42 ≡ a → ltb (length e) (stringsEnd e) ≡ b → frontOf mode e ≡ checked.Passed → (42 ≤ length e) × (stringsEnd e ≤ length e)
 unfolding frontOf

@@ -4,15 +4,15 @@ use native.Mathlib.Omega.{arith}
 use mathlib.Core.Bool.{Bool}
 use mathlib.Core.List.{List}
 use borrow.Author.Tests.{lt-ltb}
-use Rattle.entry.specs.Entry.{ownBytes}
+use Rattle.old_entry.specs.Entry.{ownBytes}
 use Rattle.attr.proofs.Named.{by_number}
 use Rattle.attr.proofs.Shown.{Begun, named-begun}
-use Rattle.field.specs.declared.FieldAnswer.{FieldAnswer}
-use Rattle.field.specs.declared.FieldAnswer.TheVariants.{Record, Refused}
-use Rattle.field.specs.Field.{fieldRead}
-use Rattle.field.specs.Questions.{shownNamed, fieldAttribute, fieldAttributeNamed}
-use Rattle.field.specs.Named.{FieldsNamed}
-use Rattle.field.proofs.Inside.{fields-shown}
+use Rattle.old_field.specs.declared.FieldAnswer.{FieldAnswer}
+use Rattle.old_field.specs.declared.FieldAnswer.TheVariants.{Record, Refused}
+use Rattle.old_field.specs.Field.{fieldRead}
+use Rattle.old_field.specs.Questions.{shownNamed, fieldAttribute, fieldAttributeNamed}
+use Rattle.old_field.specs.Named.{FieldsNamed}
+use Rattle.old_field.proofs.Inside.{fields-shown}
 
 pub fields-named : FieldsNamed
 unfolding fieldAttribute fieldAttributeNamed

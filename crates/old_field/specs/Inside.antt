@@ -1,14 +1,14 @@
 -- Every place that a field accepted in whatever mode tells lies inside its entry, and what it shows comes back when it is asked for by number.
 use Rattle.std.specs.Prelude.{ℕ, ◌+◌, ◌<◌, ◌≤◌, ◌≡◌, Bool, List, length}
 use Rattle.refusal.specs.declared.Refusal.TheVariants.{NoSuchNumber}
-use Rattle.entry.specs.Entry.{ownBytes}
+use Rattle.old_entry.specs.Entry.{ownBytes}
 use Rattle.attr.specs.Attribute.{attributeNth}
 use Rattle.attr.specs.Inside as attribute
 use Rattle.attr.specs.declared.AttributeAnswer.TheVariants as attribute-answer
-use Rattle.field.specs.declared.AdsFieldInfo.{AdsFieldInfo}
-use Rattle.field.specs.declared.FieldAnswer.TheVariants.{Record}
-use Rattle.field.specs.Field.{fieldEntry, fieldRead}
-use Rattle.field.specs.Questions.{fieldAttribute}
+use Rattle.old_field.specs.declared.AdsFieldInfo.{AdsFieldInfo}
+use Rattle.old_field.specs.declared.FieldAnswer.TheVariants.{Record}
+use Rattle.old_field.specs.Field.{fieldEntry, fieldRead}
+use Rattle.old_field.specs.Questions.{fieldAttribute}
 
 -- the header of 42 bytes, three strings and their three end bytes; every attribute that is shown.
 -- Array counts and skipped lengths may pass the end: then no attribute is shown, and the place of the first is no place of the entry

@@ -4,14 +4,14 @@ use Rattle.le.specs.Le.{le2}
 use Rattle.refusal.specs.Ends.{presentMode, checkedMode}
 use Rattle.refusal.specs.EndsMeant.{FirstNot}
 use Rattle.refusal.specs.declared.Refusal.TheVariants.{EndByte}
-use Rattle.entry.specs.Entry.{stringEnds}
+use Rattle.old_entry.specs.Entry.{stringEnds}
 use Rattle.attr.specs.Attribute.{attributeNth, attributeEnds}
 use Rattle.attr.specs.Modes as attribute
-use Rattle.field.specs.declared.AdsFieldInfo.{AdsFieldInfo}
-use Rattle.field.specs.declared.FieldAnswer.TheVariants.{Record}
-use Rattle.field.specs.declared.Shown.{Shown}
-use Rattle.field.specs.declared.Tail.{Tail}
-use Rattle.field.specs.Field.{stringsEnd, itemsEnd, refused, tailOf, fieldEntry}
+use Rattle.old_field.specs.declared.AdsFieldInfo.{AdsFieldInfo}
+use Rattle.old_field.specs.declared.FieldAnswer.TheVariants.{Record}
+use Rattle.old_field.specs.declared.Shown.{Shown}
+use Rattle.old_field.specs.declared.Tail.{Tail}
+use Rattle.old_field.specs.Field.{stringsEnd, itemsEnd, refused, tailOf, fieldEntry}
 
 -- 0 follows each string that is met: of lengths n, t and k those after the header, and those of each attribute by its number, so many from a place on
 pub record EndedBy (e : List ℕ) (n t k : ℕ) (shown : Shown) : Type 0 where

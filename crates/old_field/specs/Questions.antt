@@ -3,14 +3,14 @@ use Rattle.std.specs.Prelude.{ℕ, ◌+◌, Bool, List, [], ltb, if◌then◌els
 use Rattle.le.specs.Le.{part}
 use Rattle.refusal.specs.declared.Refusal.{Refusal}
 use Rattle.refusal.specs.declared.Refusal.TheVariants.{NoSuchNumber}
-use Rattle.entry.specs.Entry.{ownBytes}
+use Rattle.old_entry.specs.Entry.{ownBytes}
 use Rattle.attr.specs.Attribute.{attributeNth, attributeNamed}
 use Rattle.attr.specs.declared.AttributeAnswer.{AttributeAnswer}
 use Rattle.attr.specs.declared.AttributeAnswer.TheVariants as attribute
-use Rattle.field.specs.declared.AdsFieldInfo.{AdsFieldInfo}
-use Rattle.field.specs.declared.FieldAnswer.{FieldAnswer}
-use Rattle.field.specs.declared.FieldAnswer.TheVariants.{Record, Refused}
-use Rattle.field.specs.Field.{fieldRead}
+use Rattle.old_field.specs.declared.AdsFieldInfo.{AdsFieldInfo}
+use Rattle.old_field.specs.declared.FieldAnswer.{FieldAnswer}
+use Rattle.old_field.specs.declared.FieldAnswer.TheVariants.{Record, Refused}
+use Rattle.old_field.specs.Field.{fieldRead}
 
 abbrev pub byField : {A : Type 0} → FieldAnswer → (AdsFieldInfo → A) → (Refusal → A) → A
 byField (Record r) on stop = on r

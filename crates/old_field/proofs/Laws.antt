@@ -8,7 +8,7 @@ use mathlib.Core.List.{List}
 use lib.Dec.{ltb}
 use lib.ListN.{length}
 use Rattle.le.specs.Le.{le4}
-use Rattle.field.specs.Field.{skipFrom}
+use Rattle.old_field.specs.Field.{skipFrom}
 
 module _ (e : List ℕ) (at : ℕ) where
   pub skip_step : (left : ℕ) → 0 < left → skipFrom e at left ≡ (if ltb (length e - at) 4 then at else skipFrom e (at + le4 e at) (left - 1))

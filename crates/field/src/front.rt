@@ -1,0 +1,100 @@
+//! What entries of fields and of data types begin with: the header's numbers and the strings.
+ghost use Rattle.std.specs.Prelude.{◌≡◌, ◌+◌, ◌≤◌, length};
+ghost use Rattle.refusal.specs.EndBytes.{ended};
+ghost use Rattle.field.specs.Front.{with_strings, string_ends, front_of};
+
+use flags::type_flags::AdsTypeFlags;
+use refusal::{Mode, Refusal};
+
+/// The header's numbers and the strings of an entry, and the bytes behind them.
+#[derive(Clone, Copy, Debug)]
+pub struct Front<'a> {
+    pub length: usize,
+    pub version: u32,
+    pub hash_value: u32,
+    pub type_hash_value: u32,
+    pub size: u32,
+    pub offset: u32,
+    pub type_id: u32,
+    pub flags: AdsTypeFlags,
+    pub name: &'a [u8],
+    pub type_name: &'a [u8],
+    pub comment: &'a [u8],
+    pub array_count: u16,
+    pub sub_item_count: u16,
+    /// What stands behind the strings.
+    pub rest: &'a [u8],
+}
+
+/// The front of an entry's own bytes whose strings have these lengths.
+#[tactic(auto, unfolding(crate::specs::Front::with_strings))]
+#[inline(always)]
+fn with_strings(own: &[u8], name: usize, type_name: usize, comment: usize) -> Front<'_>
+    requires { 45 + name + type_name + comment ≤ length own.now }
+    ensures { result ≡ with_strings own.entry name type_name comment }
+{
+    let type_at = 43 + name;
+    let comment_at = type_at + type_name + 1;
+    let rest_at = comment_at + comment + 1;
+    Front {
+        length: own.len(),
+        version: le::u32_at(own, 4),
+        hash_value: le::u32_at(own, 8),
+        type_hash_value: le::u32_at(own, 12),
+        size: le::u32_at(own, 16),
+        offset: le::u32_at(own, 20),
+        type_id: le::u32_at(own, 24),
+        flags: AdsTypeFlags(le::u32_at(own, 28)),
+        name: &own[42..42 + name],
+        type_name: &own[type_at..type_at + type_name],
+        comment: &own[comment_at..comment_at + comment],
+        array_count: le::u16_at(own, 38),
+        sub_item_count: le::u16_at(own, 40),
+        rest: &own[rest_at..],
+    }
+}
+
+/// Refuses the first end byte that is not 0 of strings of these lengths.
+#[tactic(auto, using(refusal::proofs::EndBytes::ended_passed, refusal::proofs::EndBytes::ended_refused, refusal::proofs::EndBytes::ended_none))]
+fn check_ends(own: &[u8], name: usize, type_name: usize, comment: usize) -> Result<(), Refusal>
+    requires { 45 + name + type_name + comment ≤ length own.now }
+    ensures { result ≡ ended (string_ends own.now name type_name comment) }
+{
+    let name_end = 42 + name;
+    let type_end = name_end + 1 + type_name;
+    let comment_end = type_end + 1 + comment;
+    refusal::check_end(name_end, own[name_end])?;
+    refusal::check_end(type_end, own[type_end])?;
+    refusal::check_end(comment_end, own[comment_end])
+}
+
+impl<'a> Front<'a> {
+    /// Reads the front of an entry's own bytes.
+    #[tactic(auto, unfolding(crate::specs::Front::front_of))]
+    #[inline(always)]
+    pub fn read(own: &'a [u8], mode: Mode) -> Result<Front<'a>, Refusal>
+        ensures { result ≡ front_of mode own.entry }
+    {
+        let length = own.len();
+        if length < 42 {
+            return Err(Refusal::TooShort {
+                needed: 42,
+                present: length,
+            });
+        }
+        let name = le::u16_at(own, 32) as usize;
+        let type_name = le::u16_at(own, 34) as usize;
+        let comment = le::u16_at(own, 36) as usize;
+        let needed = 45 + name + type_name + comment;
+        if length < needed {
+            return Err(Refusal::EntryLengthMismatch {
+                needed,
+                available: length,
+            });
+        }
+        if mode == Mode::Checked {
+            check_ends(own, name, type_name, comment)?;
+        }
+        Ok(with_strings(own, name, type_name, comment))
+    }
+}

@@ -1,0 +1,82 @@
+//! What entries of fields and of data types end with: GUID, copy mask, methods and attributes.
+ghost use Rattle.std.specs.Prelude.{◌≡◌};
+ghost use Rattle.le.specs.Le.{has};
+ghost use Rattle.refusal.specs.EndBytes.{ended};
+ghost use Rattle.field.specs.Tail.{guid_of, after_mask, after_methods, attributes_of, sections_of, complete, attribute_ends, tail_of};
+
+use crate::front::Front;
+use crate::skip::{after_items, ahead};
+use attribute::Attributes;
+use refusal::{Mode, Refusal};
+
+/// What stands behind the sub-items of an entry.
+#[derive(Clone, Copy, Debug)]
+pub struct Tail<'a> {
+    pub guid: Option<[u8; 16]>,
+    pub attributes: Attributes<'a>,
+}
+
+#[inline(always)]
+fn read_guid(rest: &[u8], flagged: bool) -> (Option<[u8; 16]>, &[u8])
+    ensures { result ≡ guid_of rest.entry flagged }
+{
+    if flagged && let Some((guid, _)) = rest.split_first_chunk::<16>() {
+        return (Some(*guid), &rest[16..]);
+    }
+    (None, rest)
+}
+
+#[inline(always)]
+fn skip_mask(rest: &[u8], size: usize, flagged: bool) -> &[u8]
+    ensures { result ≡ after_mask rest.entry size flagged }
+{
+    if flagged { ahead(rest, size) } else { rest }
+}
+
+#[inline(always)]
+fn skip_methods(rest: &[u8], flagged: bool) -> &[u8]
+    ensures { result ≡ after_methods rest.entry flagged }
+{
+    if !flagged || rest.len() < 2 {
+        return rest;
+    }
+    after_items(&rest[2..], le::u16_at(rest, 0) as usize)
+}
+
+/// The attributes, and why there are no more, if one was refused.
+#[inline(always)]
+fn read_attributes(rest: &[u8], flagged: bool) -> (Attributes<'_>, Option<Refusal>)
+    ensures { result ≡ attributes_of rest.entry flagged }
+{
+    if !flagged || rest.len() < 2 {
+        let none = Attributes {
+            bytes: rest,
+            count: 0,
+        };
+        return (none, None);
+    }
+    let found = attribute::list_with_reason(&rest[2..], le::u16_at(rest, 0) as usize);
+    (found.attributes, found.stopped)
+}
+
+impl<'a> Tail<'a> {
+    /// Reads the tail of an entry with this front, from the bytes behind its sub-items on.
+    #[tactic(auto, unfolding(crate::specs::Tail::tail_of))]
+    #[inline(always)]
+    pub fn read(front: &Front<'_>, rest: &'a [u8], mode: Mode) -> Result<Tail<'a>, Refusal>
+        ensures { result ≡ tail_of mode front.now rest.entry }
+    {
+        let flags = front.flags;
+        let (guid, rest) = read_guid(rest, flags.has_type_guid());
+        let rest = skip_mask(rest, front.size as usize, flags.has_copy_mask());
+        let rest = skip_methods(rest, flags.has_method_infos());
+        let (attributes, stopped) = read_attributes(rest, flags.has_attributes());
+        if mode == Mode::Checked {
+            attributes.check_ends(front.length.saturating_sub(attributes.bytes.len()))?;
+        }
+        match stopped {
+            None => Ok(Tail { guid, attributes }),
+            Some(why) => Err(why),
+        }
+    }
+}

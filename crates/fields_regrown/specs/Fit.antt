@@ -1,0 +1,87 @@
+-- docs/FORMAT.md, "Fit records": which fields come back from the walk, and what of them.
+use Rattle.std.specs.Prelude.{ℕ, ◌<◌, ◌≡◌, Bool, false, List, Option, Some, None, is_some, Result, Ok, length}
+use Rattle.flags.specs.declared.type_flags.AdsTypeFlags.{AdsTypeFlags}
+use Rattle.attribute.specs.Attribute.{listed}
+use Rattle.attribute.specs.Told as attribute
+use Rattle.field.specs.declared.AdsFieldInfo.{AdsFieldInfo}
+use Rattle.field.specs.declared.writer.NewField.{NewField}
+use Rattle.field.specs.Tail.{type_guid_flag, method_infos_flag, attributes_flag}
+use Rattle.field.specs.Writing.{flagged, field_bytes, field_written}
+
+-- 16 bytes, if any
+abbrev pub IsGuid : Option (List ℕ) → Type 0
+IsGuid (Some guid) = length guid ≡ 16
+IsGuid None = Unit {0}
+
+-- what the types of a field to be written say: each number fits its width, and a GUID has 16 bytes
+pub record IsTyped (p : NewField) : Type 0 where
+  pub version : p.version < 4294967296
+  pub hash_value : p.hash_value < 4294967296
+  pub type_hash_value : p.type_hash_value < 4294967296
+  pub size : p.size < 4294967296
+  pub offset : p.offset < 4294967296
+  pub type_id : p.type_id < 4294967296
+  pub flags : p.flags.0 < 4294967296
+  pub guid : IsGuid p.guid
+
+-- the method flag is clear, the GUID present exactly if flagged, and the attribute block empty and its count 0 unless flagged
+pub record Agrees (p : NewField) : Type 0 where
+  pub no_methods : flagged p method_infos_flag ≡ false
+  pub guid_agrees : is_some p.guid ≡ flagged p type_guid_flag
+  pub no_block : flagged p attributes_flag ≡ false → length p.attributes.bytes.now ≡ 0
+  pub no_count : flagged p attributes_flag ≡ false → p.attributes.count ≡ 0
+
+pub record Fit (p : NewField) : Type 0 where
+  pub typed : IsTyped p
+  pub accepted : field_written p ≡ Ok (field_bytes p)
+  pub agrees : Agrees p
+
+-- all that a field tells: no part of where it stands
+pub record Told : Type 0 where
+  pub version : ℕ
+  pub hash_value : ℕ
+  pub type_hash_value : ℕ
+  pub size : ℕ
+  pub offset : ℕ
+  pub type_id : ℕ
+  pub flags : AdsTypeFlags
+  pub name : List ℕ
+  pub type_name : List ℕ
+  pub comment : List ℕ
+  pub guid : Option (List ℕ)
+  pub attributes : List attribute.Told
+
+abbrev pub told : AdsFieldInfo → Told
+told r =
+    record {
+      version = r.version;
+      hash_value = r.hash_value;
+      type_hash_value = r.type_hash_value;
+      size = r.size;
+      offset = r.offset;
+      type_id = r.type_id;
+      flags = r.flags;
+      name = r.name.now;
+      type_name = r.type_name.now;
+      comment = r.comment.now;
+      guid = r.guid;
+      attributes = attribute.told (listed r.attributes.bytes r.attributes.count);
+    }
+
+-- what a field that is written means; the bytes that its entry is grown by are not told
+abbrev pub meant : NewField → List ℕ → Told
+meant p extra =
+    record {
+      version = p.version;
+      hash_value = p.hash_value;
+      type_hash_value = p.type_hash_value;
+      size = p.size;
+      offset = p.offset;
+      type_id = p.type_id;
+      flags = p.flags;
+      name = p.name.now;
+      type_name = p.type_name.now;
+      comment = p.comment.now;
+      guid = p.guid;
+      attributes = attribute.told (listed p.attributes.bytes p.attributes.count);
+    }

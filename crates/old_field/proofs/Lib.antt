@@ -1,0 +1,5 @@
+pub mod Laws
+pub mod Inside
+pub mod Named
+pub mod Modes
+pub mod Front

@@ -1,0 +1,5 @@
+pub mod Field
+pub mod Questions
+pub mod Inside
+pub mod Named
+pub mod Modes
