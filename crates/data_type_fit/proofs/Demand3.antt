@@ -8,12 +8,12 @@ use lib.ListN.{length}
 use Rattle.le.specs.Le.{le2, part}
 use Rattle.refusal.specs.Refusal.{limit}
 use Rattle.refusal.proofs.Laws.{check-passed}
-use Rattle.entry.specs.Tells.{Entry}
-use Rattle.entry.specs.Demand3.{grown, Grown}
-use Rattle.entry.proofs.Whole.{Whole}
-use Rattle.entry.proofs.Demand3 as entries
-use Rattle.entry.proofs.Demand3.{Kind}
-use Rattle.entry.proofs.Useless.{shuts-out}
+use Rattle.old_entry.specs.Tells.{Entry}
+use Rattle.old_entry.specs.Demand3.{grown, Grown}
+use Rattle.old_entry.proofs.Whole.{Whole}
+use Rattle.old_entry.proofs.Demand3 as entries
+use Rattle.old_entry.proofs.Demand3.{Kind}
+use Rattle.old_entry.proofs.Useless.{shuts-out}
 use Rattle.wire.specs.Wire.{entryOf, entryWriting}
 use Rattle.wire.proofs.Laws.{length-entry}
 use Rattle.wire.proofs.Read.{entry-small}

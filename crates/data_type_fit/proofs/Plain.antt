@@ -14,14 +14,14 @@ use Rattle.refusal.specs.declared.Refusal.TheVariants.{EntryLengthMismatch}
 use Rattle.refusal.specs.declared.Checked.{Checked}
 use Rattle.refusal.specs.declared.Checked.TheVariants as checked
 use Rattle.refusal.specs.Ends.{byChecked}
-use Rattle.field.specs.Field as fields
-use Rattle.field.specs.Field.{stringsEnd, skipFrom, itemsEnd, frontOf, tailOf, fieldWith, fieldEntry}
-use Rattle.field.specs.declared.FieldAnswer.{FieldAnswer}
-use Rattle.field.specs.declared.FieldAnswer.TheVariants as field
-use Rattle.field.specs.declared.FieldRead.{FieldRead}
-use Rattle.data_type.specs.DataType.{Tree, Refused, byItems, itemsFrom, arraysEnd, tree_of, entryWith}
-use Rattle.data_type.specs.Told.{item_at}
-use Rattle.data_type.proofs.Laws.{entry-step}
+use Rattle.old_field.specs.Field as fields
+use Rattle.old_field.specs.Field.{stringsEnd, skipFrom, itemsEnd, frontOf, tailOf, fieldWith, fieldEntry}
+use Rattle.old_field.specs.declared.FieldAnswer.{FieldAnswer}
+use Rattle.old_field.specs.declared.FieldAnswer.TheVariants as field
+use Rattle.old_field.specs.declared.FieldRead.{FieldRead}
+use Rattle.old_data_type.specs.DataType.{Tree, Refused, byItems, itemsFrom, arraysEnd, tree_of, entryWith}
+use Rattle.old_data_type.specs.Told.{item_at}
+use Rattle.old_data_type.proofs.Laws.{entry-step}
 use Rattle.data_type_fit.specs.Plain.{plain_of, PlainEntries}
 
 -- strings that a front passed with are there

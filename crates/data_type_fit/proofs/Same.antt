@@ -9,22 +9,22 @@ use Rattle.le.specs.Le.{le2, part}
 use Rattle.refusal.specs.Refusal.{limit}
 use Rattle.refusal.specs.Asked.{asks}
 use Rattle.refusal.proofs.Asked.{asks-same}
-use Rattle.entry.specs.Entry.{ownBytes}
-use Rattle.entry.specs.Tells.{Entry}
-use Rattle.entry.proofs.Whole.{Whole}
-use Rattle.entry.proofs.Direct.{direct-whole, part-all}
+use Rattle.old_entry.specs.Entry.{ownBytes}
+use Rattle.old_entry.specs.Tells.{Entry}
+use Rattle.old_entry.proofs.Whole.{Whole}
+use Rattle.old_entry.proofs.Direct.{direct-whole, part-all}
 use Rattle.attr.specs.Told.{attributeTold}
-use Rattle.field.specs.Field.{fieldEntry, fieldRead}
-use Rattle.field.specs.Questions.{name_of, typeNameOf, commentOf, shownNth, fieldName, fieldTypeName, fieldComment, fieldAttribute}
-use Rattle.field.specs.declared.AdsFieldInfo.{AdsFieldInfo}
-use Rattle.field.specs.declared.FieldAnswer.{FieldAnswer}
-use Rattle.field.specs.declared.FieldAnswer.TheVariants as field
-use Rattle.field.specs.declared.FieldRead.{FieldRead}
+use Rattle.old_field.specs.Field.{fieldEntry, fieldRead}
+use Rattle.old_field.specs.Questions.{name_of, typeNameOf, commentOf, shownNth, fieldName, fieldTypeName, fieldComment, fieldAttribute}
+use Rattle.old_field.specs.declared.AdsFieldInfo.{AdsFieldInfo}
+use Rattle.old_field.specs.declared.FieldAnswer.{FieldAnswer}
+use Rattle.old_field.specs.declared.FieldAnswer.TheVariants as field
+use Rattle.old_field.specs.declared.FieldRead.{FieldRead}
 use Rattle.field_walk.specs.Walk as fields
 use Rattle.field_walk.specs.Told as Fields-told
 use Rattle.field_walk.specs.Told.{Field}
-use Rattle.data_type.specs.DataType.{Tree, levels, typeRead, read_of}
-use Rattle.data_type.specs.Questions.{asField, fieldAnswer, typeName, typeTypeName, typeComment, typeAttribute}
+use Rattle.old_data_type.specs.DataType.{Tree, levels, typeRead, read_of}
+use Rattle.old_data_type.specs.Questions.{asField, fieldAnswer, typeName, typeTypeName, typeComment, typeAttribute}
 use Rattle.data_type_walk.specs.Walk.{step_of, entry}
 use Rattle.data_type_fit.specs.Told.{DataType, fieldTold, typeTold, stepTold}
 use Rattle.data_type_fit.specs.Plain.{plain, plain_of}

@@ -1,8 +1,8 @@
 -- Demand 3 for data types, stated (W-202): fit fields, written one after another, each entry grown by any bytes at its end, come back from the walk over data
 -- types, in whatever mode, with the same field told, no array record and no member.
 use Rattle.std.specs.Prelude.{ℕ, Bool, List, []}
-use Rattle.entry.specs.Demand3.{Demand3}
-use Rattle.entry.specs.Useless.{ShutsOut}
+use Rattle.old_entry.specs.Demand3.{Demand3}
+use Rattle.old_entry.specs.Useless.{ShutsOut}
 use Rattle.field_fit.specs.Demand3.{Parts, bytes_of, Fit, fieldMeant}
 use Rattle.data_type_walk.specs.Walk.{typeStep}
 use Rattle.data_type_walk.specs.Whole.{cursorOf}

@@ -1,12 +1,12 @@
 -- An entry with no array record and no sub-item is read as a field is: the same record or the same refusal, whatever its bytes, with no member.
 use Rattle.std.specs.Prelude.{ℕ, ◌≡◌, Bool, List, []}
 use Rattle.le.specs.Le.{le2}
-use Rattle.field.specs.Field.{fieldEntry}
-use Rattle.field.specs.Questions.{byField}
-use Rattle.field.specs.declared.AdsFieldInfo.{AdsFieldInfo}
-use Rattle.field.specs.declared.FieldRead.{FieldRead}
-use Rattle.data_type.specs.DataType.{Tree, Read, Refused, typeEntry}
-use Rattle.data_type.specs.declared.AdsDataTypeInfo.{AdsDataTypeInfo}
+use Rattle.old_field.specs.Field.{fieldEntry}
+use Rattle.old_field.specs.Questions.{byField}
+use Rattle.old_field.specs.declared.AdsFieldInfo.{AdsFieldInfo}
+use Rattle.old_field.specs.declared.FieldRead.{FieldRead}
+use Rattle.old_data_type.specs.DataType.{Tree, Read, Refused, typeEntry}
+use Rattle.old_data_type.specs.declared.AdsDataTypeInfo.{AdsDataTypeInfo}
 
 abbrev pub plain : AdsFieldInfo → AdsDataTypeInfo
 plain info = record { field = info; array_count = 0; sub_item_count = 0; members = 0 }

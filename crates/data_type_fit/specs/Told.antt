@@ -2,16 +2,16 @@
 use Rattle.std.specs.Prelude.{ℕ, ◌-◌, Bool, List, take, if◌then◌else◌}
 use Rattle.std.proofs.Math.Option.{Option, none, some}
 use Rattle.le.specs.Le.{part}
-use Rattle.refusal.specs.Refusal.{figuresOf}
+use Rattle.refusal.specs.Refusal.{figures_of}
 use Rattle.refusal.specs.Asked as asked
 use Rattle.refusal.specs.Asked.{Asked, asks}
-use Rattle.entry.specs.Entry.{ownBytes}
-use Rattle.entry.specs.Tells.{Tells, Entry, Refused, End}
+use Rattle.old_entry.specs.Entry.{ownBytes}
+use Rattle.old_entry.specs.Tells.{Tells, Entry, Refused, End}
 use Rattle.attr.specs.Told.{attributeTold}
-use Rattle.field.specs.declared.AdsFieldInfo.{AdsFieldInfo}
+use Rattle.old_field.specs.declared.AdsFieldInfo.{AdsFieldInfo}
 use Rattle.field_walk.specs.Told.{Field}
-use Rattle.data_type.specs.Questions.{typeName, typeTypeName, typeComment, typeAttribute}
-use Rattle.data_type.specs.declared.AdsDataTypeInfo.{AdsDataTypeInfo}
+use Rattle.old_data_type.specs.Questions.{typeName, typeTypeName, typeComment, typeAttribute}
+use Rattle.old_data_type.specs.declared.AdsDataTypeInfo.{AdsDataTypeInfo}
 use Rattle.data_type_info.specs.Arrays.{typeArray}
 use Rattle.data_type_info.specs.declared.AdsArrayInfo.{AdsArrayInfo}
 use Rattle.data_type_info.specs.declared.ArrayAnswer.{ArrayAnswer}
@@ -38,7 +38,7 @@ pub record DataType : Type 0 where
 
 abbrev pub arrayTold : ArrayAnswer → Asked AdsArrayInfo
 arrayTold (array.Record a) = asked.Given a
-arrayTold (array.Refused why) = asked.Refused (figuresOf why)
+arrayTold (array.Refused why) = asked.Refused (figures_of why)
 
 -- an answer with the bytes of the GUID and the slots of the path beside it: a member at depth d has d - 1 places
 abbrev pub memberTold : MemberAnswer → List ℕ → List ℕ → Asked Member
@@ -51,7 +51,7 @@ memberTold (member.Record m) guid path =
       guid = if m.info.field.has_guid then some guid else none;
       path = take (m.depth - 1) path;
     })
-memberTold (member.Refused why) guid path = asked.Refused (figuresOf why)
+memberTold (member.Refused why) guid path = asked.Refused (figures_of why)
 
 -- the field in the record of a step, with its GUID, by what is asked of a data type entry's bytes e: its strings, and each attribute by its number
 abbrev pub fieldTold : Bool → AdsFieldInfo → List ℕ → List ℕ → Field
@@ -86,4 +86,4 @@ stepTold mode s t =
     by_step t.step
     (End t.cursor.at)
     (λ info. Entry (typeTold mode info t.guid (part s (t.cursor.at - info.field.length) info.field.length)) info.field.length t.cursor.at)
-    (λ why. Refused (figuresOf why) t.cursor.at)
+    (λ why. Refused (figures_of why) t.cursor.at)

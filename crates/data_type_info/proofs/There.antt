@@ -10,23 +10,23 @@ use Rattle.le.proofs.Laws.{length_part}
 use Rattle.refusal.specs.declared.Checked.{Checked}
 use Rattle.refusal.specs.declared.Checked.TheVariants as checked
 use Rattle.refusal.specs.Ends.{byChecked}
-use Rattle.entry.specs.Entry.{ownBytes}
+use Rattle.old_entry.specs.Entry.{ownBytes}
 use Rattle.attr.proofs.Shown.{Begun}
-use Rattle.field.specs.Field.{stringsEnd, infoOf, refused, tailOf, fieldWith}
-use Rattle.field.specs.declared.AdsFieldInfo.{AdsFieldInfo}
-use Rattle.field.specs.declared.FieldAnswer.TheVariants as field
-use Rattle.field.specs.declared.Tail.{Tail}
-use Rattle.field.proofs.Inside.{attribute-of}
-use Rattle.field.proofs.Named.{named-of}
-use Rattle.data_type.specs.declared.AdsDataTypeInfo.{AdsDataTypeInfo}
-use Rattle.data_type.specs.declared.TypeAnswer.{TypeAnswer}
-use Rattle.data_type.specs.declared.TypeAnswer.TheVariants as answer
-use Rattle.data_type.specs.DataType.{Member, Tree, Read, Refused, levels, arraysEnd, typeEntry, typeRead, read_of}
-use Rattle.data_type.specs.Told.{item_at}
-use Rattle.data_type.specs.Questions.{asField, fieldAnswer, arraysAt, typeAttribute, typeAttributeNamed}
-use Rattle.data_type.proofs.Accepted.{accepted, tree_is}
-use Rattle.data_type.proofs.Direct.{parsed, meets}
-use Rattle.data_type.proofs.Laws.{entry-step}
+use Rattle.old_field.specs.Field.{stringsEnd, infoOf, refused, tailOf, fieldWith}
+use Rattle.old_field.specs.declared.AdsFieldInfo.{AdsFieldInfo}
+use Rattle.old_field.specs.declared.FieldAnswer.TheVariants as field
+use Rattle.old_field.specs.declared.Tail.{Tail}
+use Rattle.old_field.proofs.Inside.{attribute-of}
+use Rattle.old_field.proofs.Named.{named-of}
+use Rattle.old_data_type.specs.declared.AdsDataTypeInfo.{AdsDataTypeInfo}
+use Rattle.old_data_type.specs.declared.TypeAnswer.{TypeAnswer}
+use Rattle.old_data_type.specs.declared.TypeAnswer.TheVariants as answer
+use Rattle.old_data_type.specs.DataType.{Member, Tree, Read, Refused, levels, arraysEnd, typeEntry, typeRead, read_of}
+use Rattle.old_data_type.specs.Told.{item_at}
+use Rattle.old_data_type.specs.Questions.{asField, fieldAnswer, arraysAt, typeAttribute, typeAttributeNamed}
+use Rattle.old_data_type.proofs.Accepted.{accepted, tree_is}
+use Rattle.old_data_type.proofs.Direct.{parsed, meets}
+use Rattle.old_data_type.proofs.Laws.{entry-step}
 
 -- where the strings end, by the lengths of the record
 abbrev ends_at : AdsFieldInfo → ℕ

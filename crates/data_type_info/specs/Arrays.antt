@@ -2,8 +2,8 @@
 use Rattle.std.specs.Prelude.{ℕ, ◌+◌, ◌*◌, Bool, List, ltb, if◌then◌else◌}
 use Rattle.le.specs.Le.{le4}
 use Rattle.refusal.specs.declared.Refusal.TheVariants.{NoSuchNumber}
-use Rattle.data_type.specs.DataType.{typeRead, read_of, byType}
-use Rattle.data_type.specs.Questions.{arraysAt}
+use Rattle.old_data_type.specs.DataType.{typeRead, read_of, byType}
+use Rattle.old_data_type.specs.Questions.{arraysAt}
 use Rattle.data_type_info.specs.declared.AdsArrayInfo.{AdsArrayInfo}
 use Rattle.data_type_info.specs.declared.ArrayAnswer.{ArrayAnswer}
 use Rattle.data_type_info.specs.declared.ArrayAnswer.TheVariants.{Record, Refused}

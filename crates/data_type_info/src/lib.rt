@@ -1,18 +1,18 @@
 // Data type entries, parsed directly from bytes of any kind, in the present or the checked mode (W-202). Crate data_type has what stands below, and the record.
-#![tactic(auto, unfolding(crate::specs::Arrays::typeArray, data_type::specs::DataType::typeRead, data_type::specs::Questions::typeName, data_type::specs::Questions::typeTypeName, data_type::specs::Questions::typeComment, data_type::specs::Questions::typeAttribute, data_type::specs::Questions::typeAttributeNamed))]
+#![tactic(auto, unfolding(crate::specs::Arrays::typeArray, old_data_type::specs::DataType::typeRead, old_data_type::specs::Questions::typeName, old_data_type::specs::Questions::typeTypeName, old_data_type::specs::Questions::typeComment, old_data_type::specs::Questions::typeAttribute, old_data_type::specs::Questions::typeAttributeNamed))]
 
 ghost use Rattle.std.specs.Prelude.{◌≡◌};
 ghost use Rattle.le.specs.Place.{Behind};
 ghost use Rattle.attr.specs.Attribute.{nameIn, valueIn, name_at, value_at};
-ghost use Rattle.entry.specs.Entry.{ownBytes};
-ghost use Rattle.data_type.specs.DataType.{typeRead, read_of};
-ghost use Rattle.data_type.specs.Questions.{fieldAnswer, typeName, typeTypeName, typeComment, typeNameAt, typeTypeNameAt, typeCommentAt, typeAttribute, typeAttributeNamed};
+ghost use Rattle.old_entry.specs.Entry.{ownBytes};
+ghost use Rattle.old_data_type.specs.DataType.{typeRead, read_of};
+ghost use Rattle.old_data_type.specs.Questions.{fieldAnswer, typeName, typeTypeName, typeComment, typeNameAt, typeTypeNameAt, typeCommentAt, typeAttribute, typeAttributeNamed};
 ghost use Rattle.data_type_info.specs.Arrays.{typeArray};
 
 use attr::AttributeAnswer;
-use data_type::{TypeAnswer, TypeRead};
-use entry::Claim;
-use field::FieldAnswer;
+use old_data_type::{TypeAnswer, TypeRead};
+use old_entry::Claim;
+use old_field::FieldAnswer;
 use refusal::Refusal;
 
 // An array record: the lower bound as its 32 bits, which a controller may mean with a sign.
@@ -31,13 +31,13 @@ pub enum ArrayAnswer {
 pub fn try_from_slice(bytes: &[u8], checked: bool) -> TypeRead
     ensures { result ≡ read_of (typeRead checked bytes.now) }
 {
-    match entry::direct_claim(bytes, 42) {
-        Claim::Entry(size) => data_type::read_entry(
+    match old_entry::direct_claim(bytes, 42) {
+        Claim::Entry(size) => old_data_type::read_entry(
             le::part_of(bytes, 0, size),
             checked,
-            data_type::LEVELS,
+            old_data_type::LEVELS,
         ),
-        Claim::Refused(why) => data_type::refused(why),
+        Claim::Refused(why) => old_data_type::refused(why),
     }
 }
 
@@ -113,7 +113,7 @@ pub fn attribute_name(bytes: &[u8], checked: bool, number: usize) -> &[u8]
     ensures behind { Behind bytes.entry result (name_at (typeAttribute checked bytes.now number)) }
 {
     attr::name_in(
-        entry::own_bytes(bytes, 42),
+        old_entry::own_bytes(bytes, 42),
         attribute(bytes, checked, number),
     )
 }
@@ -123,7 +123,7 @@ pub fn attribute_value(bytes: &[u8], checked: bool, number: usize) -> &[u8]
     ensures behind { Behind bytes.entry result (value_at (typeAttribute checked bytes.now number)) }
 {
     attr::value_in(
-        entry::own_bytes(bytes, 42),
+        old_entry::own_bytes(bytes, 42),
         attribute(bytes, checked, number),
     )
 }
@@ -139,7 +139,7 @@ pub fn attribute_value_named<'a>(bytes: &'a [u8], checked: bool, name: &[u8]) ->
     ensures behind { Behind bytes.entry result (value_at (typeAttributeNamed checked bytes.now name.now)) }
 {
     attr::value_in(
-        entry::own_bytes(bytes, 42),
+        old_entry::own_bytes(bytes, 42),
         attribute_named(bytes, checked, name),
     )
 }

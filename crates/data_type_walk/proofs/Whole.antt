@@ -6,20 +6,20 @@ use mathlib.Core.Bool.{Bool}
 use mathlib.Core.List.{List}
 use lib.ListN.{length}
 use Rattle.le.specs.Le.{part}
-use Rattle.entry.specs.Entry.{claimAt, byMet}
-use Rattle.entry.specs.declared.Met.{Met}
-use Rattle.entry.specs.declared.Met.TheVariants as met
+use Rattle.old_entry.specs.Entry.{claimAt, byMet}
+use Rattle.old_entry.specs.declared.Met.{Met}
+use Rattle.old_entry.specs.declared.Met.TheVariants as met
 use Rattle.le.proofs.Laws.{length_part}
-use Rattle.entry.proofs.Claims.{meets, own-whole}
-use Rattle.entry.proofs.Direct.{direct-whole, part-all}
-use Rattle.entry.proofs.Laws.{one-walk}
-use Rattle.data_type.specs.DataType.{Member, Tree, Read, Refused, levels, arraysEnd, typeEntry, typeRead, read_of}
-use Rattle.data_type.specs.Told.{item_at}
-use Rattle.data_type.specs.declared.AdsDataTypeInfo.{AdsDataTypeInfo}
-use Rattle.data_type.proofs.Accepted.{accepted}
-use Rattle.data_type.proofs.Bounds.{entry-bounded}
-use Rattle.data_type.proofs.Laws.{entry-step}
-use Rattle.field.specs.Field.{stringsEnd}
+use Rattle.old_entry.proofs.Claims.{meets, own-whole}
+use Rattle.old_entry.proofs.Direct.{direct-whole, part-all}
+use Rattle.old_entry.proofs.Laws.{one-walk}
+use Rattle.old_data_type.specs.DataType.{Member, Tree, Read, Refused, levels, arraysEnd, typeEntry, typeRead, read_of}
+use Rattle.old_data_type.specs.Told.{item_at}
+use Rattle.old_data_type.specs.declared.AdsDataTypeInfo.{AdsDataTypeInfo}
+use Rattle.old_data_type.proofs.Accepted.{accepted}
+use Rattle.old_data_type.proofs.Bounds.{entry-bounded}
+use Rattle.old_data_type.proofs.Laws.{entry-step}
+use Rattle.old_field.specs.Field.{stringsEnd}
 use Rattle.data_type_walk.specs.declared.Step.TheVariants as step
 use Rattle.data_type_walk.specs.Walk.{finished, entry, refused, stepIs, typeStep}
 use Rattle.data_type_walk.specs.Whole.{Reads, StepsRead, cursorOf, OneTypeWalk}

@@ -2,12 +2,12 @@
 use Rattle.std.specs.Prelude.{ℕ, Bool, List}
 use Rattle.refusal.specs.declared.Refusal.{Refusal}
 use Rattle.guid.specs.Guid.{zeros16}
-use Rattle.entry.specs.Walk.{stepBy}
-use Rattle.data_type.specs.DataType.{levels, typeEntry, read_of}
-use Rattle.data_type.specs.declared.AdsDataTypeInfo.{AdsDataTypeInfo}
-use Rattle.data_type.specs.declared.TypeAnswer.{TypeAnswer}
-use Rattle.data_type.specs.declared.TypeAnswer.TheVariants as answer
-use Rattle.data_type.specs.declared.TypeRead.{TypeRead}
+use Rattle.old_entry.specs.Walk.{stepBy}
+use Rattle.old_data_type.specs.DataType.{levels, typeEntry, read_of}
+use Rattle.old_data_type.specs.declared.AdsDataTypeInfo.{AdsDataTypeInfo}
+use Rattle.old_data_type.specs.declared.TypeAnswer.{TypeAnswer}
+use Rattle.old_data_type.specs.declared.TypeAnswer.TheVariants as answer
+use Rattle.old_data_type.specs.declared.TypeRead.{TypeRead}
 use Rattle.data_type_walk.specs.declared.Step.{Step}
 use Rattle.data_type_walk.specs.declared.Step.TheVariants.{Finished, Record, Refused}
 use Rattle.data_type_walk.specs.declared.Stepped.{Stepped}

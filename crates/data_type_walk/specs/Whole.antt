@@ -2,10 +2,10 @@
 -- these steps is the one walk.
 use Rattle.std.specs.Prelude.{ℕ, ◌+◌, ◌≡◌, Bool, List}
 use Rattle.le.specs.Le.{part}
-use Rattle.entry.specs.Walk.{OneWalk}
-use Rattle.data_type.specs.DataType.{typeRead, read_of}
-use Rattle.data_type.specs.declared.AdsDataTypeInfo.{AdsDataTypeInfo}
-use Rattle.data_type.specs.declared.TypeAnswer.TheVariants as answer
+use Rattle.old_entry.specs.Walk.{OneWalk}
+use Rattle.old_data_type.specs.DataType.{typeRead, read_of}
+use Rattle.old_data_type.specs.declared.AdsDataTypeInfo.{AdsDataTypeInfo}
+use Rattle.old_data_type.specs.declared.TypeAnswer.TheVariants as answer
 use Rattle.data_type_walk.specs.declared.Step.TheVariants as step
 use Rattle.data_type_walk.specs.declared.Stepped.{Stepped}
 use Rattle.data_type_walk.specs.Walk.{typeStep}

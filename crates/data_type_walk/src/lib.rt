@@ -2,11 +2,11 @@
 #![tactic(auto, unfolding(crate::specs::Walk::typeStep))]
 
 ghost use Rattle.std.specs.Prelude.{◌≡◌};
-ghost use Rattle.entry.specs.Walk.{boundedWalk};
+ghost use Rattle.old_entry.specs.Walk.{boundedWalk};
 ghost use Rattle.data_type_walk.specs.Walk.{typeStep, step_of};
 
-use data_type::{AdsDataTypeInfo, TypeAnswer, TypeRead};
-use entry::{Met, Walked};
+use old_data_type::{AdsDataTypeInfo, TypeAnswer, TypeRead};
+use old_entry::{Met, Walked};
 use refusal::Refusal;
 
 // The place in the upload where the next step begins.
@@ -41,7 +41,7 @@ impl Cursor {
         ensures { result ≡ typeStep checked bytes.now self.at }
     {
         let at = self.at;
-        let claimed = entry::claim_at(bytes, at);
+        let claimed = old_entry::claim_at(bytes, at);
         let met = claimed.met;
         let next = claimed.next;
         match met {
@@ -51,7 +51,7 @@ impl Cursor {
                 cursor: Cursor { at: next },
             },
             Met::Entry(size) => step_of(
-                data_type::read_entry(le::part_of(bytes, at, size), checked, data_type::LEVELS),
+                old_data_type::read_entry(le::part_of(bytes, at, size), checked, old_data_type::LEVELS),
                 next,
             ),
             Met::Refused(why) => Stepped {
@@ -65,7 +65,7 @@ impl Cursor {
     pub fn walk(self, bytes: &[u8], allowed: usize) -> Walked
         ensures { result ≡ boundedWalk bytes.now self.at allowed }
     {
-        entry::bounded_walk(bytes, self.at, allowed)
+        old_entry::bounded_walk(bytes, self.at, allowed)
     }
 }
 

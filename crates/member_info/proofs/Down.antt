@@ -11,14 +11,14 @@ use lib.Dec.{leb}
 use lib.ListN.{length, length-map, length-append}
 use borrow.Author.Tests.{leb-true, leb-false}
 use Rattle.le.specs.Le.{le4, part}
-use Rattle.data_type.specs.DataType.{Member, Tree, Read, Ended, itself, inside, brings, itemsFrom, typeEntry, read_of}
-use Rattle.data_type.specs.Told.{item_at, afterItems, passed}
-use Rattle.data_type.specs.Members.{nth, byNth}
-use Rattle.data_type.specs.declared.AdsDataTypeInfo.{AdsDataTypeInfo}
-use Rattle.data_type.specs.declared.ItemsAnswer.TheVariants as items
-use Rattle.data_type.specs.declared.TypeAnswer.TheVariants as answer
-use Rattle.data_type.proofs.Bounds.{length-brings}
-use Rattle.data_type.proofs.Items.{Turn, turn_at}
+use Rattle.old_data_type.specs.DataType.{Member, Tree, Read, Ended, itself, inside, brings, itemsFrom, typeEntry, read_of}
+use Rattle.old_data_type.specs.Told.{item_at, afterItems, passed}
+use Rattle.old_data_type.specs.Members.{nth, byNth}
+use Rattle.old_data_type.specs.declared.AdsDataTypeInfo.{AdsDataTypeInfo}
+use Rattle.old_data_type.specs.declared.ItemsAnswer.TheVariants as items
+use Rattle.old_data_type.specs.declared.TypeAnswer.TheVariants as answer
+use Rattle.old_data_type.proofs.Bounds.{length-brings}
+use Rattle.old_data_type.proofs.Items.{Turn, turn_at}
 use Rattle.member_info.specs.declared.Child.{Child}
 use Rattle.member_info.specs.declared.MemberRead.{MemberRead}
 use Rattle.member_info.specs.declared.Way.{Way}

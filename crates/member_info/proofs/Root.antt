@@ -8,12 +8,12 @@ use lib.ListN.{length}
 use Rattle.refusal.specs.Refusal.{limit}
 use Rattle.refusal.specs.declared.Refusal.{Refusal}
 use Rattle.refusal.specs.declared.Refusal.TheVariants.{NoSuchNumber}
-use Rattle.data_type.specs.DataType.{Tree, Read, Refused, levels, typeEntry, read_of}
-use Rattle.data_type.specs.Members.{members_of}
-use Rattle.data_type.specs.declared.AdsDataTypeInfo.{AdsDataTypeInfo}
-use Rattle.data_type.specs.declared.TypeAnswer.TheVariants as answer
-use Rattle.data_type.specs.declared.TypeRead.{TypeRead}
-use Rattle.data_type.proofs.Bounds.{entry-bounded}
+use Rattle.old_data_type.specs.DataType.{Tree, Read, Refused, levels, typeEntry, read_of}
+use Rattle.old_data_type.specs.Members.{members_of}
+use Rattle.old_data_type.specs.declared.AdsDataTypeInfo.{AdsDataTypeInfo}
+use Rattle.old_data_type.specs.declared.TypeAnswer.TheVariants as answer
+use Rattle.old_data_type.specs.declared.TypeRead.{TypeRead}
+use Rattle.old_data_type.proofs.Bounds.{entry-bounded}
 use Rattle.member_info.specs.Member.{refusedMember, memberIn}
 use Rattle.member_info.specs.Seek.{fromRoot, soughtIn, OnWay}
 use Rattle.member_info.proofs.Down.{sought-root, past_all}

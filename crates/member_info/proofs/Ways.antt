@@ -6,12 +6,12 @@ use mathlib.Core.Bool.{Bool}
 use mathlib.Core.List.{List}
 use lib.ListN.{length, length-set}
 use Rattle.le.specs.Le.{le2, le4, part}
-use Rattle.data_type.specs.DataType.{Member, Read, arraysEnd, typeEntry, read_of}
-use Rattle.data_type.specs.Told.{item_at}
-use Rattle.data_type.specs.Members.{members_of}
-use Rattle.data_type.specs.declared.TypeRead.{TypeRead}
-use Rattle.data_type.proofs.Bounds.{entry-offset}
-use Rattle.data_type.proofs.Items.{begun}
+use Rattle.old_data_type.specs.DataType.{Member, Read, arraysEnd, typeEntry, read_of}
+use Rattle.old_data_type.specs.Told.{item_at}
+use Rattle.old_data_type.specs.Members.{members_of}
+use Rattle.old_data_type.specs.declared.TypeRead.{TypeRead}
+use Rattle.old_data_type.proofs.Bounds.{entry-offset}
+use Rattle.old_data_type.proofs.Items.{begun}
 use Rattle.member_info.specs.declared.Child.{Child}
 use Rattle.member_info.specs.declared.Way.{Way}
 use Rattle.member_info.specs.Seek.{under, found_at, childFrom, soughtIn, OnWay}

@@ -3,8 +3,8 @@ use Rattle.std.specs.Prelude.{ℕ, ◌+◌, Bool, List, [], ◌∷◌, length, s
 use Rattle.refusal.specs.declared.Refusal.{Refusal}
 use Rattle.refusal.specs.declared.Refusal.TheVariants.{NoSuchNumber}
 use Rattle.guid.specs.Guid.{zeros16}
-use Rattle.data_type.specs.DataType.{Member, Tree, byTree, typeRead}
-use Rattle.data_type.specs.Members.{nth, byNth, depth_of}
+use Rattle.old_data_type.specs.DataType.{Member, Tree, byTree, typeRead}
+use Rattle.old_data_type.specs.Members.{nth, byNth, depth_of}
 use Rattle.member_info.specs.declared.MemberAnswer.TheVariants.{Record, Refused}
 use Rattle.member_info.specs.declared.MemberRead.{MemberRead}
 

@@ -2,11 +2,11 @@
 use Rattle.std.specs.Prelude.{ℕ, zero, suc, ◌+◌, ◌-◌, ◌*◌, ◌<◌, ◌≤◌, ◌≡◌, Bool, List, map, leb, length, set, if◌then◌else◌}
 use Rattle.refusal.specs.Refusal.{limit}
 use Rattle.refusal.specs.declared.Refusal.TheVariants.{NameNotFound}
-use Rattle.data_type.specs.DataType.{Member, Tree, Read, levels, typeEntry, read_of, byType}
-use Rattle.data_type.specs.Told.{afterItems, passed}
-use Rattle.data_type.specs.Members.{nth, byNth}
-use Rattle.data_type.specs.declared.AdsDataTypeInfo.{AdsDataTypeInfo}
-use Rattle.data_type.specs.declared.TypeRead.{TypeRead}
+use Rattle.old_data_type.specs.DataType.{Member, Tree, Read, levels, typeEntry, read_of, byType}
+use Rattle.old_data_type.specs.Told.{afterItems, passed}
+use Rattle.old_data_type.specs.Members.{nth, byNth}
+use Rattle.old_data_type.specs.declared.AdsDataTypeInfo.{AdsDataTypeInfo}
+use Rattle.old_data_type.specs.declared.TypeRead.{TypeRead}
 use Rattle.member_info.specs.declared.Child.{Child}
 use Rattle.member_info.specs.declared.MemberAnswer.TheVariants.{Record}
 use Rattle.member_info.specs.declared.MemberRead.{MemberRead}

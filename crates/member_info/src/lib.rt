@@ -4,15 +4,15 @@
 ghost use Rattle.std.specs.Prelude.{◌≡◌, ◌+◌, ◌<◌, ◌≤◌, length};
 ghost use Rattle.le.specs.Le.{le2};
 ghost use Rattle.refusal.specs.Refusal.{limit};
-ghost use Rattle.field.specs.Field.{stringsEnd};
-ghost use Rattle.data_type.specs.DataType.{arraysEnd, levels, typeEntry, read_of};
-ghost use Rattle.data_type.specs.Told.{item_at, passed};
-ghost use Rattle.data_type.specs.Members.{members_of};
+ghost use Rattle.old_field.specs.Field.{stringsEnd};
+ghost use Rattle.old_data_type.specs.DataType.{arraysEnd, levels, typeEntry, read_of};
+ghost use Rattle.old_data_type.specs.Told.{item_at, passed};
+ghost use Rattle.old_data_type.specs.Members.{members_of};
 ghost use Rattle.member_info.specs.Member.{memberIn, memberOf, refusedMember};
 ghost use Rattle.member_info.specs.Seek.{under, found_at, childFrom, soughtIn, OnWay};
 
-use data_type::{AdsDataTypeInfo, ItemsAnswer, TypeAnswer, TypeRead};
-use entry::Claim;
+use old_data_type::{AdsDataTypeInfo, ItemsAnswer, TypeAnswer, TypeRead};
+use old_entry::Claim;
 use refusal::Refusal;
 
 // A member's record, its depth, the root's being 1, and its offset from the root's start.
@@ -110,8 +110,8 @@ fn read_item(e: &[u8], checked: bool, left: usize, at: usize) -> ItemsAnswer
     if left == 0 {
         return ItemsAnswer::Refused(Refusal::TooDeep);
     }
-    match data_type::item_claim(e, at) {
-        Claim::Entry(size) => data_type::passed(data_type::read_entry(
+    match old_data_type::item_claim(e, at) {
+        Claim::Entry(size) => old_data_type::passed(old_data_type::read_entry(
             le::part_of(e, at, size),
             checked,
             left - 1,
@@ -125,7 +125,7 @@ fn child_of(e: &[u8], checked: bool, left: usize, asked: usize) -> Child
     requires { (42 ≤ length e.now) × ((stringsEnd e.now ≤ length e.now) × (arraysEnd e.now ≤ length e.now)) }
     ensures { result ≡ childFrom (item_at checked left e.now) (arraysEnd e.now) asked (le2 e.now 40) }
 {
-    let mut at = data_type::arrays_end(e);
+    let mut at = old_data_type::arrays_end(e);
     let mut n = asked;
     let mut todo = le::wide(le::u16_at(e, 40));
     while 0 < todo {
@@ -158,7 +158,7 @@ fn seek(e: &[u8], checked: bool, left: usize, way: Way, asked: usize) -> MemberR
     let item = le::part_of(e, at, size);
     let below = step_down(way, at, le::u32_at(item, 20));
     if rest == 0 {
-        return found(below, data_type::read_entry(item, checked, left - 1));
+        return found(below, old_data_type::read_entry(item, checked, left - 1));
     }
     seek(item, checked, left - 1, below, rest - 1)
 }
@@ -168,7 +168,7 @@ fn member_of(e: &[u8], checked: bool, number: usize) -> MemberRead
     requires { length e.now ≤ limit }
     ensures { result ≡ memberIn (typeEntry checked levels e.now) number }
 {
-    let read = data_type::read_entry(e, checked, data_type::LEVELS);
+    let read = old_data_type::read_entry(e, checked, old_data_type::LEVELS);
     let answer = read.answer;
     match answer {
         TypeAnswer::Record(info) => {
@@ -179,7 +179,7 @@ fn member_of(e: &[u8], checked: bool, number: usize) -> MemberRead
                     level: 0,
                     path: [0u32; 15],
                 };
-                return seek(e, checked, data_type::LEVELS, way, number);
+                return seek(e, checked, old_data_type::LEVELS, way, number);
             }
             refused(Refusal::NoSuchNumber {
                 count: info.members,
@@ -193,7 +193,7 @@ fn member_of(e: &[u8], checked: bool, number: usize) -> MemberRead
 pub fn member(bytes: &[u8], checked: bool, number: usize) -> MemberRead
     ensures { result ≡ memberOf checked bytes.now number }
 {
-    match entry::direct_claim(bytes, 42) {
+    match old_entry::direct_claim(bytes, 42) {
         Claim::Entry(size) => member_of(le::part_of(bytes, 0, size), checked, number),
         Claim::Refused(why) => refused(why),
     }

@@ -9,11 +9,11 @@ use Rattle.le.specs.Put.{Wrote}
 use Rattle.le.proofs.Laws.{after, same_bytes, wrote_none}
 use Rattle.refusal.specs.Refusal.{limit}
 use Rattle.refusal.specs.Ends.{presentMode}
-use Rattle.data_type.specs.DataType.{Member, Tree, Read, Ended, brings, itemsFrom, arraysEnd, levels, typeEntry}
-use Rattle.data_type.specs.Told.{item_at}
-use Rattle.data_type.specs.Members.{members_of}
-use Rattle.data_type.proofs.Bounds.{length-brings, entry-offset}
-use Rattle.data_type.proofs.Items.{begun, Turn, turn}
+use Rattle.old_data_type.specs.DataType.{Member, Tree, Read, Ended, brings, itemsFrom, arraysEnd, levels, typeEntry}
+use Rattle.old_data_type.specs.Told.{item_at}
+use Rattle.old_data_type.specs.Members.{members_of}
+use Rattle.old_data_type.proofs.Bounds.{length-brings, entry-offset}
+use Rattle.old_data_type.proofs.Items.{begun, Turn, turn}
 use Rattle.member_list.specs.Fill.{slotsUnder, Fills}
 use Rattle.member_list.proofs.Under.{under-long, under-brings}
 

@@ -9,13 +9,13 @@ use Rattle.refusal.specs.Refusal.{limit}
 use Rattle.refusal.specs.Ends.{presentMode}
 use Rattle.refusal.specs.Writing.{Bytes, Refuse}
 use Rattle.refusal.specs.declared.Refusal.{Refusal}
-use Rattle.data_type.specs.DataType.{Tree, Read, Refused, levels, typeEntry, read_of}
-use Rattle.data_type.specs.Members.{members_of}
-use Rattle.data_type.specs.declared.AdsDataTypeInfo.{AdsDataTypeInfo}
-use Rattle.data_type.specs.declared.TypeAnswer.TheVariants as answer
-use Rattle.data_type.specs.declared.TypeRead.{TypeRead}
-use Rattle.data_type.proofs.Bounds.{entry-bounded}
-use Rattle.data_type.proofs.More.{in-present}
+use Rattle.old_data_type.specs.DataType.{Tree, Read, Refused, levels, typeEntry, read_of}
+use Rattle.old_data_type.specs.Members.{members_of}
+use Rattle.old_data_type.specs.declared.AdsDataTypeInfo.{AdsDataTypeInfo}
+use Rattle.old_data_type.specs.declared.TypeAnswer.TheVariants as answer
+use Rattle.old_data_type.specs.declared.TypeRead.{TypeRead}
+use Rattle.old_data_type.proofs.Bounds.{entry-bounded}
+use Rattle.old_data_type.proofs.More.{in-present}
 use Rattle.member_list.specs.Slots.{slots_of, writingOf}
 use Rattle.member_list.specs.Fill.{slotsUnder, Fills}
 use Rattle.member_list.proofs.Under.{under-long, under-root}

@@ -5,9 +5,9 @@ use native.Mathlib.Nat.{add-zero, zero-add}
 use mathlib.Core.Path.{◌≡◌, refl, sym, ap, ◌∙◌}
 use mathlib.Core.List.{List, [], ◌∷◌, ◌++◌, map}
 use lib.ListN.{length, length-map}
-use Rattle.data_type.specs.DataType.{Member, inside, brings}
-use Rattle.data_type.specs.Members.{lastFrom, place_of}
-use Rattle.data_type.specs.declared.AdsDataTypeInfo.{AdsDataTypeInfo}
+use Rattle.old_data_type.specs.DataType.{Member, inside, brings}
+use Rattle.old_data_type.specs.Members.{lastFrom, place_of}
+use Rattle.old_data_type.specs.declared.AdsDataTypeInfo.{AdsDataTypeInfo}
 use Rattle.member_list.specs.Slots.{slots_of}
 use Rattle.member_list.specs.Fill.{slotsUnder}
 

@@ -2,9 +2,9 @@
 use Rattle.std.specs.Prelude.{ℕ, ◌+◌, ◌*◌, ◌≤◌, ◌≡◌, List, [], ◌∷◌, length}
 use Rattle.refusal.specs.Refusal.{limit}
 use Rattle.refusal.specs.Ends.{presentMode}
-use Rattle.data_type.specs.DataType.{Member, Read, levels, typeEntry}
-use Rattle.data_type.specs.Members.{place_of}
-use Rattle.data_type.specs.declared.AdsDataTypeInfo.{AdsDataTypeInfo}
+use Rattle.old_data_type.specs.DataType.{Member, Read, levels, typeEntry}
+use Rattle.old_data_type.specs.Members.{place_of}
+use Rattle.old_data_type.specs.declared.AdsDataTypeInfo.{AdsDataTypeInfo}
 
 unfoldable pub slotsUnder : ℕ → ℕ → ℕ → List Member → List ℕ
 slotsUnder place offset level [] = []

@@ -1,8 +1,8 @@
 -- W-202: all members of a data type in lent slots, three a member.
 use Rattle.std.specs.Prelude.{ℕ, Bool, List, [], ◌∷◌}
 use Rattle.refusal.specs.Writing.{Writing, Bytes, Refuse}
-use Rattle.data_type.specs.DataType.{Member, Tree, byTree, typeRead}
-use Rattle.data_type.specs.Members.{depth_of, place_of}
+use Rattle.old_data_type.specs.DataType.{Member, Tree, byTree, typeRead}
+use Rattle.old_data_type.specs.Members.{depth_of, place_of}
 
 -- of each member its place, its depth and its offset from the root's start
 unfoldable pub slots_of : List Member → List ℕ

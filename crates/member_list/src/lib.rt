@@ -6,13 +6,13 @@ ghost use Rattle.le.specs.Put.{Wrote};
 ghost use Rattle.refusal.specs.Ends.{presentMode};
 ghost use Rattle.refusal.specs.Writing.{Writes};
 ghost use Rattle.refusal.specs.Refusal.{limit};
-ghost use Rattle.data_type.specs.DataType.{levels, typeEntry};
-ghost use Rattle.data_type.specs.Members.{members_of};
+ghost use Rattle.old_data_type.specs.DataType.{levels, typeEntry};
+ghost use Rattle.old_data_type.specs.Members.{members_of};
 ghost use Rattle.member_list.specs.Slots.{writingOf, membersWriting};
 ghost use Rattle.member_list.specs.Fill.{slotsUnder, Fills};
 
-use data_type::TypeAnswer;
-use entry::Claim;
+use old_data_type::TypeAnswer;
+use old_entry::Claim;
 use refusal::{Refusal, Written};
 
 fn put_member(slots: &mut [u64], at: usize, place: usize, depth: usize, offset: u64) -> usize
@@ -38,7 +38,7 @@ fn fill(
     requires { Fills left e.now place offset level from (length slots.old) }
     ensures { Wrote slots.old from (slotsUnder place offset level (members_of (typeEntry presentMode left e.now))) slots.new result }
 {
-    let mut at = data_type::arrays_end(e);
+    let mut at = old_data_type::arrays_end(e);
     let mut todo = le::wide(le::u16_at(e, 40));
     let mut next = from;
     while 0 < todo {
@@ -58,7 +58,7 @@ fn list_of(e: &[u8], checked: bool, slots: &mut [u64]) -> Written
     requires { length e.now ≤ limit }
     ensures { Writes (writingOf (typeEntry checked levels e.now)) slots.old slots.new result }
 {
-    let read = data_type::read_entry(e, checked, data_type::LEVELS);
+    let read = old_data_type::read_entry(e, checked, old_data_type::LEVELS);
     let answer = read.answer;
     match answer {
         TypeAnswer::Record(info) => {
@@ -67,7 +67,7 @@ fn list_of(e: &[u8], checked: bool, slots: &mut [u64]) -> Written
             if lent < needed {
                 return Written::Refused(Refusal::OutputTooSmall { needed, lent });
             }
-            Written::Done(fill(e, data_type::LEVELS, 0, 0, 0, slots, 0))
+            Written::Done(fill(e, old_data_type::LEVELS, 0, 0, 0, slots, 0))
         }
         TypeAnswer::Refused(why) => Written::Refused(why),
     }
@@ -76,7 +76,7 @@ fn list_of(e: &[u8], checked: bool, slots: &mut [u64]) -> Written
 pub fn list(bytes: &[u8], checked: bool, slots: &mut [u64]) -> Written
     ensures { Writes (membersWriting checked bytes.now) slots.old slots.new result }
 {
-    match entry::direct_claim(bytes, 42) {
+    match old_entry::direct_claim(bytes, 42) {
         Claim::Entry(size) => list_of(le::part_of(bytes, 0, size), checked, slots),
         Claim::Refused(why) => Written::Refused(why),
     }

@@ -7,14 +7,14 @@ use mathlib.Core.List.{List}
 use borrow.Author.Tests.{lt-ltb, le-ltb}
 use Rattle.le.specs.Le.{le2, part}
 use Rattle.le.proofs.Laws.{le2-part}
-use Rattle.field.specs.Field.{stringsEnd, infoOf}
-use Rattle.field.specs.declared.AdsFieldInfo.{AdsFieldInfo}
-use Rattle.field.specs.declared.FieldRead.{FieldRead}
-use Rattle.field.proofs.Inside.{accepted}
-use Rattle.data_type.specs.DataType.{Member, Read, levels, typeEntry}
-use Rattle.data_type.specs.Questions.{arraysAt}
-use Rattle.data_type.specs.declared.AdsDataTypeInfo.{AdsDataTypeInfo}
-use Rattle.data_type.proofs.Direct.{meets, parsed}
+use Rattle.old_field.specs.Field.{stringsEnd, infoOf}
+use Rattle.old_field.specs.declared.AdsFieldInfo.{AdsFieldInfo}
+use Rattle.old_field.specs.declared.FieldRead.{FieldRead}
+use Rattle.old_field.proofs.Inside.{accepted}
+use Rattle.old_data_type.specs.DataType.{Member, Read, levels, typeEntry}
+use Rattle.old_data_type.specs.Questions.{arraysAt}
+use Rattle.old_data_type.specs.declared.AdsDataTypeInfo.{AdsDataTypeInfo}
+use Rattle.old_data_type.proofs.Direct.{meets, parsed}
 use Rattle.data_type_info.specs.Arrays.{typeArray}
 use Rattle.type_meaning.specs.Meaning.{ArraysMeant}
 use Rattle.type_meaning.proofs.AsField.{entry-as-field}

@@ -7,16 +7,16 @@ use mathlib.Core.List.{List}
 use lib.ListN.{length}
 use borrow.Author.Tests.{le-ltb}
 use Rattle.le.specs.Le.{le2, le4, part}
-use Rattle.field.specs.Field.{stringsEnd, skipFrom, itemsEnd, tailOf, fieldWith, fieldEntry, fieldRead}
-use Rattle.field.specs.declared.FieldAnswer.TheVariants as field
-use Rattle.field.specs.declared.FieldRead.{FieldRead}
-use Rattle.data_type.specs.DataType.{Member, Read, Ended, itemsFrom, arraysEnd, levels, typeEntry}
-use Rattle.data_type.specs.Told.{item_at}
-use Rattle.data_type.specs.declared.AdsDataTypeInfo.{AdsDataTypeInfo}
-use Rattle.data_type.proofs.Accepted.{accepted, first, tree_is}
-use Rattle.data_type.proofs.Direct.{parsed}
-use Rattle.data_type.proofs.Items.{turn_at}
-use Rattle.data_type.proofs.Laws.{entry-step}
+use Rattle.old_field.specs.Field.{stringsEnd, skipFrom, itemsEnd, tailOf, fieldWith, fieldEntry, fieldRead}
+use Rattle.old_field.specs.declared.FieldAnswer.TheVariants as field
+use Rattle.old_field.specs.declared.FieldRead.{FieldRead}
+use Rattle.old_data_type.specs.DataType.{Member, Read, Ended, itemsFrom, arraysEnd, levels, typeEntry}
+use Rattle.old_data_type.specs.Told.{item_at}
+use Rattle.old_data_type.specs.declared.AdsDataTypeInfo.{AdsDataTypeInfo}
+use Rattle.old_data_type.proofs.Accepted.{accepted, first, tree_is}
+use Rattle.old_data_type.proofs.Direct.{parsed}
+use Rattle.old_data_type.proofs.Items.{turn_at}
+use Rattle.old_data_type.proofs.Laws.{entry-step}
 use Rattle.type_meaning.specs.Meaning.{TypesAsFields}
 
 -- sub-items that were read are skipped to the same place

@@ -11,16 +11,16 @@ use lib.ListN.{length, length-map}
 use borrow.Author.Tests.{ne_eqb}
 use Rattle.le.specs.Le.{le2, le4, part}
 use Rattle.le.proofs.Laws.{get_d_part, part-part}
-use Rattle.field.specs.Field.{stringsEnd, tailOf, fieldWith}
-use Rattle.data_type.specs.DataType.{Member, Read, Ended, itself, inside, brings, itemsFrom, arraysEnd, levels, typeEntry}
-use Rattle.data_type.specs.Told.{item_at}
-use Rattle.data_type.specs.Members.{nth, lastFrom, place_of}
-use Rattle.data_type.specs.declared.AdsDataTypeInfo.{AdsDataTypeInfo}
-use Rattle.data_type.proofs.Accepted.{accepted, tree_is}
-use Rattle.data_type.proofs.Bounds.{entry-offset}
-use Rattle.data_type.proofs.Laws.{entry-step}
-use Rattle.data_type.proofs.Items.{begun, Turn, turn_at}
-use Rattle.data_type.proofs.More.{deeper}
+use Rattle.old_field.specs.Field.{stringsEnd, tailOf, fieldWith}
+use Rattle.old_data_type.specs.DataType.{Member, Read, Ended, itself, inside, brings, itemsFrom, arraysEnd, levels, typeEntry}
+use Rattle.old_data_type.specs.Told.{item_at}
+use Rattle.old_data_type.specs.Members.{nth, lastFrom, place_of}
+use Rattle.old_data_type.specs.declared.AdsDataTypeInfo.{AdsDataTypeInfo}
+use Rattle.old_data_type.proofs.Accepted.{accepted, tree_is}
+use Rattle.old_data_type.proofs.Bounds.{entry-offset}
+use Rattle.old_data_type.proofs.Laws.{entry-step}
+use Rattle.old_data_type.proofs.Items.{begun, Turn, turn_at}
+use Rattle.old_data_type.proofs.More.{deeper}
 use Rattle.member_list.proofs.Under.{place_inside}
 use Rattle.type_meaning.specs.Meaning.{offsetsAt, itemsAmong, Between}
 

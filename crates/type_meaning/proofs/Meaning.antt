@@ -15,13 +15,13 @@ use Rattle.le.proofs.Laws.{length_part, le2-part, part-part}
 use Rattle.refusal.specs.Refusal.{limit}
 use Rattle.refusal.specs.Ends.{checkedMode}
 use Rattle.refusal.specs.declared.Refusal.TheVariants.{NoSuchNumber}
-use Rattle.entry.specs.Entry.{directClaim}
-use Rattle.entry.specs.declared.Claim.TheVariants as claim
-use Rattle.data_type.specs.DataType.{Member, Read, levels, typeRead}
-use Rattle.data_type.specs.Members.{nth, depth_of, place_of}
-use Rattle.data_type.proofs.Bounds.{entry-bounded}
-use Rattle.data_type.proofs.Direct.{Meets, meets, parsed}
-use Rattle.data_type.proofs.More.{in-present}
+use Rattle.old_entry.specs.Entry.{directClaim}
+use Rattle.old_entry.specs.declared.Claim.TheVariants as claim
+use Rattle.old_data_type.specs.DataType.{Member, Read, levels, typeRead}
+use Rattle.old_data_type.specs.Members.{nth, depth_of, place_of}
+use Rattle.old_data_type.proofs.Bounds.{entry-bounded}
+use Rattle.old_data_type.proofs.Direct.{Meets, meets, parsed}
+use Rattle.old_data_type.proofs.More.{in-present}
 use Rattle.member_info.specs.Member.{laid, noPath, memberTold, refusedMember, memberIn, memberOf}
 use Rattle.member_info.proofs.Down.{map-none, past_all}
 use Rattle.member_list.specs.Slots.{slots_of, writingOf, membersWriting}

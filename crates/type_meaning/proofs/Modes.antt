@@ -10,16 +10,16 @@ use Rattle.refusal.specs.declared.Checked.{Checked}
 use Rattle.refusal.specs.declared.Checked.TheVariants as checked
 use Rattle.refusal.specs.Ends.{presentMode, checkedMode, endsMet, endsIn}
 use Rattle.refusal.proofs.EndsMeant.{ends-meant}
-use Rattle.entry.specs.Entry.{byClaim, stringEnds}
-use Rattle.entry.specs.declared.Claim.{Claim}
-use Rattle.entry.specs.declared.Claim.TheVariants as claim
-use Rattle.field.specs.Field.{stringsEnd, frontOf, fieldWith}
-use Rattle.field.proofs.Front.{front_fits}
-use Rattle.data_type.specs.DataType.{Member, Tree, Read, Refused, Items, Ended, Stopped, brings, itemsFrom, itemClaim, arraysEnd, tree_of, entryWith, tooDeep, itemBy, levels, typeEntry, typeRead}
-use Rattle.data_type.specs.declared.AdsDataTypeInfo.{AdsDataTypeInfo}
-use Rattle.data_type.proofs.Accepted.{never, Accepted, accepted, first}
-use Rattle.data_type.proofs.Direct.{parsed}
-use Rattle.data_type.proofs.More.{build, ends, tail-present, tail-refused}
+use Rattle.old_entry.specs.Entry.{byClaim, stringEnds}
+use Rattle.old_entry.specs.declared.Claim.{Claim}
+use Rattle.old_entry.specs.declared.Claim.TheVariants as claim
+use Rattle.old_field.specs.Field.{stringsEnd, frontOf, fieldWith}
+use Rattle.old_field.proofs.Front.{front_fits}
+use Rattle.old_data_type.specs.DataType.{Member, Tree, Read, Refused, Items, Ended, Stopped, brings, itemsFrom, itemClaim, arraysEnd, tree_of, entryWith, tooDeep, itemBy, levels, typeEntry, typeRead}
+use Rattle.old_data_type.specs.declared.AdsDataTypeInfo.{AdsDataTypeInfo}
+use Rattle.old_data_type.proofs.Accepted.{never, Accepted, accepted, first}
+use Rattle.old_data_type.proofs.Direct.{parsed}
+use Rattle.old_data_type.proofs.More.{build, ends, tail-present, tail-refused}
 use Rattle.type_meaning.specs.Meaning.{Alike, same, ended, TypesChecked}
 
 -- a look at end bytes passes, or refuses one that is not 0

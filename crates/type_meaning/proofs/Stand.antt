@@ -10,17 +10,17 @@ use borrow.Author.Tests.{le-ltb, ne_eqb}
 use Rattle.le.specs.Le.{le2, le4, part}
 use Rattle.le.proofs.Laws.{length_part}
 use Rattle.refusal.specs.Refusal.{limit, deepest}
-use Rattle.entry.specs.Entry.{directClaim}
-use Rattle.entry.specs.declared.Claim.TheVariants as claim
-use Rattle.data_type.specs.DataType.{Member, Read, Ended, brings, itemsFrom, itemClaim, arraysEnd, levels, typeEntry, typeRead}
-use Rattle.data_type.specs.Told.{item_at}
-use Rattle.data_type.specs.declared.AdsDataTypeInfo.{AdsDataTypeInfo}
-use Rattle.data_type.proofs.Accepted.{accepted}
-use Rattle.data_type.proofs.Bounds.{entry-bounded}
-use Rattle.data_type.proofs.Direct.{meets, parsed}
-use Rattle.data_type.proofs.Items.{turn_at}
-use Rattle.data_type.proofs.Laws.{entry-step, item-step}
-use Rattle.data_type.proofs.More.{build}
+use Rattle.old_entry.specs.Entry.{directClaim}
+use Rattle.old_entry.specs.declared.Claim.TheVariants as claim
+use Rattle.old_data_type.specs.DataType.{Member, Read, Ended, brings, itemsFrom, itemClaim, arraysEnd, levels, typeEntry, typeRead}
+use Rattle.old_data_type.specs.Told.{item_at}
+use Rattle.old_data_type.specs.declared.AdsDataTypeInfo.{AdsDataTypeInfo}
+use Rattle.old_data_type.proofs.Accepted.{accepted}
+use Rattle.old_data_type.proofs.Bounds.{entry-bounded}
+use Rattle.old_data_type.proofs.Direct.{meets, parsed}
+use Rattle.old_data_type.proofs.Items.{turn_at}
+use Rattle.old_data_type.proofs.Laws.{entry-step, item-step}
+use Rattle.old_data_type.proofs.More.{build}
 use Rattle.type_meaning.specs.Stand.{What, Entry, Items, Stand, entry, none, item, Root, TypesStand}
 
 -- a claim that fits

@@ -6,11 +6,11 @@ use Rattle.refusal.specs.Refusal.{deepest}
 use Rattle.refusal.specs.Ends.{presentMode, checkedMode}
 use Rattle.refusal.specs.Writing.{Bytes}
 use Rattle.refusal.specs.declared.Refusal.TheVariants.{NoSuchNumber, EndByte}
-use Rattle.field.specs.Field.{stringsEnd, fieldRead}
-use Rattle.field.specs.declared.FieldAnswer.TheVariants as field
-use Rattle.data_type.specs.DataType.{Member, Tree, Read, Refused, typeRead}
-use Rattle.data_type.specs.Members.{nth, depth_of, place_of}
-use Rattle.data_type.specs.declared.AdsDataTypeInfo.{AdsDataTypeInfo}
+use Rattle.old_field.specs.Field.{stringsEnd, fieldRead}
+use Rattle.old_field.specs.declared.FieldAnswer.TheVariants as field
+use Rattle.old_data_type.specs.DataType.{Member, Tree, Read, Refused, typeRead}
+use Rattle.old_data_type.specs.Members.{nth, depth_of, place_of}
+use Rattle.old_data_type.specs.declared.AdsDataTypeInfo.{AdsDataTypeInfo}
 use Rattle.data_type_info.specs.Arrays.{array_at, typeArray}
 use Rattle.data_type_info.specs.declared.ArrayAnswer.TheVariants as array
 use Rattle.member_info.specs.Member.{laid, noPath, memberTold, refusedMember, memberOf}

@@ -4,9 +4,9 @@ use Rattle.std.specs.Prelude.{ℕ, zero, suc, ◌+◌, ◌*◌, ◌≤◌, ◌�
 use Rattle.le.specs.Le.{le2, le4, part}
 use Rattle.refusal.specs.Refusal.{limit, deepest}
 use Rattle.refusal.specs.declared.Checked.TheVariants.{Passed}
-use Rattle.field.specs.Field.{stringsEnd, frontOf, tailOf, fieldWith}
-use Rattle.data_type.specs.DataType.{Member, Read, brings, tree_of, typeRead}
-use Rattle.data_type.specs.declared.AdsDataTypeInfo.{AdsDataTypeInfo}
+use Rattle.old_field.specs.Field.{stringsEnd, frontOf, tailOf, fieldWith}
+use Rattle.old_data_type.specs.DataType.{Member, Read, brings, tree_of, typeRead}
+use Rattle.old_data_type.specs.declared.AdsDataTypeInfo.{AdsDataTypeInfo}
 
 -- an entry with its members, or so many sub-items of it from one place to another
 pub data What : Type 0 where

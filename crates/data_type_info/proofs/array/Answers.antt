@@ -1,5 +1,5 @@
 use Rattle.std.proofs.Common.{sym, ap, ◌∙◌, arith}
-use Rattle.data_type.specs.declared.TypeRead.{TypeRead}
+use Rattle.old_data_type.specs.declared.TypeRead.{TypeRead}
 use Rattle.data_type_info.proofs.There.{arrays-there}
 use Rattle.data_type_info.proofs.array.Goals as goal
 

@@ -1,6 +1,6 @@
 use Rattle.std.proofs.Common.{sym, ◌∙◌}
 use Rattle.field_asked.proofs.Begins.{name-begins}
-use Rattle.data_type.specs.Questions.{typeNameAt}
+use Rattle.old_data_type.specs.Questions.{typeNameAt}
 use Rattle.data_type_info.proofs.There.{strings-there}
 use Rattle.data_type_info.proofs.name.Goals as goal
 

@@ -1,6 +1,6 @@
 use Rattle.std.proofs.Common.{sym, ◌∙◌}
 use Rattle.field_asked.proofs.Begins.{type-name-begins}
-use Rattle.data_type.specs.Questions.{typeTypeNameAt}
+use Rattle.old_data_type.specs.Questions.{typeTypeNameAt}
 use Rattle.data_type_info.proofs.There.{strings-there}
 use Rattle.data_type_info.proofs.type_name.Goals as goal
 

@@ -1,5 +1,5 @@
 use Rattle.std.proofs.Common.{sym, ap, ◌∙◌, rules, length}
-use Rattle.data_type.proofs.Items.{begun, item-is}
+use Rattle.old_data_type.proofs.Items.{begun, item-is}
 use Rattle.member_info.proofs.Ways.{next-on, step-on}
 use Rattle.member_info.proofs.+seek.Goals as goal
 

@@ -1,6 +1,6 @@
 use borrow.Author.Tests.{le-leb, lt-leb}
 use Rattle.std.proofs.Common.{rules}
-use Rattle.data_type.proofs.Laws.{item-fits}
+use Rattle.old_data_type.proofs.Laws.{item-fits}
 use Rattle.member_info.proofs.Down.{child-step, child-none}
 use Rattle.member_info.proofs.child_of.Goals as goal
 

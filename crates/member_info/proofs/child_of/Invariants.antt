@@ -1,7 +1,7 @@
 use Rattle.std.proofs.Common.{◌≡◌, ◌≤◌, length}
 use Rattle.le.specs.Le.{le2}
-use Rattle.data_type.specs.DataType.{arraysEnd}
-use Rattle.data_type.specs.Told.{item_at}
+use Rattle.old_data_type.specs.DataType.{arraysEnd}
+use Rattle.old_data_type.specs.Told.{item_at}
 use Rattle.member_info.specs.Seek.{childFrom}
 use Rattle.member_info.proofs.child_of.Given as goal
 

@@ -1,6 +1,6 @@
 use Rattle.std.proofs.Common.{sym}
-use Rattle.data_type.specs.DataType.{typeRead}
-use Rattle.data_type.proofs.Direct.{part_small}
+use Rattle.old_data_type.specs.DataType.{typeRead}
+use Rattle.old_data_type.proofs.Direct.{part_small}
 use Rattle.member_info.specs.Member.{memberIn, memberOf}
 use Rattle.member_info.proofs.member.Goals as goal
 

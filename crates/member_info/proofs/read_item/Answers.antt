@@ -1,5 +1,5 @@
 use borrow.Author.Tests.{eq-eqb, ne_eqb}
-use Rattle.data_type.proofs.Laws.{item-step}
+use Rattle.old_data_type.proofs.Laws.{item-step}
 use Rattle.member_info.proofs.read_item.Goals as goal
 
 pub returns-then-left-eq0 : goal.returns-then-left-eq0

@@ -1,5 +1,5 @@
 use Rattle.std.proofs.Common.{refl, ap, ◌∙◌, arith, length}
-use Rattle.data_type.proofs.Items.{begun, item-is}
+use Rattle.old_data_type.proofs.Items.{begun, item-is}
 use Rattle.member_list.proofs.Filling.{start, turn-of, rooms, below, again, finish}
 use Rattle.member_list.proofs.+fill.Goals as goal
 

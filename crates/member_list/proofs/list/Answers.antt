@@ -1,7 +1,7 @@
 use Rattle.std.proofs.Common.{sym}
 use Rattle.refusal.proofs.Laws.{refuses}
-use Rattle.data_type.specs.DataType.{typeRead}
-use Rattle.data_type.proofs.Direct.{part_small}
+use Rattle.old_data_type.specs.DataType.{typeRead}
+use Rattle.old_data_type.proofs.Direct.{part_small}
 use Rattle.member_list.specs.Slots.{writingOf, membersWriting}
 use Rattle.member_list.proofs.list.Goals as goal
 

@@ -10,14 +10,14 @@ use Rattle.le.proofs.Laws.{length_part}
 use Rattle.refusal.specs.declared.Checked.{Checked}
 use Rattle.refusal.specs.declared.Checked.TheVariants as checked
 use Rattle.refusal.specs.Ends.{byChecked}
-use Rattle.field.specs.Field.{stringsEnd, infoOf, refused, tailOf, fieldWith}
-use Rattle.field.specs.declared.AdsFieldInfo.{AdsFieldInfo}
-use Rattle.field.specs.declared.FieldAnswer.TheVariants as field
-use Rattle.field.specs.declared.Tail.{Tail}
-use Rattle.data_type.specs.declared.AdsDataTypeInfo.{AdsDataTypeInfo}
-use Rattle.data_type.specs.DataType.{Member, Tree, Read, Ended, brings, itemsFrom, arraysEnd, entryWith, tooDeep, itemBy, typeEntry}
-use Rattle.data_type.specs.Told.{item_at}
-use Rattle.data_type.proofs.Accepted.{never, accepted, tree_is, first, item-read, claim-fits}
+use Rattle.old_field.specs.Field.{stringsEnd, infoOf, refused, tailOf, fieldWith}
+use Rattle.old_field.specs.declared.AdsFieldInfo.{AdsFieldInfo}
+use Rattle.old_field.specs.declared.FieldAnswer.TheVariants as field
+use Rattle.old_field.specs.declared.Tail.{Tail}
+use Rattle.old_data_type.specs.declared.AdsDataTypeInfo.{AdsDataTypeInfo}
+use Rattle.old_data_type.specs.DataType.{Member, Tree, Read, Ended, brings, itemsFrom, arraysEnd, entryWith, tooDeep, itemBy, typeEntry}
+use Rattle.old_data_type.specs.Told.{item_at}
+use Rattle.old_data_type.proofs.Accepted.{never, accepted, tree_is, first, item-read, claim-fits}
 
 long-by : (e : List ℕ) (t : Tail) (f : AdsFieldInfo) (c : Checked) → (byChecked c (record { answer = field.Record (infoOf e t.has_guid t.attributes); guid = t.guid }) refused).answer ≡ field.Record f → f.length ≡ length e
 unfolding infoOf

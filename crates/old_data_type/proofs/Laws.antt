@@ -16,21 +16,21 @@ use Rattle.refusal.specs.declared.Refusal.TheVariants.{EntryLengthMismatch, TooD
 use Rattle.refusal.specs.declared.Checked.{Checked}
 use Rattle.refusal.specs.declared.Checked.TheVariants as checked
 use Rattle.refusal.specs.Ends.{byChecked}
-use Rattle.entry.specs.Entry.{byClaim}
-use Rattle.entry.specs.declared.Claim.{Claim}
-use Rattle.entry.specs.declared.Claim.TheVariants as claim
-use Rattle.field.specs.Field.{frontOf, tailOf, fieldWith}
-use Rattle.field.specs.declared.FieldAnswer.{FieldAnswer}
-use Rattle.field.specs.declared.FieldAnswer.TheVariants as field
-use Rattle.field.specs.declared.FieldRead.{FieldRead}
-use Rattle.data_type.specs.declared.AdsDataTypeInfo.{AdsDataTypeInfo}
-use Rattle.data_type.specs.declared.ItemsAnswer.{ItemsAnswer}
-use Rattle.data_type.specs.declared.ItemsAnswer.TheVariants as items
-use Rattle.data_type.specs.declared.TypeRead.{TypeRead}
-use Rattle.data_type.specs.DataType.{Member, Tree, Read, Refused, Items, Ended, Stopped, byTree, byItems, brings, before, itemsFrom, itemClaim, arraysEnd, tree_of, entryWith, itemBy, typeEntry, refused, read_of}
-use Rattle.data_type.specs.Told.{item_at, itemsTold, afterItems, passed, type_of}
-use Rattle.data_type.proofs.Accepted.{claim-fits}
-use Rattle.data_type.proofs.Bounds.{length-brings, entry-bounded, item-bounded}
+use Rattle.old_entry.specs.Entry.{byClaim}
+use Rattle.old_entry.specs.declared.Claim.{Claim}
+use Rattle.old_entry.specs.declared.Claim.TheVariants as claim
+use Rattle.old_field.specs.Field.{frontOf, tailOf, fieldWith}
+use Rattle.old_field.specs.declared.FieldAnswer.{FieldAnswer}
+use Rattle.old_field.specs.declared.FieldAnswer.TheVariants as field
+use Rattle.old_field.specs.declared.FieldRead.{FieldRead}
+use Rattle.old_data_type.specs.declared.AdsDataTypeInfo.{AdsDataTypeInfo}
+use Rattle.old_data_type.specs.declared.ItemsAnswer.{ItemsAnswer}
+use Rattle.old_data_type.specs.declared.ItemsAnswer.TheVariants as items
+use Rattle.old_data_type.specs.declared.TypeRead.{TypeRead}
+use Rattle.old_data_type.specs.DataType.{Member, Tree, Read, Refused, Items, Ended, Stopped, byTree, byItems, brings, before, itemsFrom, itemClaim, arraysEnd, tree_of, entryWith, itemBy, typeEntry, refused, read_of}
+use Rattle.old_data_type.specs.Told.{item_at, itemsTold, afterItems, passed, type_of}
+use Rattle.old_data_type.proofs.Accepted.{claim-fits}
+use Rattle.old_data_type.proofs.Bounds.{length-brings, entry-bounded, item-bounded}
 use Rattle.le.proofs.Laws.{length_part}
 
 -- an entry by what is read at its places

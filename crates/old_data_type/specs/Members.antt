@@ -1,7 +1,7 @@
 -- W-202: the members of an entry, numbered from 0 on, and what is said of each.
 use Rattle.std.specs.Prelude.{ℕ, zero, suc, ◌+◌, List, [], ◌∷◌, length}
 use Rattle.std.proofs.Math.Option.{Option, none, some}
-use Rattle.data_type.specs.DataType.{Member, Tree, Read, Refused}
+use Rattle.old_data_type.specs.DataType.{Member, Tree, Read, Refused}
 
 -- none where the entry is refused
 abbrev pub members_of : Tree → List Member

@@ -1,8 +1,8 @@
 use Rattle.std.proofs.Common.{sym, arith, rules}
 use borrow.Author.Tests.{lt-ltb, le-ltb, eq-eqb, ne_eqb}
-use Rattle.field.proofs.Front.{front_fits}
-use Rattle.data_type.proofs.Laws.{entry-told, items-told, items-none, passed-fits}
-use Rattle.data_type.proofs.+read_entry_read_items.Goals as goal
+use Rattle.old_field.proofs.Front.{front_fits}
+use Rattle.old_data_type.proofs.Laws.{entry-told, items-told, items-none, passed-fits}
+use Rattle.old_data_type.proofs.+read_entry_read_items.Goals as goal
 
 pub read_entry-returns-in-Refused : goal.read_entry-returns-in-Refused
 read_entry-returns-in-Refused t c = simp (entry-told, ← c.in-Refused.ensures, c.refused.ensures)

@@ -12,21 +12,21 @@ use Rattle.refusal.specs.declared.Refusal.{Refusal}
 use Rattle.refusal.specs.declared.Checked.{Checked}
 use Rattle.refusal.specs.declared.Checked.TheVariants as checked
 use Rattle.refusal.specs.Ends.{presentMode, checkedMode, endsMet, endsIn, byChecked}
-use Rattle.entry.specs.Entry.{byClaim}
-use Rattle.entry.specs.declared.Claim.{Claim}
-use Rattle.entry.specs.declared.Claim.TheVariants as claim
+use Rattle.old_entry.specs.Entry.{byClaim}
+use Rattle.old_entry.specs.declared.Claim.{Claim}
+use Rattle.old_entry.specs.declared.Claim.TheVariants as claim
 use Rattle.guid.specs.Guid.{guidAt}
 use Rattle.attr.specs.Attribute.{attributeEnds}
 use Rattle.attr.specs.declared.Attributes.{Attributes}
-use Rattle.field.specs.Field.{typeGuid, stringsEnd, attributesAfter, frontOf, tailOf, fieldWith}
-use Rattle.field.specs.Field as fields
-use Rattle.field.specs.declared.AdsFieldInfo.{AdsFieldInfo}
-use Rattle.field.specs.declared.FieldAnswer.TheVariants as field
-use Rattle.field.specs.declared.Tail.{Tail}
-use Rattle.field.proofs.Front.{front_fits}
-use Rattle.data_type.specs.declared.AdsDataTypeInfo.{AdsDataTypeInfo}
-use Rattle.data_type.specs.DataType.{Member, Tree, Read, Refused, Ended, itemsFrom, itemClaim, arraysEnd, tree_of, entryWith, tooDeep, itemBy, typeEntry}
-use Rattle.data_type.proofs.Accepted.{never, Accepted, accepted, tree_is, first}
+use Rattle.old_field.specs.Field.{typeGuid, stringsEnd, attributesAfter, frontOf, tailOf, fieldWith}
+use Rattle.old_field.specs.Field as fields
+use Rattle.old_field.specs.declared.AdsFieldInfo.{AdsFieldInfo}
+use Rattle.old_field.specs.declared.FieldAnswer.TheVariants as field
+use Rattle.old_field.specs.declared.Tail.{Tail}
+use Rattle.old_field.proofs.Front.{front_fits}
+use Rattle.old_data_type.specs.declared.AdsDataTypeInfo.{AdsDataTypeInfo}
+use Rattle.old_data_type.specs.DataType.{Member, Tree, Read, Refused, Ended, itemsFrom, itemClaim, arraysEnd, tree_of, entryWith, tooDeep, itemBy, typeEntry}
+use Rattle.old_data_type.proofs.Accepted.{never, Accepted, accepted, tree_is, first}
 
 -- what passed is read
 pub build : (mode : Bool) (e : List ℕ) (item : ℕ → Tree) (info : AdsDataTypeInfo) (guid : List ℕ) (ms : List Member) → Accepted mode e item info guid ms → entryWith mode e item ≡ Read info guid ms

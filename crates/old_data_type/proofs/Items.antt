@@ -8,14 +8,14 @@ use mathlib.Core.List.{List, ◌++◌}
 use lib.ListN.{length}
 use Rattle.le.specs.Le.{le2, le4, part}
 use Rattle.le.proofs.Laws.{length_part}
-use Rattle.field.specs.Field.{stringsEnd}
-use Rattle.field.proofs.Front.{front_fits}
-use Rattle.data_type.specs.declared.AdsDataTypeInfo.{AdsDataTypeInfo}
-use Rattle.data_type.specs.DataType.{Member, Read, Ended, brings, itemsFrom, arraysEnd, typeEntry}
-use Rattle.data_type.specs.Told.{item_at}
-use Rattle.data_type.proofs.Accepted.{never, accepted, first, First, item-read, claim-fits}
-use Rattle.data_type.proofs.Bounds.{entry-bounded}
-use Rattle.data_type.proofs.Laws.{entry-step}
+use Rattle.old_field.specs.Field.{stringsEnd}
+use Rattle.old_field.proofs.Front.{front_fits}
+use Rattle.old_data_type.specs.declared.AdsDataTypeInfo.{AdsDataTypeInfo}
+use Rattle.old_data_type.specs.DataType.{Member, Read, Ended, brings, itemsFrom, arraysEnd, typeEntry}
+use Rattle.old_data_type.specs.Told.{item_at}
+use Rattle.old_data_type.proofs.Accepted.{never, accepted, first, First, item-read, claim-fits}
+use Rattle.old_data_type.proofs.Bounds.{entry-bounded}
+use Rattle.old_data_type.proofs.Laws.{entry-step}
 
 -- the header, the strings and the array records of an entry that was read are there, and its sub-items were read
 pub record Begun (mode : Bool) (left : ℕ) (e : List ℕ) (ms : List Member) : Type 0 where

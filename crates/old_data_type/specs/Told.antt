@@ -2,13 +2,13 @@
 use Rattle.std.specs.Prelude.{ℕ, zero, suc, ◌+◌, Bool, List, length}
 use Rattle.le.specs.Le.{le2}
 use Rattle.refusal.specs.declared.Refusal.{Refusal}
-use Rattle.field.specs.Questions.{byField}
-use Rattle.field.specs.declared.FieldRead.{FieldRead}
-use Rattle.data_type.specs.declared.ItemsAnswer.{ItemsAnswer}
-use Rattle.data_type.specs.declared.ItemsAnswer.TheVariants as items
-use Rattle.data_type.specs.declared.TypeAnswer.TheVariants as answer
-use Rattle.data_type.specs.declared.TypeRead.{TypeRead}
-use Rattle.data_type.specs.DataType.{Tree, Items, Ended, Stopped, tooDeep, itemBy, typeEntry, refused, byType}
+use Rattle.old_field.specs.Questions.{byField}
+use Rattle.old_field.specs.declared.FieldRead.{FieldRead}
+use Rattle.old_data_type.specs.declared.ItemsAnswer.{ItemsAnswer}
+use Rattle.old_data_type.specs.declared.ItemsAnswer.TheVariants as items
+use Rattle.old_data_type.specs.declared.TypeAnswer.TheVariants as answer
+use Rattle.old_data_type.specs.declared.TypeRead.{TypeRead}
+use Rattle.old_data_type.specs.DataType.{Tree, Items, Ended, Stopped, tooDeep, itemBy, typeEntry, refused, byType}
 
 -- what is read as a sub-item at a place of an entry, where there may be so many levels below the entry
 unfoldable pub item_at : Bool → ℕ → List ℕ → ℕ → Tree

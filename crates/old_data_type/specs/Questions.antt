@@ -1,14 +1,14 @@
 -- What can be asked of a data type entry, in a mode: its strings and its attributes as of a field with the same record.
 use Rattle.std.specs.Prelude.{ℕ, ◌+◌, Bool, List}
-use Rattle.entry.specs.Entry.{ownBytes}
+use Rattle.old_entry.specs.Entry.{ownBytes}
 use Rattle.attr.specs.declared.AttributeAnswer.{AttributeAnswer}
-use Rattle.field.specs.Questions.{name_of, typeNameOf, commentOf, nameStart, typeNameStart, commentStart, shownNth, shownNamed}
-use Rattle.field.specs.declared.FieldAnswer.{FieldAnswer}
-use Rattle.field.specs.declared.FieldAnswer.TheVariants as field
-use Rattle.data_type.specs.declared.AdsDataTypeInfo.{AdsDataTypeInfo}
-use Rattle.data_type.specs.declared.TypeAnswer.{TypeAnswer}
-use Rattle.data_type.specs.declared.TypeAnswer.TheVariants as answer
-use Rattle.data_type.specs.DataType.{typeRead, read_of}
+use Rattle.old_field.specs.Questions.{name_of, typeNameOf, commentOf, nameStart, typeNameStart, commentStart, shownNth, shownNamed}
+use Rattle.old_field.specs.declared.FieldAnswer.{FieldAnswer}
+use Rattle.old_field.specs.declared.FieldAnswer.TheVariants as field
+use Rattle.old_data_type.specs.declared.AdsDataTypeInfo.{AdsDataTypeInfo}
+use Rattle.old_data_type.specs.declared.TypeAnswer.{TypeAnswer}
+use Rattle.old_data_type.specs.declared.TypeAnswer.TheVariants as answer
+use Rattle.old_data_type.specs.DataType.{typeRead, read_of}
 
 abbrev pub asField : TypeAnswer → FieldAnswer
 asField (answer.Record r) = field.Record r.field

@@ -7,16 +7,16 @@ use Rattle.refusal.specs.Ends.{byChecked}
 use Rattle.refusal.specs.declared.Refusal.{Refusal}
 use Rattle.refusal.specs.declared.Refusal.TheVariants.{TooShort, EntryLengthMismatch, ClaimBelowHeader, TooDeep}
 use Rattle.guid.specs.Guid.{zeros16}
-use Rattle.entry.specs.Entry.{directClaim, byClaim}
-use Rattle.entry.specs.declared.Claim.{Claim}
-use Rattle.entry.specs.declared.Claim.TheVariants as claim
-use Rattle.field.specs.Field.{stringsEnd, frontOf, tailOf, fieldWith}
-use Rattle.field.specs.Questions.{byField}
-use Rattle.field.specs.declared.FieldRead.{FieldRead}
-use Rattle.data_type.specs.declared.AdsDataTypeInfo.{AdsDataTypeInfo}
-use Rattle.data_type.specs.declared.TypeAnswer.{TypeAnswer}
-use Rattle.data_type.specs.declared.TypeAnswer.TheVariants as answer
-use Rattle.data_type.specs.declared.TypeRead.{TypeRead}
+use Rattle.old_entry.specs.Entry.{directClaim, byClaim}
+use Rattle.old_entry.specs.declared.Claim.{Claim}
+use Rattle.old_entry.specs.declared.Claim.TheVariants as claim
+use Rattle.old_field.specs.Field.{stringsEnd, frontOf, tailOf, fieldWith}
+use Rattle.old_field.specs.Questions.{byField}
+use Rattle.old_field.specs.declared.FieldRead.{FieldRead}
+use Rattle.old_data_type.specs.declared.AdsDataTypeInfo.{AdsDataTypeInfo}
+use Rattle.old_data_type.specs.declared.TypeAnswer.{TypeAnswer}
+use Rattle.old_data_type.specs.declared.TypeAnswer.TheVariants as answer
+use Rattle.old_data_type.specs.declared.TypeRead.{TypeRead}
 
 -- a member of an entry: the places of the entries that it stands in and, last, its own, all counted from that entry's start; the sum of their offsets; and
 -- what it was read as

@@ -3,12 +3,12 @@
 
 ghost use Rattle.std.specs.Prelude.{◌≡◌, ◌≤◌, length};
 ghost use Rattle.le.specs.Le.{le2};
-ghost use Rattle.field.specs.Field.{stringsEnd};
-ghost use Rattle.data_type.specs.DataType.{arraysEnd, itemClaim, itemsFrom, typeEntry, read_of, refused};
-ghost use Rattle.data_type.specs.Told.{item_at, itemsTold, passed, type_of};
+ghost use Rattle.old_field.specs.Field.{stringsEnd};
+ghost use Rattle.old_data_type.specs.DataType.{arraysEnd, itemClaim, itemsFrom, typeEntry, read_of, refused};
+ghost use Rattle.old_data_type.specs.Told.{item_at, itemsTold, passed, type_of};
 
-use entry::Claim;
-use field::{AdsFieldInfo, FieldAnswer, FieldRead};
+use old_entry::Claim;
+use old_field::{AdsFieldInfo, FieldAnswer, FieldRead};
 use refusal::{Checked, Refusal};
 
 // What a field's record says, and what a data type has besides. Its members are counted in the whole tree.
@@ -57,7 +57,7 @@ pub fn arrays_end(e: &[u8]) -> usize
     ensures { result ≡ arraysEnd e.now }
 {
     let arrays = le::wide(le::u16_at(e, 38));
-    field::strings_end(e) + 8 * arrays
+    old_field::strings_end(e) + 8 * arrays
 }
 
 // The claim of a sub-item at a place of its parent.
@@ -129,7 +129,7 @@ pub fn passed(read: TypeRead) -> ItemsAnswer
 pub fn read_entry(e: &[u8], checked: bool, left: usize) -> TypeRead
     ensures { result ≡ read_of (typeEntry checked left e.now) }
 {
-    if let Checked::Refused(why) = field::check_front(e, checked) {
+    if let Checked::Refused(why) = old_field::check_front(e, checked) {
         return refused(why);
     }
     let first = arrays_end(e);
@@ -141,7 +141,7 @@ pub fn read_entry(e: &[u8], checked: bool, left: usize) -> TypeRead
     }
     match read_items(e, checked, left, first) {
         ItemsAnswer::Ended { next, members } => {
-            type_of(e, members, field::read_rest(e, next, checked))
+            type_of(e, members, old_field::read_rest(e, next, checked))
         }
         ItemsAnswer::Refused(why) => refused(why),
     }

@@ -9,12 +9,12 @@ use lib.ListN.{length, length-take}
 use borrow.Author.Tests.{ltb-false}
 use Rattle.le.specs.Le.{le4, part}
 use Rattle.refusal.specs.Refusal.{limit}
-use Rattle.entry.specs.Entry.{directClaim, byClaim}
-use Rattle.entry.specs.declared.Claim.{Claim}
-use Rattle.entry.specs.declared.Claim.TheVariants as claim
-use Rattle.data_type.specs.declared.AdsDataTypeInfo.{AdsDataTypeInfo}
-use Rattle.data_type.specs.DataType.{Member, Read, Refused, levels, typeEntry, typeRead}
-use Rattle.data_type.proofs.Accepted.{never, pick}
+use Rattle.old_entry.specs.Entry.{directClaim, byClaim}
+use Rattle.old_entry.specs.declared.Claim.{Claim}
+use Rattle.old_entry.specs.declared.Claim.TheVariants as claim
+use Rattle.old_data_type.specs.declared.AdsDataTypeInfo.{AdsDataTypeInfo}
+use Rattle.old_data_type.specs.DataType.{Member, Read, Refused, levels, typeEntry, typeRead}
+use Rattle.old_data_type.proofs.Accepted.{never, pick}
 
 pub record Meets (s : List ℕ) (size : ℕ) : Type 0 where
   pub small : length s ≤ limit

@@ -14,17 +14,17 @@ use Rattle.refusal.specs.declared.Refusal.TheVariants.{EntryLengthMismatch}
 use Rattle.refusal.specs.declared.Checked.{Checked}
 use Rattle.refusal.specs.declared.Checked.TheVariants as checked
 use Rattle.refusal.specs.Ends.{byChecked}
-use Rattle.entry.specs.Entry.{byClaim}
-use Rattle.entry.specs.declared.Claim.{Claim}
-use Rattle.entry.specs.declared.Claim.TheVariants as claim
-use Rattle.field.specs.Field.{frontOf, tailOf, fieldWith}
-use Rattle.field.specs.Questions.{byField}
-use Rattle.field.specs.declared.AdsFieldInfo.{AdsFieldInfo}
-use Rattle.field.specs.declared.FieldAnswer.{FieldAnswer}
-use Rattle.field.specs.declared.FieldAnswer.TheVariants as field
-use Rattle.field.specs.declared.FieldRead.{FieldRead}
-use Rattle.data_type.specs.declared.AdsDataTypeInfo.{AdsDataTypeInfo}
-use Rattle.data_type.specs.DataType.{Member, Tree, Read, Refused, Items, Ended, Stopped, byTree, byItems, brings, before, itemsFrom, itemClaim, arraysEnd, tree_of, entryWith, itemBy, typeEntry}
+use Rattle.old_entry.specs.Entry.{byClaim}
+use Rattle.old_entry.specs.declared.Claim.{Claim}
+use Rattle.old_entry.specs.declared.Claim.TheVariants as claim
+use Rattle.old_field.specs.Field.{frontOf, tailOf, fieldWith}
+use Rattle.old_field.specs.Questions.{byField}
+use Rattle.old_field.specs.declared.AdsFieldInfo.{AdsFieldInfo}
+use Rattle.old_field.specs.declared.FieldAnswer.{FieldAnswer}
+use Rattle.old_field.specs.declared.FieldAnswer.TheVariants as field
+use Rattle.old_field.specs.declared.FieldRead.{FieldRead}
+use Rattle.old_data_type.specs.declared.AdsDataTypeInfo.{AdsDataTypeInfo}
+use Rattle.old_data_type.specs.DataType.{Member, Tree, Read, Refused, Items, Ended, Stopped, byTree, byItems, brings, before, itemsFrom, itemClaim, arraysEnd, tree_of, entryWith, itemBy, typeEntry}
 
 abbrev infoWith : AdsFieldInfo → List ℕ → List Member → AdsDataTypeInfo
 infoWith info e ms = record { field = info; array_count = le2 e 38; sub_item_count = le2 e 40; members = length ms }

@@ -1,8 +1,8 @@
 use Rattle.std.proofs.Common.{◌≡◌, ◌+◌, ◌≤◌, length}
 use Rattle.le.specs.Le.{le2}
-use Rattle.data_type.specs.DataType.{itemsFrom}
-use Rattle.data_type.specs.Told.{item_at, itemsTold}
-use Rattle.data_type.proofs.+read_entry_read_items.Given as goal
+use Rattle.old_data_type.specs.DataType.{itemsFrom}
+use Rattle.old_data_type.specs.Told.{item_at, itemsTold}
+use Rattle.old_data_type.proofs.+read_entry_read_items.Given as goal
 
 abbrev pub decreases-read_entry : goal.decreases-read_entry
 decreases-read_entry l = l.left + l.left + 1
