@@ -1,2 +1,5 @@
 pub mod Told
 pub mod Slots
+pub mod Older
+pub mod Shown
+pub mod One

@@ -1,24 +1,27 @@
 -- What the slots of a record hold, in order, and what lent slots and GUID bytes hold after a call: as they were unless there is a record.
-use Rattle.std.specs.Prelude.{ℕ, Bool, cond, List, [], ◌∷◌}
-use Rattle.attr.specs.declared.AttributeAnswer.{AttributeAnswer}
-use Rattle.attr.specs.declared.AttributeAnswer.TheVariants as attribute
-use Rattle.refactor.specs.declared.RefactorAnswer.{RefactorAnswer}
-use Rattle.refactor.specs.declared.RefactorAnswer.TheVariants as refactor
+use Rattle.std.specs.Prelude.{ℕ, ◌+◌, ◌-◌, Bool, cond, List, [], ◌∷◌, length, Option, Some, None, Result, Ok, Err, is_some}
+use Rattle.refusal.specs.declared.Refusal.{Refusal}
 use Rattle.symbol.specs.declared.AdsSymbolInfo.{AdsSymbolInfo}
-use Rattle.symbol.specs.Questions as symbols
-use Rattle.walk.specs.declared.Step.{Step}
-use Rattle.walk.specs.declared.Step.TheVariants as symbol
-use Rattle.field.specs.declared.AdsFieldInfo.{AdsFieldInfo}
-use Rattle.field.specs.Questions as fields
-use Rattle.field_walk.specs.declared.Step as field-walk
-use Rattle.field_walk.specs.declared.Step.TheVariants as field
+use Rattle.symbol.specs.Symbol.{extended_word}
+use Rattle.places.specs.declared.AttributePlaces.{AttributePlaces}
+use Rattle.places.specs.declared.RefactorPlaces.{RefactorPlaces}
 
 -- 1 for true
 abbrev pub bit : Bool → ℕ
 bit b = cond b 1 0
 
-unfoldable pub symbolSlots : AdsSymbolInfo → List ℕ
-symbolSlots r =
+-- lent slots that held `old`, after a call that finds a record whose slots are these; and after a step
+abbrev pub slots_after : {A : Type 0} → (A → List ℕ) → Result A Refusal → List ℕ → List ℕ
+slots_after slots (Ok r) old = slots r
+slots_after slots (Err why) old = old
+
+abbrev pub step_after : {A : Type 0} → (A → List ℕ) → Option (Result A Refusal) → List ℕ → List ℕ
+step_after slots None old = old
+step_after slots (Some found) old = slots_after slots found old
+
+-- the strings' places go from the header on, each with its end byte; those of the lists are counted from what they have left of the entry (places, SymbolLies)
+unfoldable pub symbol_slots : AdsSymbolInfo → List ℕ
+symbol_slots r =
     r.length
     ∷ r.index_group.0
     ∷ r.index_offset.0
@@ -26,70 +29,32 @@ symbolSlots r =
     ∷ r.data_type_id
     ∷ r.flags.0
     ∷ r.high
-    ∷ symbols.name_at
-    ∷ r.name_len
-    ∷ symbols.typeNameAt r
-    ∷ r.type_name_len
-    ∷ symbols.commentAt r
-    ∷ r.comment_len
-    ∷ bit r.has_guid
-    ∷ r.attributes.first
+    ∷ 30
+    ∷ length r.name.now
+    ∷ (31 + length r.name.now)
+    ∷ length r.type_name.now
+    ∷ (32 + length r.name.now + length r.type_name.now)
+    ∷ length r.comment.now
+    ∷ bit (is_some r.guid)
+    ∷ (r.length - length r.attributes.bytes.now)
     ∷ r.attributes.count
-    ∷ bit r.extended.here
-    ∷ r.extended.flags.0
-    ∷ r.refactor_infos.first
+    ∷ bit (is_some r.extended_flags)
+    ∷ extended_word r.extended_flags
+    ∷ (r.length - length r.refactor_infos.bytes.now)
     ∷ r.refactor_infos.count
-    ∷ r.unread
+    ∷ length r.unread.now
     ∷ []
 
-unfoldable pub fieldSlots : AdsFieldInfo → List ℕ
-fieldSlots r =
-    r.length
-    ∷ r.version
-    ∷ r.hash_value
-    ∷ r.type_hash_value
-    ∷ r.size
-    ∷ r.offset
-    ∷ r.type_id
-    ∷ r.flags.0
-    ∷ fields.name_at
-    ∷ r.name_len
-    ∷ fields.typeNameAt r
-    ∷ r.type_name_len
-    ∷ fields.commentAt r
-    ∷ r.comment_len
-    ∷ bit r.has_guid
-    ∷ r.attributes.first
-    ∷ r.attributes.count
-    ∷ []
+-- 16 zeros where there is none
+abbrev pub guid_bytes : Option (List ℕ) → List ℕ
+guid_bytes None = 0 ∷ 0 ∷ 0 ∷ 0 ∷ 0 ∷ 0 ∷ 0 ∷ 0 ∷ 0 ∷ 0 ∷ 0 ∷ 0 ∷ 0 ∷ 0 ∷ 0 ∷ 0 ∷ []
+guid_bytes (Some bytes) = bytes
 
--- the slots after a read or a step, which held `old`
-abbrev pub symbolSlotsAfter : Step → List ℕ → List ℕ
-symbolSlotsAfter symbol.Finished old = old
-symbolSlotsAfter (symbol.Record info) old = symbolSlots info
-symbolSlotsAfter (symbol.Refused why) old = old
+abbrev pub symbol_guid : AdsSymbolInfo → List ℕ
+symbol_guid r = guid_bytes r.guid
 
-abbrev pub fieldSlotsAfter : field-walk.Step → List ℕ → List ℕ
-fieldSlotsAfter field.Finished old = old
-fieldSlotsAfter (field.Record info) old = fieldSlots info
-fieldSlotsAfter (field.Refused why) old = old
+abbrev pub attribute_slots : AttributePlaces → List ℕ
+attribute_slots a = a.name ∷ a.name_len ∷ a.value ∷ a.value_len ∷ a.next ∷ []
 
--- the lent GUID bytes, which held `old`, where the record's are `new`
-abbrev pub symbolGuidAfter : Step → List ℕ → List ℕ → List ℕ
-symbolGuidAfter symbol.Finished new old = old
-symbolGuidAfter (symbol.Record info) new old = new
-symbolGuidAfter (symbol.Refused why) new old = old
-
-abbrev pub fieldGuidAfter : field-walk.Step → List ℕ → List ℕ → List ℕ
-fieldGuidAfter field.Finished new old = old
-fieldGuidAfter (field.Record info) new old = new
-fieldGuidAfter (field.Refused why) new old = old
-
-abbrev pub attributeSlotsAfter : AttributeAnswer → List ℕ → List ℕ
-attributeSlotsAfter (attribute.Record r) old = r.name ∷ r.name_len ∷ r.value ∷ r.value_len ∷ r.next ∷ []
-attributeSlotsAfter (attribute.Refused why) old = old
-
-abbrev pub refactorSlotsAfter : RefactorAnswer → List ℕ → List ℕ
-refactorSlotsAfter (refactor.Record r) old =
-    r.refactor_count ∷ bit r.next_refactor_info ∷ r.name ∷ r.name_len ∷ r.next ∷ []
-refactorSlotsAfter (refactor.Refused why) old = old
+abbrev pub refactor_slots : RefactorPlaces → List ℕ
+refactor_slots r = r.count ∷ bit r.followed ∷ r.name ∷ r.name_len ∷ r.next ∷ []

@@ -1,14 +1,14 @@
 -- What the slots of a data type hold, in order, and what lent slots, GUID bytes and path hold after a call: as they were unless there is a record.
 use Rattle.std.specs.Prelude.{ℕ, List, [], ◌∷◌, ◌++◌}
-use Rattle.data_type.specs.declared.AdsDataTypeInfo.{AdsDataTypeInfo}
-use Rattle.data_type.specs.Questions.{arraysAt}
+use Rattle.old_data_type.specs.declared.AdsDataTypeInfo.{AdsDataTypeInfo}
+use Rattle.old_data_type.specs.Questions.{arraysAt}
 use Rattle.data_type_info.specs.declared.ArrayAnswer.{ArrayAnswer}
 use Rattle.data_type_info.specs.declared.ArrayAnswer.TheVariants as array
 use Rattle.member_info.specs.declared.MemberAnswer.{MemberAnswer}
 use Rattle.member_info.specs.declared.MemberAnswer.TheVariants as member
 use Rattle.data_type_walk.specs.declared.Step.{Step}
 use Rattle.data_type_walk.specs.declared.Step.TheVariants as step
-use Rattle.told.specs.Slots.{fieldSlots}
+use Rattle.told.specs.Older.{fieldSlots}
 
 -- those of a field, and what a data type has besides
 unfoldable pub typeSlots : AdsDataTypeInfo → List ℕ

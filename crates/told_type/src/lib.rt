@@ -1,5 +1,5 @@
 // Answers about data types, told in numbers: what crosses to C is made here, over what crate told has.
-#![tactic(auto, unfolding(crate::specs::Slots::typeSlots, told::specs::Slots::fieldSlots))]
+#![tactic(auto, unfolding(crate::specs::Slots::typeSlots, told::specs::Older::fieldSlots))]
 
 ghost use Rattle.std.specs.Prelude.{◌≡◌, ◌∷◌};
 ghost use Rattle.data_type_walk.specs.Walk.{stepIs};
@@ -7,18 +7,18 @@ ghost use Rattle.told.specs.Told.{Tells};
 ghost use Rattle.told_type.specs.Told.{typeTold, arrayTold, memberTold};
 ghost use Rattle.told_type.specs.Slots.{typeSlots, typeSlotsAfter, typeGuidAfter, arraySlotsAfter, memberSlotsAfter, memberGuidAfter, memberPathAfter};
 
-use data_type::{AdsDataTypeInfo, TypeAnswer, TypeRead};
 use data_type_info::ArrayAnswer;
 use data_type_walk::{Step, Stepped};
 use member_info::{MemberAnswer, MemberRead};
+use old_data_type::{AdsDataTypeInfo, TypeAnswer, TypeRead};
 
 fn type_slots(info: AdsDataTypeInfo) -> [u64; 21]
     ensures { result ≡ typeSlots info }
 {
     let field = info.field;
     let comment = field.comment_len;
-    let strings = told::third_at(45, field.name_len, field.type_name_len);
-    let f = told::field_slots(field);
+    let strings = told::older::third_at(45, field.name_len, field.type_name_len);
+    let f = told::older::field_slots(field);
     [
         f[0],
         f[1],

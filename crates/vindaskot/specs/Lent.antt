@@ -1,25 +1,20 @@
--- What the writers' calls make of what is lent: records from numbers, and a GUID from bytes.
-use Rattle.std.specs.Prelude.{ℕ, Bool, true, List, eqb, if◌then◌else◌}
+-- What the writers' calls make of what is lent: a GUID from bytes, and what is to be written from numbers and bytes.
+use Rattle.std.specs.Prelude.{ℕ, List, Option, Some, None, Result, Ok, Err, eqb, length, take, if◌then◌else◌}
+use Rattle.std.specs.Borrow.{Bor}
+use Rattle.refusal.specs.declared.Refusal.{Refusal}
 use Rattle.refusal.specs.declared.Refusal.TheVariants.{UnexpectedLength}
-use Rattle.refusal.specs.declared.Checked.{Checked}
-use Rattle.refusal.specs.declared.Checked.TheVariants.{Passed, Refused}
-use Rattle.guid.specs.Guid.{guidAt}
-use Rattle.guid.specs.declared.Guid.{Guid}
-use Rattle.symbol_writer.specs.declared.SymbolNumbers.{SymbolNumbers}
-use Rattle.field_writer.specs.declared.FieldNumbers.{FieldNumbers}
+use Rattle.symbol.specs.declared.writer.NewSymbol.{NewSymbol}
+use Rattle.field.specs.declared.writer.NewField.{NewField}
 
 -- no bytes are no GUID, 16 are one, and other lengths are refused with 1
-unfoldable pub guidChecked : ℕ → Checked
-guidChecked present =
-    if eqb present 0 then Passed
-    else if eqb present 16 then Passed
-    else Refused (UnexpectedLength 16 present)
+unfoldable pub lent_guid : List ℕ → Result (Option (List ℕ)) Refusal
+lent_guid bytes =
+    if eqb (length bytes) 0 then Ok None
+    else if eqb (length bytes) 16 then Ok (Some (take 16 bytes))
+    else Err (UnexpectedLength 16 (length bytes))
 
-abbrev pub lentGuid : List ℕ → Guid
-lentGuid bytes = guidAt bytes 0 true
-
-abbrev pub symbolNumbers : ℕ → ℕ → ℕ → ℕ → ℕ → ℕ → ℕ → Bool → SymbolNumbers
-symbolNumbers group offset size type flags high extended here =
+abbrev pub new_symbol : ℕ → ℕ → ℕ → ℕ → ℕ → ℕ → ℕ → Option (List ℕ) → Bor (List ℕ) → Bor (List ℕ) → Bor (List ℕ) → ℕ → Bor (List ℕ) → ℕ → Bor (List ℕ) → NewSymbol
+new_symbol group offset size type flags high extended guid name typeName comment count block links chain =
     record {
       index_group = record { 0 = group };
       index_offset = record { 0 = offset };
@@ -27,12 +22,17 @@ symbolNumbers group offset size type flags high extended here =
       data_type_id = type;
       flags = record { 0 = flags };
       high = high;
+      name = name;
+      type_name = typeName;
+      comment = comment;
+      guid = guid;
+      attributes = record { count = count; bytes = block };
       extended_flags = record { 0 = extended };
-      has_guid = here;
+      refactor_infos = record { count = links; bytes = chain };
     }
 
-abbrev pub fieldNumbers : ℕ → ℕ → ℕ → ℕ → ℕ → ℕ → ℕ → Bool → FieldNumbers
-fieldNumbers version hash typeHash size offset type flags here =
+abbrev pub new_field : ℕ → ℕ → ℕ → ℕ → ℕ → ℕ → ℕ → Option (List ℕ) → Bor (List ℕ) → Bor (List ℕ) → Bor (List ℕ) → ℕ → Bor (List ℕ) → NewField
+new_field version hash typeHash size offset type flags guid name typeName comment count block =
     record {
       version = version;
       hash_value = hash;
@@ -41,5 +41,9 @@ fieldNumbers version hash typeHash size offset type flags here =
       offset = offset;
       type_id = type;
       flags = record { 0 = flags };
-      has_guid = here;
+      name = name;
+      type_name = typeName;
+      comment = comment;
+      guid = guid;
+      attributes = record { count = count; bytes = block };
     }

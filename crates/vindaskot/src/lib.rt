@@ -4,38 +4,44 @@
 mod modes;
 mod types;
 
-ghost use Rattle.std.specs.Prelude.{◌≡◌, length};
+ghost use Rattle.std.specs.Prelude.{◌≡◌, Ok};
+ghost use Rattle.part.specs.Outcome.{and_then};
 ghost use Rattle.refusal.specs.Ends.{presentMode};
-ghost use Rattle.refusal.specs.Writing.{afterCheck};
-ghost use Rattle.attr.specs.Attribute.{attributeRead};
-ghost use Rattle.attr.specs.Writing.{attributeWriting};
-ghost use Rattle.refactor.specs.Refactor.{refactorRead, chainRead, chainNth};
-ghost use Rattle.refactor.specs.Writing.{refactorWriting, blockWriting};
-ghost use Rattle.flags.specs.Flags.{symbolFlagsFrom, symbol2FlagsFrom, typeFlagsFrom};
-ghost use Rattle.entry.specs.Walk.{boundedWalk};
-ghost use Rattle.symbol.specs.Symbol.{symbolRead};
-ghost use Rattle.symbol.specs.Questions.{symbolAttribute, symbolAttributeNamed, symbolRefactor};
-ghost use Rattle.walk.specs.Walk as symbols;
-ghost use Rattle.field.specs.Field.{fieldRead};
-ghost use Rattle.field.specs.Questions.{fieldAttribute, fieldAttributeNamed};
+ghost use Rattle.refusal.specs.declared.Mode.TheVariants.{Present};
+ghost use Rattle.flags.specs.Flags.{symbol_flags_of, symbol2_flags_of, type_flags_of};
+ghost use Rattle.attribute.specs.Writing.{attribute_writing};
+ghost use Rattle.refactor.specs.Writing.{info_writing, entries_writing};
+ghost use Rattle.entry.specs.Bounded.{bounded_walk};
+ghost use Rattle.walk.specs.Mapped.{map_ok};
+ghost use Rattle.walk.specs.Step.{parse_of, step_at};
+ghost use Rattle.symbol.specs.Symbol.{symbol_of};
+ghost use Rattle.symbol.specs.Writing.{symbol_written};
+ghost use Rattle.old_field.specs.Field.{fieldRead};
+ghost use Rattle.old_field.specs.Questions.{fieldAttribute, fieldAttributeNamed};
 ghost use Rattle.field_walk.specs.Walk as fields;
-ghost use Rattle.symbol_writer.specs.Writing.{symbolWriting, parts_of};
-ghost use Rattle.field_writer.specs.Writing.{fieldWriting};
-ghost use Rattle.index.specs.Index.{indexing, find, findIndexed};
-ghost use Rattle.room.specs.Room.{room_for};
+ghost use Rattle.field.specs.Writing.{field_written};
+ghost use Rattle.index.specs.Index.{indexing};
+ghost use Rattle.old_index.specs.Index.{find, findIndexed};
+ghost use Rattle.old_room.specs.Room.{room_for};
 ghost use Rattle.salvage.specs.Salvage.{salvaging};
-ghost use Rattle.text.specs.Text.{decodeWriting, encodeWriting};
-ghost use Rattle.told.specs.Told.{Tells, WritesTold, WritesBothTold, roomTold, foundTold, chainTold, symbolFlagsTold, symbol2FlagsTold, typeFlagsTold, endTold, attributeTold, refactorTold, symbolTold, fieldTold};
-ghost use Rattle.told.specs.Slots.{symbolSlotsAfter, fieldSlotsAfter, symbolGuidAfter, fieldGuidAfter, attributeSlotsAfter, refactorSlotsAfter};
-ghost use Rattle.vindaskot.specs.Lent.{guidChecked, lentGuid, symbolNumbers, fieldNumbers};
+ghost use Rattle.text.specs.Text.{decoding, encoding};
+ghost use Rattle.places.specs.Alone.{attribute_alone, refactor_alone, chain_read, chain_record};
+ghost use Rattle.places.specs.Symbol.{symbol_attribute, symbol_attribute_named, symbol_refactor_info};
+ghost use Rattle.told.specs.Told.{Tells, WritesTold, WritesBothTold, number_told, numbers_told, record_told, step_told, end_told};
+ghost use Rattle.told.specs.Slots.{slots_after, step_after, symbol_slots, symbol_guid, attribute_slots, refactor_slots};
+ghost use Rattle.told.specs.Older.{roomTold, foundTold, attributeTold, fieldTold, fieldSlotsAfter, fieldGuidAfter, attributeSlotsAfter};
+ghost use Rattle.vindaskot.specs.Lent.{lent_guid, new_symbol, new_field};
 
-use field_writer::FieldNumbers;
+use attribute::AdsAttribute;
+use field::writer::NewField;
 use flags::index_group::IndexGroup;
 use flags::index_offset::IndexOffset;
 use flags::symbol_flags::{AdsSymbol2Flags, AdsSymbolFlags};
 use flags::type_flags::AdsTypeFlags;
-use refusal::{Checked, Refusal};
-use symbol_writer::SymbolNumbers;
+use refactor::AdsRefactorInfo;
+use refusal::{Mode, Refusal};
+use symbol::{AdsSymbolInfo, NewSymbol};
+use writing::Block;
 
 // The number of this interface changes with the arguments or the slots of any call, which no linker sees. So it stands in names, which a linker
 // sees: here, in a function that the header and the Rust crate need, and in each call that changed with it.
@@ -53,11 +59,11 @@ pub extern "C" fn vindaskot_symbol_read_2(
     guid: &mut [u8; 16],
     answer: &mut [u64; 2],
 ) -> u32
-    ensures tells { Tells (symbolTold (symbols.stepIs (symbolRead presentMode bytes.now).answer)) result answer.new }
-    ensures slots_after { slots.new ≡ symbolSlotsAfter (symbols.stepIs (symbolRead presentMode bytes.now).answer) slots.old }
-    ensures guid_after { guid.new ≡ symbolGuidAfter (symbols.stepIs (symbolRead presentMode bytes.now).answer) (symbolRead presentMode bytes.now).guid guid.old }
+    ensures tells { Tells (record_told (parse_of 30 (symbol_of Present) bytes.entry)) result answer.new }
+    ensures slots_after { slots.new ≡ slots_after symbol_slots (parse_of 30 (symbol_of Present) bytes.entry) slots.old }
+    ensures guid_after { guid.new ≡ slots_after symbol_guid (parse_of 30 (symbol_of Present) bytes.entry) guid.old }
 {
-    modes::vindaskot_symbol_read_in(bytes, refusal::PRESENT, slots, guid, answer)
+    modes::vindaskot_symbol_read_in(bytes, false, slots, guid, answer)
 }
 
 #[unsafe(no_mangle)]
@@ -68,12 +74,12 @@ pub extern "C" fn vindaskot_symbol_step_2(
     guid: &mut [u8; 16],
     answer: &mut [u64; 2],
 ) -> u32
-    ensures tells { Tells (symbolTold (symbols.symbolStep presentMode bytes.now cursor.old).step) result answer.new }
-    ensures cursor_after { cursor.new ≡ (symbols.symbolStep presentMode bytes.now cursor.old).cursor.at }
-    ensures slots_after { slots.new ≡ symbolSlotsAfter (symbols.symbolStep presentMode bytes.now cursor.old).step slots.old }
-    ensures guid_after { guid.new ≡ symbolGuidAfter (symbols.symbolStep presentMode bytes.now cursor.old).step (symbols.symbolStep presentMode bytes.now cursor.old).guid guid.old }
+    ensures tells { Tells (step_told (step_at (symbol_of Present) bytes.entry cursor.old).answer) result answer.new }
+    ensures cursor_after { cursor.new ≡ (step_at (symbol_of Present) bytes.entry cursor.old).cursor.at }
+    ensures slots_after { slots.new ≡ step_after symbol_slots (step_at (symbol_of Present) bytes.entry cursor.old).answer slots.old }
+    ensures guid_after { guid.new ≡ step_after symbol_guid (step_at (symbol_of Present) bytes.entry cursor.old).answer guid.old }
 {
-    modes::vindaskot_symbol_step_in(bytes, refusal::PRESENT, cursor, slots, guid, answer)
+    modes::vindaskot_symbol_step_in(bytes, false, cursor, slots, guid, answer)
 }
 
 #[unsafe(no_mangle)]
@@ -83,11 +89,11 @@ pub extern "C" fn vindaskot_symbol_attribute(
     slots: &mut [u64; 5],
     answer: &mut [u64; 2],
 ) -> u32
-    ensures tells { Tells (attributeTold (symbolAttribute presentMode bytes.now number)) result answer.new }
-    ensures slots_after { slots.new ≡ attributeSlotsAfter (symbolAttribute presentMode bytes.now number) slots.old }
+    ensures tells { Tells (record_told (symbol_attribute Present bytes.entry number)) result answer.new }
+    ensures slots_after { slots.new ≡ slots_after attribute_slots (symbol_attribute Present bytes.entry number) slots.old }
 {
     told::attribute(
-        symbol_info::attribute(bytes, refusal::PRESENT, number),
+        places::of_symbol::symbol_attribute(bytes, Mode::Present, number),
         slots,
         answer,
     )
@@ -100,11 +106,11 @@ pub extern "C" fn vindaskot_symbol_attribute_named(
     slots: &mut [u64; 5],
     answer: &mut [u64; 2],
 ) -> u32
-    ensures tells { Tells (attributeTold (symbolAttributeNamed presentMode bytes.now name.now)) result answer.new }
-    ensures slots_after { slots.new ≡ attributeSlotsAfter (symbolAttributeNamed presentMode bytes.now name.now) slots.old }
+    ensures tells { Tells (record_told (symbol_attribute_named Present bytes.entry name.now)) result answer.new }
+    ensures slots_after { slots.new ≡ slots_after attribute_slots (symbol_attribute_named Present bytes.entry name.now) slots.old }
 {
     told::attribute(
-        symbol_info::attribute_named(bytes, refusal::PRESENT, name),
+        places::of_symbol::symbol_attribute_named(bytes, Mode::Present, name),
         slots,
         answer,
     )
@@ -117,11 +123,11 @@ pub extern "C" fn vindaskot_symbol_refactor_info(
     slots: &mut [u64; 5],
     answer: &mut [u64; 2],
 ) -> u32
-    ensures tells { Tells (refactorTold (symbolRefactor presentMode bytes.now number)) result answer.new }
-    ensures slots_after { slots.new ≡ refactorSlotsAfter (symbolRefactor presentMode bytes.now number) slots.old }
+    ensures tells { Tells (record_told (symbol_refactor_info Present bytes.entry number)) result answer.new }
+    ensures slots_after { slots.new ≡ slots_after refactor_slots (symbol_refactor_info Present bytes.entry number) slots.old }
 {
     told::refactor(
-        symbol_info::refactor_info(bytes, refusal::PRESENT, number),
+        places::of_symbol::symbol_refactor_info(bytes, Mode::Present, number),
         slots,
         answer,
     )
@@ -138,7 +144,7 @@ pub extern "C" fn vindaskot_field_read(
     ensures slots_after { slots.new ≡ fieldSlotsAfter (fields.stepIs (fieldRead presentMode bytes.now).answer) slots.old }
     ensures guid_after { guid.new ≡ fieldGuidAfter (fields.stepIs (fieldRead presentMode bytes.now).answer) (fieldRead presentMode bytes.now).guid guid.old }
 {
-    told::field_read(
+    told::older::field_read(
         field_info::try_from_slice(bytes, refusal::PRESENT),
         slots,
         guid,
@@ -160,7 +166,7 @@ pub extern "C" fn vindaskot_field_step(
     ensures guid_after { guid.new ≡ fieldGuidAfter (fields.fieldStep presentMode bytes.now cursor.old).step (fields.fieldStep presentMode bytes.now cursor.old).guid guid.old }
 {
     let from = field_walk::Cursor { at: *cursor };
-    told::field_step(
+    told::older::field_step(
         from.step(bytes, refusal::PRESENT),
         cursor,
         slots,
@@ -179,7 +185,7 @@ pub extern "C" fn vindaskot_field_attribute(
     ensures tells { Tells (attributeTold (fieldAttribute presentMode bytes.now number)) result answer.new }
     ensures slots_after { slots.new ≡ attributeSlotsAfter (fieldAttribute presentMode bytes.now number) slots.old }
 {
-    told::attribute(
+    told::older::attribute(
         field_info::attribute(bytes, refusal::PRESENT, number),
         slots,
         answer,
@@ -196,7 +202,7 @@ pub extern "C" fn vindaskot_field_attribute_named(
     ensures tells { Tells (attributeTold (fieldAttributeNamed presentMode bytes.now name.now)) result answer.new }
     ensures slots_after { slots.new ≡ attributeSlotsAfter (fieldAttributeNamed presentMode bytes.now name.now) slots.old }
 {
-    told::attribute(
+    told::older::attribute(
         field_info::attribute_named(bytes, refusal::PRESENT, name),
         slots,
         answer,
@@ -211,9 +217,9 @@ pub extern "C" fn vindaskot_walk(
     steps: &mut usize,
     answer: &mut [u64; 2],
 ) -> u32
-    ensures tells { Tells (endTold (boundedWalk bytes.now cursor.old allowed).end) result answer.new }
-    ensures cursor_after { cursor.new ≡ (boundedWalk bytes.now cursor.old allowed).cursor }
-    ensures steps_after { steps.new ≡ (boundedWalk bytes.now cursor.old allowed).steps }
+    ensures tells { Tells (end_told (bounded_walk bytes.now cursor.old allowed).end) result answer.new }
+    ensures cursor_after { cursor.new ≡ (bounded_walk bytes.now cursor.old allowed).cursor }
+    ensures steps_after { steps.new ≡ (bounded_walk bytes.now cursor.old allowed).steps }
 {
     let from = *cursor;
     told::walked(
@@ -230,11 +236,11 @@ pub extern "C" fn vindaskot_attribute_read(
     slots: &mut [u64; 5],
     answer: &mut [u64; 2],
 ) -> u32
-    ensures tells { Tells (attributeTold (attributeRead presentMode bytes.now)) result answer.new }
-    ensures slots_after { slots.new ≡ attributeSlotsAfter (attributeRead presentMode bytes.now) slots.old }
+    ensures tells { Tells (record_told (attribute_alone Present bytes.entry)) result answer.new }
+    ensures slots_after { slots.new ≡ slots_after attribute_slots (attribute_alone Present bytes.entry) slots.old }
 {
     told::attribute(
-        attributes::try_from_slice(bytes, refusal::PRESENT),
+        places::alone::attribute_alone(bytes, Mode::Present),
         slots,
         answer,
     )
@@ -246,11 +252,11 @@ pub extern "C" fn vindaskot_refactor_read(
     slots: &mut [u64; 5],
     answer: &mut [u64; 2],
 ) -> u32
-    ensures tells { Tells (refactorTold (refactorRead presentMode bytes.now)) result answer.new }
-    ensures slots_after { slots.new ≡ refactorSlotsAfter (refactorRead presentMode bytes.now) slots.old }
+    ensures tells { Tells (record_told (refactor_alone Present bytes.entry)) result answer.new }
+    ensures slots_after { slots.new ≡ slots_after refactor_slots (refactor_alone Present bytes.entry) slots.old }
 {
     told::refactor(
-        refactor_info::try_from_slice(bytes, refusal::PRESENT),
+        places::alone::refactor_alone(bytes, Mode::Present),
         slots,
         answer,
     )
@@ -258,9 +264,9 @@ pub extern "C" fn vindaskot_refactor_read(
 
 #[unsafe(no_mangle)]
 pub extern "C" fn vindaskot_chain_read(bytes: &[u8], answer: &mut [u64; 2]) -> u32
-    ensures { Tells (chainTold (chainRead presentMode bytes.now)) result answer.new }
+    ensures { Tells (numbers_told (chain_read Present bytes.entry)) result answer.new }
 {
-    told::chain(refactor_info::parse_chain(bytes, refusal::PRESENT), answer)
+    told::numbers(places::alone::chain_read(bytes, Mode::Present), answer)
 }
 
 #[unsafe(no_mangle)]
@@ -270,11 +276,11 @@ pub extern "C" fn vindaskot_chain_record(
     slots: &mut [u64; 5],
     answer: &mut [u64; 2],
 ) -> u32
-    ensures tells { Tells (refactorTold (chainNth presentMode bytes.now number)) result answer.new }
-    ensures slots_after { slots.new ≡ refactorSlotsAfter (chainNth presentMode bytes.now number) slots.old }
+    ensures tells { Tells (record_told (chain_record Present bytes.entry number)) result answer.new }
+    ensures slots_after { slots.new ≡ slots_after refactor_slots (chain_record Present bytes.entry number) slots.old }
 {
     told::refactor(
-        refactor_info::chain_record(bytes, refusal::PRESENT, number),
+        places::alone::chain_record(bytes, Mode::Present, number),
         slots,
         answer,
     )
@@ -282,23 +288,26 @@ pub extern "C" fn vindaskot_chain_record(
 
 #[unsafe(no_mangle)]
 pub extern "C" fn vindaskot_symbol_flags_read(bytes: &[u8], answer: &mut [u64; 2]) -> u32
-    ensures { Tells (symbolFlagsTold (symbolFlagsFrom bytes.now)) result answer.new }
+    ensures { Tells (number_told (map_ok (λ flags. flags.0) (symbol_flags_of bytes.now))) result answer.new }
 {
-    told::symbol_flags(AdsSymbolFlags::try_from_slice(bytes), answer)
+    let word = AdsSymbolFlags::try_from_slice(bytes).map(|flags| flags.0 as usize);
+    told::number(word, answer)
 }
 
 #[unsafe(no_mangle)]
 pub extern "C" fn vindaskot_symbol2_flags_read(bytes: &[u8], answer: &mut [u64; 2]) -> u32
-    ensures { Tells (symbol2FlagsTold (symbol2FlagsFrom bytes.now)) result answer.new }
+    ensures { Tells (number_told (map_ok (λ flags. flags.0) (symbol2_flags_of bytes.now))) result answer.new }
 {
-    told::symbol2_flags(AdsSymbol2Flags::try_from_slice(bytes), answer)
+    let word = AdsSymbol2Flags::try_from_slice(bytes).map(|flags| flags.0 as usize);
+    told::number(word, answer)
 }
 
 #[unsafe(no_mangle)]
 pub extern "C" fn vindaskot_type_flags_read(bytes: &[u8], answer: &mut [u64; 2]) -> u32
-    ensures { Tells (typeFlagsTold (typeFlagsFrom bytes.now)) result answer.new }
+    ensures { Tells (number_told (map_ok (λ flags. flags.0) (type_flags_of bytes.now))) result answer.new }
 {
-    told::type_flags(AdsTypeFlags::try_from_slice(bytes), answer)
+    let word = AdsTypeFlags::try_from_slice(bytes).map(|flags| flags.0 as usize);
+    told::number(word, answer)
 }
 
 #[unsafe(no_mangle)]
@@ -308,9 +317,10 @@ pub extern "C" fn vindaskot_attribute_write(
     out: &mut [u8],
     answer: &mut [u64; 2],
 ) -> u32
-    ensures { WritesTold (attributeWriting name.now value.now) out.old out.new result answer.new }
+    ensures { WritesTold (attribute_writing (record { name = name.now; value = value.now })) out.old out.new result answer.new }
 {
-    told::written(attributes::to_vec(name, value, out), answer)
+    let attribute = AdsAttribute { name, value };
+    told::number(attribute.to_vec(out), answer)
 }
 
 #[unsafe(no_mangle)]
@@ -321,12 +331,14 @@ pub extern "C" fn vindaskot_refactor_write(
     out: &mut [u8],
     answer: &mut [u64; 2],
 ) -> u32
-    ensures { WritesTold (refactorWriting count has_next name.now) out.old out.new result answer.new }
+    ensures { WritesTold (info_writing count has_next name.now) out.old out.new result answer.new }
 {
-    told::written(
-        refactor_info::to_vec_with_next(count, has_next, name, out),
-        answer,
-    )
+    let info = AdsRefactorInfo {
+        refactor_count: count,
+        next_refactor_info: has_next,
+        name,
+    };
+    told::number(info.to_vec_with_next(has_next, out), answer)
 }
 
 #[unsafe(no_mangle)]
@@ -336,22 +348,26 @@ pub extern "C" fn vindaskot_refactor_block_write(
     out: &mut [u8],
     answer: &mut [u64; 2],
 ) -> u32
-    ensures { WritesTold (blockWriting count block.now) out.old out.new result answer.new }
+    ensures { WritesTold (entries_writing count block.entry) out.old out.new result answer.new }
 {
-    told::written(refactor_info::entries_to_vec(count, block, out), answer)
+    told::number(refactor::entries_to_vec(count, block, out), answer)
 }
 
-#[tactic(auto, unfolding(crate::specs::Lent::guidChecked))]
-fn check_guid(present: usize) -> Checked
-    ensures { result ≡ guidChecked present }
+// The GUID that is given: no bytes are none, 16 are one.
+#[tactic(auto, unfolding(crate::specs::Lent::lent_guid))]
+fn lent_guid(bytes: &[u8]) -> Result<Option<[u8; 16]>, Refusal>
+    ensures { result ≡ lent_guid bytes.now }
 {
+    let present = bytes.len();
     if present == 0 {
-        return Checked::Passed;
+        return Ok(None);
     }
-    if present == 16 {
-        return Checked::Passed;
+    if present == 16
+        && let Some((guid, _)) = bytes.split_first_chunk::<16>()
+    {
+        return Ok(Some(*guid));
     }
-    Checked::Refused(Refusal::UnexpectedLength {
+    Err(Refusal::UnexpectedLength {
         needed: 16,
         present,
     })
@@ -377,29 +393,34 @@ pub extern "C" fn vindaskot_symbol_write_2(
     out: &mut [u8],
     answer: &mut [u64; 2],
 ) -> u32
-    ensures { WritesTold (afterCheck (guidChecked (length guid.now)) (symbolWriting (parts_of (symbolNumbers index_group index_offset size data_type_id flags high extended_flags (lentGuid guid.now).here) (lentGuid guid.now).bytes name.now type_name.now comment.now count block.now links chain.now))) out.old out.new result answer.new }
+    ensures { WritesTold (and_then (lent_guid guid.now) (λ given. symbol_written (new_symbol index_group index_offset size data_type_id flags high extended_flags given name.entry type_name.entry comment.entry count block.entry links chain.entry))) out.old out.new result answer.new }
 {
-    if let Checked::Refused(why) = check_guid(guid.len()) {
-        return told::refused(why, answer);
-    }
-    let given = guid::guid_at(guid, 0, true);
-    let numbers = SymbolNumbers {
+    let given = match lent_guid(guid) {
+        Ok(given) => given,
+        Err(why) => return told::refused(why, answer),
+    };
+    let symbol = NewSymbol {
         index_group: IndexGroup(index_group),
         index_offset: IndexOffset(index_offset),
         size,
         data_type_id,
         flags: AdsSymbolFlags(flags),
         high,
+        name,
+        type_name,
+        comment,
+        guid: given,
+        attributes: Block {
+            count,
+            bytes: block,
+        },
         extended_flags: AdsSymbol2Flags(extended_flags),
-        has_guid: given.here,
+        refactor_infos: Block {
+            count: links,
+            bytes: chain,
+        },
     };
-    let sixteen = given.bytes;
-    told::written(
-        numbers.to_vec(
-            sixteen, name, type_name, comment, count, block, links, chain, out,
-        ),
-        answer,
-    )
+    told::number(symbol.to_vec(out), answer)
 }
 
 #[unsafe(no_mangle)]
@@ -420,13 +441,13 @@ pub extern "C" fn vindaskot_field_write(
     out: &mut [u8],
     answer: &mut [u64; 2],
 ) -> u32
-    ensures { WritesTold (afterCheck (guidChecked (length guid.now)) (fieldWriting (fieldNumbers version hash_value type_hash_value size offset type_id flags (lentGuid guid.now).here) (lentGuid guid.now).bytes name.now type_name.now comment.now count block.now)) out.old out.new result answer.new }
+    ensures { WritesTold (and_then (lent_guid guid.now) (λ given. field_written (new_field version hash_value type_hash_value size offset type_id flags given name.entry type_name.entry comment.entry count block.entry))) out.old out.new result answer.new }
 {
-    if let Checked::Refused(why) = check_guid(guid.len()) {
-        return told::refused(why, answer);
-    }
-    let given = guid::guid_at(guid, 0, true);
-    let numbers = FieldNumbers {
+    let given = match lent_guid(guid) {
+        Ok(given) => given,
+        Err(why) => return told::refused(why, answer),
+    };
+    let field = NewField {
         version,
         hash_value,
         type_hash_value,
@@ -434,20 +455,23 @@ pub extern "C" fn vindaskot_field_write(
         offset,
         type_id,
         flags: AdsTypeFlags(flags),
-        has_guid: given.here,
+        name,
+        type_name,
+        comment,
+        guid: given,
+        attributes: Block {
+            count,
+            bytes: block,
+        },
     };
-    let sixteen = given.bytes;
-    told::written(
-        numbers.to_vec(sixteen, name, type_name, comment, count, block, out),
-        answer,
-    )
+    told::number(field.to_vec(out), answer)
 }
 
 #[unsafe(no_mangle)]
 pub extern "C" fn vindaskot_room(length: usize, answer: &mut [u64; 2]) -> u32
     ensures { Tells (roomTold (room_for length)) result answer.new }
 {
-    told::room(room::room(length), answer)
+    told::older::room(old_room::room(length), answer)
 }
 
 #[unsafe(no_mangle)]
@@ -456,16 +480,19 @@ pub extern "C" fn vindaskot_index_build(
     slots: &mut [u32],
     answer: &mut [u64; 2],
 ) -> u32
-    ensures { WritesTold (indexing presentMode bytes.now) slots.old slots.new result answer.new }
+    ensures { WritesTold (indexing (symbol_of Present) bytes.entry) slots.old slots.new result answer.new }
 {
-    told::written(index::build(bytes, refusal::PRESENT, slots), answer)
+    told::number(
+        index::build::<AdsSymbolInfo>(bytes, Mode::Present, slots),
+        answer,
+    )
 }
 
 #[unsafe(no_mangle)]
 pub extern "C" fn vindaskot_find(bytes: &[u8], name: &[u8], answer: &mut [u64; 2]) -> u32
     ensures { Tells (foundTold (find presentMode bytes.now name.now)) result answer.new }
 {
-    told::found(index::find(bytes, refusal::PRESENT, name), answer)
+    told::older::found(old_index::find(bytes, refusal::PRESENT, name), answer)
 }
 
 #[unsafe(no_mangle)]
@@ -477,8 +504,8 @@ pub extern "C" fn vindaskot_find_indexed(
 ) -> u32
     ensures { Tells (foundTold (findIndexed presentMode bytes.now slots.now name.now)) result answer.new }
 {
-    told::found(
-        index::find_indexed(bytes, refusal::PRESENT, slots, name),
+    told::older::found(
+        old_index::find_indexed(bytes, refusal::PRESENT, slots, name),
         answer,
     )
 }
@@ -490,21 +517,21 @@ pub extern "C" fn vindaskot_salvage(
     runs: &mut [u32],
     answer: &mut [u64; 2],
 ) -> u32
-    ensures { WritesBothTold (salvaging presentMode bytes.now) out.old runs.old out.new runs.new result answer.new }
+    ensures { WritesBothTold (salvaging (symbol_of Present) bytes.entry) out.old runs.old out.new runs.new result answer.new }
 {
-    modes::vindaskot_salvage_in(bytes, refusal::PRESENT, out, runs, answer)
+    modes::vindaskot_salvage_in(bytes, false, out, runs, answer)
 }
 
 #[unsafe(no_mangle)]
 pub extern "C" fn vindaskot_decode(src: &[u8], out: &mut [u8], answer: &mut [u64; 2]) -> u32
-    ensures { WritesTold (decodeWriting src.now) out.old out.new result answer.new }
+    ensures { WritesTold (decoding src.now) out.old out.new result answer.new }
 {
-    told::written(text::decode(src, out), answer)
+    told::number(text::decode(src, out), answer)
 }
 
 #[unsafe(no_mangle)]
 pub extern "C" fn vindaskot_encode(src: &[u8], out: &mut [u8], answer: &mut [u64; 2]) -> u32
-    ensures { WritesTold (encodeWriting src.now) out.old out.new result answer.new }
+    ensures { WritesTold (encoding src.now) out.old out.new result answer.new }
 {
-    told::written(text::encode(src, out), answer)
+    told::number(text::encode(src, out), answer)
 }

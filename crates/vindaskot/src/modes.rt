@@ -1,18 +1,22 @@
-// The calls in a mode (W-212), readers and all that stands on one: each is its namesake of the crate's root with one argument more, by which an end byte
+// The calls in a mode, readers and all that stands on one: each is its namesake of the crate's root with one argument more, by which an end byte
 // that is not 0 refuses. Where that is false, it answers as its namesake does.
 ghost use Rattle.std.specs.Prelude.{◌≡◌};
-ghost use Rattle.attr.specs.Attribute.{attributeRead};
-ghost use Rattle.refactor.specs.Refactor.{refactorRead, chainRead, chainNth};
-ghost use Rattle.symbol.specs.Symbol.{symbolRead};
-ghost use Rattle.symbol.specs.Questions.{symbolAttribute, symbolAttributeNamed, symbolRefactor};
-ghost use Rattle.walk.specs.Walk as symbols;
-ghost use Rattle.field.specs.Field.{fieldRead};
-ghost use Rattle.field.specs.Questions.{fieldAttribute, fieldAttributeNamed};
+ghost use Rattle.walk.specs.Step.{parse_of, step_at};
+ghost use Rattle.symbol.specs.Symbol.{symbol_of};
+ghost use Rattle.old_field.specs.Field.{fieldRead};
+ghost use Rattle.old_field.specs.Questions.{fieldAttribute, fieldAttributeNamed};
 ghost use Rattle.field_walk.specs.Walk as fields;
-ghost use Rattle.index.specs.Index.{indexing, find, findIndexed};
+ghost use Rattle.index.specs.Index.{indexing};
+ghost use Rattle.old_index.specs.Index.{find, findIndexed};
 ghost use Rattle.salvage.specs.Salvage.{salvaging};
-ghost use Rattle.told.specs.Told.{Tells, WritesTold, WritesBothTold, foundTold, chainTold, attributeTold, refactorTold, symbolTold, fieldTold};
-ghost use Rattle.told.specs.Slots.{symbolSlotsAfter, fieldSlotsAfter, symbolGuidAfter, fieldGuidAfter, attributeSlotsAfter, refactorSlotsAfter};
+ghost use Rattle.places.specs.Alone.{attribute_alone, refactor_alone, chain_read, chain_record};
+ghost use Rattle.places.specs.Symbol.{symbol_attribute, symbol_attribute_named, symbol_refactor_info};
+ghost use Rattle.told.specs.Told.{Tells, WritesTold, WritesBothTold, mode_of, number_told, numbers_told, record_told, step_told};
+ghost use Rattle.told.specs.Slots.{slots_after, step_after, symbol_slots, symbol_guid, attribute_slots, refactor_slots};
+ghost use Rattle.told.specs.Older.{foundTold, attributeTold, fieldTold, fieldSlotsAfter, fieldGuidAfter, attributeSlotsAfter};
+
+use symbol::{AdsSymbolInfo, SymbolHead};
+use told::mode;
 
 #[unsafe(no_mangle)]
 pub extern "C" fn vindaskot_symbol_read_in(
@@ -22,16 +26,11 @@ pub extern "C" fn vindaskot_symbol_read_in(
     guid: &mut [u8; 16],
     answer: &mut [u64; 2],
 ) -> u32
-    ensures tells { Tells (symbolTold (symbols.stepIs (symbolRead checked bytes.now).answer)) result answer.new }
-    ensures slots_after { slots.new ≡ symbolSlotsAfter (symbols.stepIs (symbolRead checked bytes.now).answer) slots.old }
-    ensures guid_after { guid.new ≡ symbolGuidAfter (symbols.stepIs (symbolRead checked bytes.now).answer) (symbolRead checked bytes.now).guid guid.old }
+    ensures tells { Tells (record_told (parse_of 30 (symbol_of (mode_of checked)) bytes.entry)) result answer.new }
+    ensures slots_after { slots.new ≡ slots_after symbol_slots (parse_of 30 (symbol_of (mode_of checked)) bytes.entry) slots.old }
+    ensures guid_after { guid.new ≡ slots_after symbol_guid (parse_of 30 (symbol_of (mode_of checked)) bytes.entry) guid.old }
 {
-    told::symbol_read(
-        symbol_info::try_from_slice(bytes, checked),
-        slots,
-        guid,
-        answer,
-    )
+    told::symbols::read(bytes, mode(checked), slots, guid, answer)
 }
 
 #[unsafe(no_mangle)]
@@ -43,13 +42,12 @@ pub extern "C" fn vindaskot_symbol_step_in(
     guid: &mut [u8; 16],
     answer: &mut [u64; 2],
 ) -> u32
-    ensures tells { Tells (symbolTold (symbols.symbolStep checked bytes.now cursor.old).step) result answer.new }
-    ensures cursor_after { cursor.new ≡ (symbols.symbolStep checked bytes.now cursor.old).cursor.at }
-    ensures slots_after { slots.new ≡ symbolSlotsAfter (symbols.symbolStep checked bytes.now cursor.old).step slots.old }
-    ensures guid_after { guid.new ≡ symbolGuidAfter (symbols.symbolStep checked bytes.now cursor.old).step (symbols.symbolStep checked bytes.now cursor.old).guid guid.old }
+    ensures tells { Tells (step_told (step_at (symbol_of (mode_of checked)) bytes.entry cursor.old).answer) result answer.new }
+    ensures cursor_after { cursor.new ≡ (step_at (symbol_of (mode_of checked)) bytes.entry cursor.old).cursor.at }
+    ensures slots_after { slots.new ≡ step_after symbol_slots (step_at (symbol_of (mode_of checked)) bytes.entry cursor.old).answer slots.old }
+    ensures guid_after { guid.new ≡ step_after symbol_guid (step_at (symbol_of (mode_of checked)) bytes.entry cursor.old).answer guid.old }
 {
-    let from = walk::Cursor { at: *cursor };
-    told::symbol_step(from.step(bytes, checked), cursor, slots, guid, answer)
+    told::symbols::step(bytes, mode(checked), cursor, slots, guid, answer)
 }
 
 #[unsafe(no_mangle)]
@@ -60,11 +58,11 @@ pub extern "C" fn vindaskot_symbol_attribute_in(
     slots: &mut [u64; 5],
     answer: &mut [u64; 2],
 ) -> u32
-    ensures tells { Tells (attributeTold (symbolAttribute checked bytes.now number)) result answer.new }
-    ensures slots_after { slots.new ≡ attributeSlotsAfter (symbolAttribute checked bytes.now number) slots.old }
+    ensures tells { Tells (record_told (symbol_attribute (mode_of checked) bytes.entry number)) result answer.new }
+    ensures slots_after { slots.new ≡ slots_after attribute_slots (symbol_attribute (mode_of checked) bytes.entry number) slots.old }
 {
     told::attribute(
-        symbol_info::attribute(bytes, checked, number),
+        places::of_symbol::symbol_attribute(bytes, mode(checked), number),
         slots,
         answer,
     )
@@ -78,11 +76,11 @@ pub extern "C" fn vindaskot_symbol_attribute_named_in(
     slots: &mut [u64; 5],
     answer: &mut [u64; 2],
 ) -> u32
-    ensures tells { Tells (attributeTold (symbolAttributeNamed checked bytes.now name.now)) result answer.new }
-    ensures slots_after { slots.new ≡ attributeSlotsAfter (symbolAttributeNamed checked bytes.now name.now) slots.old }
+    ensures tells { Tells (record_told (symbol_attribute_named (mode_of checked) bytes.entry name.now)) result answer.new }
+    ensures slots_after { slots.new ≡ slots_after attribute_slots (symbol_attribute_named (mode_of checked) bytes.entry name.now) slots.old }
 {
     told::attribute(
-        symbol_info::attribute_named(bytes, checked, name),
+        places::of_symbol::symbol_attribute_named(bytes, mode(checked), name),
         slots,
         answer,
     )
@@ -96,11 +94,11 @@ pub extern "C" fn vindaskot_symbol_refactor_info_in(
     slots: &mut [u64; 5],
     answer: &mut [u64; 2],
 ) -> u32
-    ensures tells { Tells (refactorTold (symbolRefactor checked bytes.now number)) result answer.new }
-    ensures slots_after { slots.new ≡ refactorSlotsAfter (symbolRefactor checked bytes.now number) slots.old }
+    ensures tells { Tells (record_told (symbol_refactor_info (mode_of checked) bytes.entry number)) result answer.new }
+    ensures slots_after { slots.new ≡ slots_after refactor_slots (symbol_refactor_info (mode_of checked) bytes.entry number) slots.old }
 {
     told::refactor(
-        symbol_info::refactor_info(bytes, checked, number),
+        places::of_symbol::symbol_refactor_info(bytes, mode(checked), number),
         slots,
         answer,
     )
@@ -118,7 +116,7 @@ pub extern "C" fn vindaskot_field_read_in(
     ensures slots_after { slots.new ≡ fieldSlotsAfter (fields.stepIs (fieldRead checked bytes.now).answer) slots.old }
     ensures guid_after { guid.new ≡ fieldGuidAfter (fields.stepIs (fieldRead checked bytes.now).answer) (fieldRead checked bytes.now).guid guid.old }
 {
-    told::field_read(
+    told::older::field_read(
         field_info::try_from_slice(bytes, checked),
         slots,
         guid,
@@ -141,7 +139,7 @@ pub extern "C" fn vindaskot_field_step_in(
     ensures guid_after { guid.new ≡ fieldGuidAfter (fields.fieldStep checked bytes.now cursor.old).step (fields.fieldStep checked bytes.now cursor.old).guid guid.old }
 {
     let from = field_walk::Cursor { at: *cursor };
-    told::field_step(from.step(bytes, checked), cursor, slots, guid, answer)
+    told::older::field_step(from.step(bytes, checked), cursor, slots, guid, answer)
 }
 
 #[unsafe(no_mangle)]
@@ -155,7 +153,7 @@ pub extern "C" fn vindaskot_field_attribute_in(
     ensures tells { Tells (attributeTold (fieldAttribute checked bytes.now number)) result answer.new }
     ensures slots_after { slots.new ≡ attributeSlotsAfter (fieldAttribute checked bytes.now number) slots.old }
 {
-    told::attribute(field_info::attribute(bytes, checked, number), slots, answer)
+    told::older::attribute(field_info::attribute(bytes, checked, number), slots, answer)
 }
 
 #[unsafe(no_mangle)]
@@ -169,7 +167,7 @@ pub extern "C" fn vindaskot_field_attribute_named_in(
     ensures tells { Tells (attributeTold (fieldAttributeNamed checked bytes.now name.now)) result answer.new }
     ensures slots_after { slots.new ≡ attributeSlotsAfter (fieldAttributeNamed checked bytes.now name.now) slots.old }
 {
-    told::attribute(
+    told::older::attribute(
         field_info::attribute_named(bytes, checked, name),
         slots,
         answer,
@@ -183,10 +181,14 @@ pub extern "C" fn vindaskot_attribute_read_in(
     slots: &mut [u64; 5],
     answer: &mut [u64; 2],
 ) -> u32
-    ensures tells { Tells (attributeTold (attributeRead checked bytes.now)) result answer.new }
-    ensures slots_after { slots.new ≡ attributeSlotsAfter (attributeRead checked bytes.now) slots.old }
+    ensures tells { Tells (record_told (attribute_alone (mode_of checked) bytes.entry)) result answer.new }
+    ensures slots_after { slots.new ≡ slots_after attribute_slots (attribute_alone (mode_of checked) bytes.entry) slots.old }
 {
-    told::attribute(attributes::try_from_slice(bytes, checked), slots, answer)
+    told::attribute(
+        places::alone::attribute_alone(bytes, mode(checked)),
+        slots,
+        answer,
+    )
 }
 
 #[unsafe(no_mangle)]
@@ -196,17 +198,21 @@ pub extern "C" fn vindaskot_refactor_read_in(
     slots: &mut [u64; 5],
     answer: &mut [u64; 2],
 ) -> u32
-    ensures tells { Tells (refactorTold (refactorRead checked bytes.now)) result answer.new }
-    ensures slots_after { slots.new ≡ refactorSlotsAfter (refactorRead checked bytes.now) slots.old }
+    ensures tells { Tells (record_told (refactor_alone (mode_of checked) bytes.entry)) result answer.new }
+    ensures slots_after { slots.new ≡ slots_after refactor_slots (refactor_alone (mode_of checked) bytes.entry) slots.old }
 {
-    told::refactor(refactor_info::try_from_slice(bytes, checked), slots, answer)
+    told::refactor(
+        places::alone::refactor_alone(bytes, mode(checked)),
+        slots,
+        answer,
+    )
 }
 
 #[unsafe(no_mangle)]
 pub extern "C" fn vindaskot_chain_read_in(bytes: &[u8], checked: bool, answer: &mut [u64; 2]) -> u32
-    ensures { Tells (chainTold (chainRead checked bytes.now)) result answer.new }
+    ensures { Tells (numbers_told (chain_read (mode_of checked) bytes.entry)) result answer.new }
 {
-    told::chain(refactor_info::parse_chain(bytes, checked), answer)
+    told::numbers(places::alone::chain_read(bytes, mode(checked)), answer)
 }
 
 #[unsafe(no_mangle)]
@@ -217,11 +223,11 @@ pub extern "C" fn vindaskot_chain_record_in(
     slots: &mut [u64; 5],
     answer: &mut [u64; 2],
 ) -> u32
-    ensures tells { Tells (refactorTold (chainNth checked bytes.now number)) result answer.new }
-    ensures slots_after { slots.new ≡ refactorSlotsAfter (chainNth checked bytes.now number) slots.old }
+    ensures tells { Tells (record_told (chain_record (mode_of checked) bytes.entry number)) result answer.new }
+    ensures slots_after { slots.new ≡ slots_after refactor_slots (chain_record (mode_of checked) bytes.entry number) slots.old }
 {
     told::refactor(
-        refactor_info::chain_record(bytes, checked, number),
+        places::alone::chain_record(bytes, mode(checked), number),
         slots,
         answer,
     )
@@ -234,9 +240,12 @@ pub extern "C" fn vindaskot_index_build_in(
     slots: &mut [u32],
     answer: &mut [u64; 2],
 ) -> u32
-    ensures { WritesTold (indexing checked bytes.now) slots.old slots.new result answer.new }
+    ensures { WritesTold (indexing (symbol_of (mode_of checked)) bytes.entry) slots.old slots.new result answer.new }
 {
-    told::written(index::build(bytes, checked, slots), answer)
+    told::number(
+        index::build::<AdsSymbolInfo>(bytes, mode(checked), slots),
+        answer,
+    )
 }
 
 #[unsafe(no_mangle)]
@@ -248,7 +257,7 @@ pub extern "C" fn vindaskot_find_in(
 ) -> u32
     ensures { Tells (foundTold (find checked bytes.now name.now)) result answer.new }
 {
-    told::found(index::find(bytes, checked, name), answer)
+    told::older::found(old_index::find(bytes, checked, name), answer)
 }
 
 #[unsafe(no_mangle)]
@@ -261,7 +270,7 @@ pub extern "C" fn vindaskot_find_indexed_in(
 ) -> u32
     ensures { Tells (foundTold (findIndexed checked bytes.now slots.now name.now)) result answer.new }
 {
-    told::found(index::find_indexed(bytes, checked, slots, name), answer)
+    told::older::found(old_index::find_indexed(bytes, checked, slots, name), answer)
 }
 
 #[unsafe(no_mangle)]
@@ -272,7 +281,10 @@ pub extern "C" fn vindaskot_salvage_in(
     runs: &mut [u32],
     answer: &mut [u64; 2],
 ) -> u32
-    ensures { WritesBothTold (salvaging checked bytes.now) out.old runs.old out.new runs.new result answer.new }
+    ensures { WritesBothTold (salvaging (symbol_of (mode_of checked)) bytes.entry) out.old runs.old out.new runs.new result answer.new }
 {
-    told::salvaged(salvage::salvage(bytes, checked, out, runs), answer)
+    told::salvaged(
+        salvage::salvage::<SymbolHead>(bytes, mode(checked), out, runs),
+        answer,
+    )
 }

@@ -1,13 +1,13 @@
 // The calls about whole data types (W-202). Each takes the mode: there is none that leaves it out.
 ghost use Rattle.std.specs.Prelude.{◌≡◌};
-ghost use Rattle.data_type.specs.DataType.{typeRead, read_of};
-ghost use Rattle.data_type.specs.Questions.{typeAttribute, typeAttributeNamed};
+ghost use Rattle.old_data_type.specs.DataType.{typeRead, read_of};
+ghost use Rattle.old_data_type.specs.Questions.{typeAttribute, typeAttributeNamed};
 ghost use Rattle.data_type_info.specs.Arrays.{typeArray};
 ghost use Rattle.member_info.specs.Member.{memberOf};
 ghost use Rattle.member_list.specs.Slots.{membersWriting};
 ghost use Rattle.data_type_walk.specs.Walk.{stepIs, typeStep};
-ghost use Rattle.told.specs.Told.{Tells, WritesTold, attributeTold};
-ghost use Rattle.told.specs.Slots.{attributeSlotsAfter};
+ghost use Rattle.told.specs.Told.{Tells};
+ghost use Rattle.told.specs.Older.{WrittenTold, attributeTold, attributeSlotsAfter};
 ghost use Rattle.told_type.specs.Told.{typeTold, arrayTold, memberTold};
 ghost use Rattle.told_type.specs.Slots.{typeSlotsAfter, typeGuidAfter, arraySlotsAfter, memberSlotsAfter, memberGuidAfter, memberPathAfter};
 
@@ -74,7 +74,7 @@ pub extern "C" fn vindaskot_type_attribute_in(
     ensures tells { Tells (attributeTold (typeAttribute checked bytes.now number)) result answer.new }
     ensures slots_after { slots.new ≡ attributeSlotsAfter (typeAttribute checked bytes.now number) slots.old }
 {
-    told::attribute(
+    told::older::attribute(
         data_type_info::attribute(bytes, checked, number),
         slots,
         answer,
@@ -92,7 +92,7 @@ pub extern "C" fn vindaskot_type_attribute_named_in(
     ensures tells { Tells (attributeTold (typeAttributeNamed checked bytes.now name.now)) result answer.new }
     ensures slots_after { slots.new ≡ attributeSlotsAfter (typeAttributeNamed checked bytes.now name.now) slots.old }
 {
-    told::attribute(
+    told::older::attribute(
         data_type_info::attribute_named(bytes, checked, name),
         slots,
         answer,
@@ -130,7 +130,7 @@ pub extern "C" fn vindaskot_type_members_in(
     slots: &mut [u64],
     answer: &mut [u64; 2],
 ) -> u32
-    ensures { WritesTold (membersWriting checked bytes.now) slots.old slots.new result answer.new }
+    ensures { WrittenTold (membersWriting checked bytes.now) slots.old slots.new result answer.new }
 {
-    told::written(member_list::list(bytes, checked, slots), answer)
+    told::older::written(member_list::list(bytes, checked, slots), answer)
 }

@@ -1,5 +1,5 @@
 use Rattle.std.proofs.Common.{refl}
-use Rattle.told.specs.Slots.{fieldSlots}
+use Rattle.told.specs.Older.{fieldSlots}
 use Rattle.told_type.specs.Slots.{typeSlots}
 use Rattle.told_type.proofs.type_slots.Goals as goal
 

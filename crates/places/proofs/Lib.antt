@@ -1,0 +1,4 @@
+pub mod Turn
+pub mod Chain
+pub mod Symbols
+pub mod Single
