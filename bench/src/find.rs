@@ -81,7 +81,7 @@ pub fn linear(kept: &Kept, name: &str) -> usize {
     start_of(kept, |own| own == name)
 }
 
-/// The same by W-201's rule, which the Rust leaves to its caller.
+/// The same in any case of A to Z, which the Rust leaves to its caller.
 fn in_any_case(kept: &Kept, name: &str) -> usize {
     start_of(kept, |own| own.eq_ignore_ascii_case(name))
 }

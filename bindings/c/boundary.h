@@ -3,7 +3,7 @@
  *   boundary.c         the program: groups of checks, the report
  *   boundary_memory.c  memory between pages that nobody may touch
  *   boundary_calls.c   every exported function, called with guard words around all that it is lent
- *   boundary_model.c   what document 01 and the requests say the answer is, worked out in C
+ *   boundary_model.c   what docs/FORMAT.md says the answer is, worked out in C
  *   boundary_make.c    random numbers, entries, damage
  *   boundary_edges.c   empty slices, every length lent, names that are nearly alike, the limits
  *   boundary_case.c    symbols by names in another case
@@ -312,7 +312,7 @@ struct told call_type_members(struct bytes bytes, struct room slots);
 struct told call_decode(struct bytes src, struct room out);
 struct told call_encode(struct bytes src, struct room out);
 
-/* ---- What document 01 says ---- */
+/* ---- What docs/FORMAT.md says ---- */
 
 #define NEXT_BIT 0x01000000u
 #define COUNT_MASK 0x01111111u

@@ -1,4 +1,4 @@
-/* Symbols by names in capitals and in small letters. What is expected stands here in the words of request W-201 and
+/* Symbols by names in capitals and in small letters. What is expected stands here in the words of docs/FORMAT.md, "Finding", and
  * does not come from the model. */
 #include <stdio.h>
 

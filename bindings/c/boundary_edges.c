@@ -1,5 +1,5 @@
 /* The edges: empty slices and null pointers, a lent buffer of every length, the lengths at which numbers end. The
- * expected figures stand here as 01 has them, or come from the model. */
+ * expected figures stand here as docs/FORMAT.md has them, or come from the model. */
 #include "boundary.h"
 
 static struct told finished(size_t cursor, size_t steps)

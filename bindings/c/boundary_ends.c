@@ -1,4 +1,4 @@
-/* End bytes. What is expected stands here in the words of request W-212 and does not come from the model: in the
+/* End bytes. What is expected stands here in the words of docs/FORMAT.md, "Modes", and does not come from the model: in the
  * checked mode "an end byte that isn't 0 refuses the entry, attributes and chain records included", by 16 with its
  * place and the byte, and "everything else stays". Each test is made in both modes; in the present one nothing depends
  * on end bytes. */

@@ -1,4 +1,4 @@
-/* Bytes 22 and 23 of a symbol. What is expected stands here in the words of request W-205 and does not come from the
+/* Bytes 22 and 23 of a symbol. What is expected stands here in the words of docs/FORMAT.md, "Symbol entries", and does not come from the
  * model. */
 #include "boundary.h"
 

@@ -1,8 +1,6 @@
-/* What document 01, for finding request W-201, for data types request W-202, for salvage request W-203, for bytes 22
- * and 23 request W-205, for room request W-206 and for end bytes request W-212 say the answer is, worked out from the
- * bytes in plain C, in the mode that is being tried. It shares no code with the library. Where 01 leaves a choice it
- * follows docs/DECISIONS.md. Slots and flags go by the header's names, so that a header that gives one of them another
- * number is found. */
+/* What docs/FORMAT.md says the answer is, worked out from the bytes in plain C, in the mode that is being tried. It shares
+ * no code with the library. Where the format leaves a choice it follows docs/DECISIONS.md. Slots and flags go by the
+ * header's names, so that a header that gives one of them another number is found. */
 #include "boundary.h"
 
 const size_t symbol_numbers[4] = {VINDASKOT_SYMBOL_INDEX_GROUP, VINDASKOT_SYMBOL_INDEX_OFFSET, VINDASKOT_SYMBOL_SIZE,
@@ -668,7 +666,7 @@ struct told model_type_members(struct bytes b, uint64_t *slots)
 
 /* ---- Index and finding ---- */
 
-/* W-206: "at most n / 33 entries, rounded down": the least entry, a header and three end bytes, taken away as often as
+/* Room: "at most n / 33 entries, rounded down": the least entry, a header and three end bytes, taken away as often as
  * it is there. */
 struct told model_room(size_t length)
 {
@@ -696,7 +694,7 @@ struct told model_index(struct bytes b, uint32_t *starts)
     return done(count, 0);
 }
 
-/* W-203: "copies every accepted symbol entry"; "one for each refused step: start, length, refusal number"; "A zero
+/* Salvage: "copies every accepted symbol entry"; "one for each refused step: start, length, refusal number"; "A zero
  * claim drops everything from there under number 10". */
 struct told model_salvage(struct bytes b, uint8_t *out, uint32_t *runs)
 {
@@ -720,7 +718,7 @@ struct told model_salvage(struct bytes b, uint8_t *out, uint32_t *runs)
     return done(bytes, slots);
 }
 
-/* W-201: "A to Z equal a to z; every other byte, accented letters included, still equals only itself." By two
+/* Finding: "A to Z equal a to z; every other byte, accented letters included, still equals only itself." By two
  * alphabets and not by folding, so that a wrong range is no mistake that both sides can share. */
 static bool same_byte(uint8_t x, uint8_t y)
 {

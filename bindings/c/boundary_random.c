@@ -26,7 +26,7 @@ static struct told step_at_present(stepping step, struct bytes b, size_t cursor)
     return told;
 }
 
-/* W-212: "Everything else stays". What the checked mode does not refuse for an end byte it tells as the present one
+/* "Everything else stays". What the checked mode does not refuse for an end byte it tells as the present one
  * does, and for an end byte it refuses only where that byte, which it tells, is not 0. Places count from the start of
  * b. */
 static void check_stays(struct bytes b, struct told checked, struct told present)
@@ -219,7 +219,7 @@ static void check_strings(struct bytes e, const uint64_t *slots, const struct ru
     CHECK(PLACES, at <= length && length <= e.len, "strings or an entry past the end");
 }
 
-/* W-205: "Symbol records carry the two bytes as read", worked out from the entry's own bytes. */
+/* "Symbol records carry the two bytes as read", worked out from the entry's own bytes. */
 static void check_high(struct bytes e, const uint64_t *slots)
 {
     const uint64_t low = e.at[22], high = e.at[23];
@@ -663,7 +663,7 @@ static bool guid_back(const struct told *told, uint64_t has, struct bytes guid)
     return has == (guid.len == 16) && memcmp(told->guid, guid.len == 16 ? guid.at : zeros, 16) == 0;
 }
 
-/* W-205: "the symbol writer puts them back", where the entry has them. */
+/* "the symbol writer puts them back", where the entry has them. */
 static void check_high_written(struct bytes e, uint16_t high)
 {
     CHECK(high != 0 ? HIGHS_WRITTEN : WRITES, e.at[22] == high % 256 && e.at[23] == high / 256,

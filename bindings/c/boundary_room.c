@@ -1,5 +1,5 @@
 /* Room for the index: how many slots an upload of a length can need. What is expected of an edge stands here in the
- * words of request W-206 and does not come from the model; a random case is held to the model and to those words. */
+ * words of docs/FORMAT.md, "Room", and does not come from the model; a random case is held to the model and to those words. */
 #include "boundary.h"
 
 /* The least entry that is accepted: a header, and the end bytes of three empty strings. */
@@ -12,13 +12,13 @@ static void hold_length(size_t length, size_t entries)
     SAME(ROOM_LENGTHS, call_room(length), done(entries, 0));
 }
 
-/* W-206: "Refusals: 5 for a length above the limit." */
+/* "Refusals: 5 for a length above the limit." */
 static void hold_above(size_t length)
 {
     SAME(ROOM_ABOVE, call_room(length), refused(5, VINDASKOT_LIMIT, length));
 }
 
-/* W-206: "n / 33 entries, rounded down". Byte by byte, and nothing is divided: an entry more with every 33rd. */
+/* "n / 33 entries, rounded down". Byte by byte, and nothing is divided: an entry more with every 33rd. */
 static void every_length(void)
 {
     enum { FEW = 10000 };
@@ -101,7 +101,7 @@ void try_room_lengths(void)
 
 /* ---- What holds of every upload ---- */
 
-/* W-206: a walk "makes at most n steps and accepts at most n / 33 entries". How many it accepts, and whether a zero
+/* a walk "makes at most n steps and accepts at most n / 33 entries". How many it accepts, and whether a zero
  * claim stops it. */
 static size_t hold_steps(struct bytes b, bool *stopped)
 {
@@ -120,7 +120,7 @@ static size_t hold_steps(struct bytes b, bool *stopped)
     return accepted;
 }
 
-/* W-206: "an index of that many slots is never refused by 6". It has the starts that one of more slots has, or is
+/* "an index of that many slots is never refused by 6". It has the starts that one of more slots has, or is
  * stopped as the walk is. */
 static void hold_index(struct bytes b, size_t slots)
 {

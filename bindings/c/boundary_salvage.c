@@ -1,5 +1,5 @@
 /* What is kept of a damaged upload, and what is dropped. What is expected of an edge stands here in the words of
- * request W-203 and does not come from the model; a random case is held to the model and to those words. */
+ * docs/FORMAT.md, "Salvage", and does not come from the model; a random case is held to the model and to those words. */
 #include "boundary.h"
 
 enum { HEADER = 30, LEAST = 33, MOST = 8192, RUN = VINDASKOT_RUN_SLOTS };
@@ -31,7 +31,7 @@ static const uint32_t *slots_of(struct made made)
     return (const uint32_t *)(const void *)made.runs.at;
 }
 
-/* W-203: "Refusals: 5, then 6 for the upload, then 6 for the list", the first counting bytes and the other slots. */
+/* "Refusals: 5, then 6 for the upload, then 6 for the list", the first counting bytes and the other slots. */
 static struct made salvage(struct bytes b, struct salvaged want, size_t bytes, size_t slots)
 {
     struct made made = {.out = lend(bytes), .runs = lend_runs(slots)};
@@ -64,7 +64,7 @@ static enum group kind_of(struct bytes left, uint32_t told, uint32_t *number, si
     return *number == 2 ? RUNS_TAIL : *number == 3 ? RUNS_BEYOND : RUNS_ZERO;
 }
 
-/* W-203: "one for each refused step". A step from where the run starts is refused with its number and leads to its end;
+/* "one for each refused step". A step from where the run starts is refused with its number and leads to its end;
  * at a zero claim it stands. */
 static void check_run(struct bytes b, size_t start, size_t len, uint32_t number, bool adjacent)
 {
@@ -81,7 +81,7 @@ static void check_run(struct bytes b, size_t start, size_t len, uint32_t number,
           (unsigned)number, (unsigned)step.status, step.cursor);
 }
 
-/* W-203: "The runs and the copied entries cover the damaged upload exactly, without overlap". No upload has more runs
+/* "The runs and the copied entries cover the damaged upload exactly, without overlap". No upload has more runs
  * than a fourth of its bytes and one: behind a claim of 1, 2 or 3 stand the zeros of its other bytes, so that what is
  * claimed there is at least 256, or 0 and then the run goes to the end. */
 static void check_cover(struct bytes b, struct bytes kept, const uint32_t *runs, size_t slots)
@@ -105,7 +105,7 @@ static void check_cover(struct bytes b, struct bytes kept, const uint32_t *runs,
         CHECK(RUNS_NONE, equal(kept, b), "nothing is dropped, and not everything is kept");
 }
 
-/* W-203: "the walk over the result gives no refusal"; "A second salvage drops nothing". */
+/* "the walk over the result gives no refusal"; "A second salvage drops nothing". */
 static void check_again(struct bytes kept)
 {
     struct bytes b = lay(COMMENT, kept);
@@ -381,7 +381,7 @@ static void beyond(void)
         }
 }
 
-/* W-203: "A zero claim drops everything from there under number 10": first, between others and last, with sound
+/* "A zero claim drops everything from there under number 10": first, between others and last, with sound
  * entries, refused ones and too few bytes behind it. */
 static void zero_claims(void)
 {

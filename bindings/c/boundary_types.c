@@ -1,4 +1,4 @@
-/* Whole data types. What is expected of an edge stands here in the words of request W-202, or comes from how the tree
+/* Whole data types. What is expected of an edge stands here in the words of docs/FORMAT.md, or comes from how the tree
  * was put together, and does not come from the model; a random tree is held to the model and to what must hold of every
  * data type. */
 #include "boundary.h"
@@ -217,7 +217,7 @@ static void try_members(struct bytes b, const uint64_t *s)
     }
 }
 
-/* W-212: "Everything else stays": what the checked mode does not refuse for an end byte it tells as the present one. */
+/* "Everything else stays": what the checked mode does not refuse for an end byte it tells as the present one. */
 static void try_stays(struct bytes b, struct told checked)
 {
     mode = PRESENT_IN;

@@ -71,7 +71,7 @@ shape red_zone_index                    # = 136
         movb    $1, (%rsp,%rcx)
         ret
 ends red_zone_index
-shape red_zone_read                     # = 80
+shape red_zone_read                     # = 136
         mov     %rax, -72(%rsp)
         movzwl  -72(%rsp,%rcx), %eax
         ret

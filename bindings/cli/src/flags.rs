@@ -73,17 +73,23 @@ mod tests {
             "/../../crates/flags/src/symbol_flags.rt"
         );
         let source = std::fs::read_to_string(source).unwrap();
-        let constants = source.lines().filter_map(|line| {
-            let (name, rest) = line.trim().strip_prefix("pub const ")?.split_once(": ")?;
-            let (width, bits) = rest.strip_suffix(';')?.split_once(" = 0x")?;
-            Some((width, u32::from_str_radix(bits, 16).unwrap(), name))
-        });
+        let mut width = "";
+        let mut there = Vec::new();
+        for line in source.lines().map(str::trim) {
+            if let Some((_, word)) = line.strip_prefix("impl Ads").and_then(|kind| kind.split_once(": ")) {
+                width = word.trim_end_matches(" {");
+            } else if let Some((name, bits)) = line
+                .strip_prefix("const ")
+                .and_then(|constant| constant.strip_suffix(';')?.split_once(" = 0x"))
+            {
+                there.push((width, u32::from_str_radix(bits, 16).unwrap(), name));
+            }
+        }
         let context = ("u16", CONTEXT, "CONTEXT_MASK");
         let symbol = SYMBOL.map(|(bit, name)| ("u16", bit, name));
         let extended = EXTENDED.map(|(bit, name)| ("u32", bit, name));
         let mut here = [&symbol[..], &[context], &extended].concat();
         here.sort();
-        let mut there: Vec<_> = constants.collect();
         there.sort();
         assert_eq!(here, there);
     }

@@ -1,4 +1,4 @@
-//! Refusals in words, with document 01's number and both figures.
+//! Refusals in words, with its number and both figures.
 
 use vindaskot::{Refusal, RefusalKind};
 

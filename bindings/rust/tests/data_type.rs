@@ -1094,7 +1094,7 @@ fn uploads_at_random() {
     assert!(refused > 3000, "{refused}");
 }
 
-/// Demand 3: over fit field records this reader's walk tells the same fields, no array record and no member.
+/// Over fit field records this reader's walk tells the same fields, no array record and no member.
 #[test]
 fn fit_fields_are_data_types_without_members() {
     let mut r = Random(36);

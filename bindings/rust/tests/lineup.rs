@@ -1,4 +1,4 @@
-//! Document 01's line-up table and its listed example, through the crate.
+//! The line-up table (crates/lineup) and the listed example, through the crate.
 
 mod common;
 

@@ -1,4 +1,4 @@
-//! Salvage, against a walk of its own over the bytes, after document 01 and request W-203.
+//! Salvage, against a walk of its own over the bytes, after docs/FORMAT.md, "Walking" and "Salvage".
 
 mod common;
 

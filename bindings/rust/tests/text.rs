@@ -1,4 +1,4 @@
-//! Text: document 01's table both ways, and what encoding refuses.
+//! Text: the table of docs/FORMAT.md both ways, and what encoding refuses.
 
 mod common;
 

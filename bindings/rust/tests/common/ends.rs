@@ -1,4 +1,4 @@
-//! Which end byte of an entry the checked mode refuses, worked out from the bytes after document 01 and request W-212.
+//! Which end byte of an entry the checked mode refuses, worked out from the bytes after docs/FORMAT.md, "Modes".
 
 /// What is read on, from the start of some bytes.
 struct Reading<'a> {

@@ -1,4 +1,4 @@
-//! Records with their bytes laid out by hand, after document 01: what the crate's answers are compared with.
+//! Records with their bytes laid out by hand, after docs/FORMAT.md: what the crate's answers are compared with.
 
 use super::{Random, written};
 use vindaskot::{
@@ -136,7 +136,7 @@ impl PlainSymbol {
         records.flat_map(record).collect()
     }
 
-    /// The entry as document 01 lays it out.
+    /// The entry as docs/FORMAT.md lays it out.
     pub fn bytes(&self) -> Vec<u8> {
         let n = &self.numbers;
         let words = [n.index_group.0, n.index_offset.0, n.size, n.data_type_id];
@@ -245,7 +245,7 @@ impl PlainField {
         }
     }
 
-    /// The entry as document 01 lays it out.
+    /// The entry as docs/FORMAT.md lays it out.
     pub fn bytes(&self) -> Vec<u8> {
         let n = &self.numbers;
         let hashes = [n.version, n.hash_value, n.type_hash_value];

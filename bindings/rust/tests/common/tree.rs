@@ -1,4 +1,4 @@
-//! Data type entries: trees laid out by hand, and what reading any bytes must tell, worked out after documents 01 and 02.
+//! Data type entries: trees laid out by hand, and what reading any bytes must tell, worked out after docs/FORMAT.md.
 
 use std::ops::Range;
 
@@ -106,7 +106,7 @@ impl Tree {
         AdsTypeFlags(self.numbers.flags.0 | there.map(|(_, bit)| bit).sum::<u32>())
     }
 
-    /// The entry as documents 01 and 02 lay it out.
+    /// The entry as docs/FORMAT.md lays it out.
     pub fn bytes(&self) -> Vec<u8> {
         let items: Vec<_> = self.sub_items.iter().map(Self::bytes).collect();
         self.bytes_with(&items)
@@ -238,7 +238,7 @@ impl Reading<'_> {
         string
     }
 
-    /// W-212: behind the length checks of that same string group.
+    /// Behind the length checks of that same string group.
     fn ends(&self, strings: &[Range<usize>]) -> Result<(), Refusal> {
         let ends = strings
             .iter()
