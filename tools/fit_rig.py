@@ -1,5 +1,5 @@
 #!/usr/bin/env python3
-"""The expected output of the program fit_rig, by a writer and a walk of its own from document 01's layouts.
+"""The expected output of the program fit_rig, by a writer and a walk of its own from the layouts of docs/FORMAT.md.
 
 Use: tools/fit_rig.py > crates/fit_rig/stdout
 """

@@ -1,7 +1,7 @@
 #!/usr/bin/env python3
 """Makes crates/index_rig/stdout: run at the project's root, `tools/index_rig.py > crates/index_rig/stdout`.
 
-An upload like the program's is laid out, walked and searched here by 01's, W-201's and W-206's text alone (Walking, the
+An upload like the program's is laid out, walked and searched here by the text of docs/FORMAT.md alone (Walking, the
 symbol layout, the refusal numbers, names in capitals, room), without a look at the proved code. rt ci runs the program
 and compares.
 """

@@ -1,12 +1,12 @@
 #!/usr/bin/env python3
-"""Odd frames for the listing, and what 01 and W-205 say is printed of them.
+"""Odd frames for the listing, and what docs/FORMAT.md says is printed of them.
 
     tools/list_odd.py          writes crates/list_odd/stdin and crates/list_odd/stdout
     tools/list_odd.py --check  says whether these files are what it would write
     tools/list_odd.py FILE     prints the listing of a file of hexadecimal lines
 
-`rt ci` then runs the proved program on that stdin and compares. The reader below follows 01's text,
-W-205's and the layouts of TcAdsDef.h; it shares nothing with the crates.
+`rt ci` then runs the proved program on that stdin and compares. The reader below follows the text of docs/FORMAT.md
+and the layouts of TcAdsDef.h; it shares nothing with the crates.
 """
 import struct
 import sys
@@ -16,7 +16,7 @@ HEADER = b"line at len group offset size type flags unread attrs refs name typen
 MOST = 16384
 
 
-# What 01 says of a symbol entry, and W-205 of its bytes 22 and 23.
+# A symbol entry, with its bytes 22 and 23.
 
 
 def attribute_end(e, at):
@@ -219,7 +219,7 @@ def odd_lines():
     yield hexed(b"".join(entry(high=h) for h in (1, 255, 256, 0x0102, 0xFF00, 0x8000, 0xFFFF)))
     yield hexed(entry(high=0x9008, tail=guid) + entry(flags=0x0008, high=0x1000, tail=guid) + entry(name=b"", kind=b"", high=4660))
     yield hexed(entry(high=0x0102, claim=36) + entry(high=0x0201))
-    # end bytes that are not 0, of each string, of an attribute and of a chain's record: `list` is of the present mode (W-212)
+    # end bytes that are not 0, of each string, of an attribute and of a chain's record: `list` is of the present mode
     for end in (31, 35, 36):
         yield hexed(good[:end] + b"\x58" + good[end + 1 :])
     yield hexed(entry(flags=0x1000, tail=b"\2\0" + attrs[:-1] + b"\1"))

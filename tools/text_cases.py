@@ -1,5 +1,5 @@
 #!/usr/bin/env python3
-"""What the program crates/text_cases has to write, worked out from 01's table and the Encoding Standard, not from the Rattle code.
+"""What the program crates/text_cases has to write, worked out from the table of docs/FORMAT.md and the Encoding Standard, not from the Rattle code.
 
 Use, at the project's root, after a change of the program's inputs or lines:
     python3 tools/text_cases.py > crates/text_cases/stdout

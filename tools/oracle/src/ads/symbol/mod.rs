@@ -1,4 +1,4 @@
-// Glue for files that were not supplied. The length of an array record is 01's: these runs can't confirm it.
+// Glue for files that were not supplied. The length of an array record is the maker's header's: these runs can't confirm it.
 pub use super::error;
 
 #[path = "../../../supplied/packages/tcads-core/src/ads/symbol/attributes.rs"]
