@@ -13,16 +13,21 @@ mod writer;
 pub use block::check_block;
 use refusal::{LIMIT, Mode, Refusal};
 
+/// An attribute (docs/FORMAT.md, "Attributes"). Its strings are parts of the bytes that it was read from, Windows-1252, without their end bytes.
 #[derive(Clone, Copy, Debug, PartialEq, Eq)]
 pub struct AdsAttribute<'a> {
+    /// The name, of at most 255 bytes.
     pub name: &'a [u8],
+    /// The value, likewise.
     pub value: &'a [u8],
 }
 
 /// The attributes of an entry, read one by one as they are asked for.
 #[derive(Clone, Copy, Debug)]
 pub struct Attributes<'a> {
+    /// What the attributes begin: the bytes left, to the end of the entry.
     pub bytes: &'a [u8],
+    /// How many there are.
     pub count: usize,
 }
 
@@ -118,8 +123,11 @@ pub fn list(bytes: &[u8], most: usize) -> (Attributes<'_>, &[u8])
 /// Attributes, the bytes after them, and why there are no more, if one was refused.
 #[derive(Clone, Copy, Debug)]
 pub struct Listed<'a> {
+    /// The attributes before it.
     pub attributes: Attributes<'a>,
+    /// The bytes after them.
     pub rest: &'a [u8],
+    /// Why there are no more.
     pub stopped: Option<Refusal>,
 }
 

@@ -13,6 +13,7 @@ use refusal::{LIMIT, Refusal};
 pub struct Claimed {
     /// The length that an entry claims, or why there is none; nothing at the end.
     pub size: Option<Result<usize, Refusal>>,
+    /// The place where the next step begins.
     pub next: usize,
 }
 

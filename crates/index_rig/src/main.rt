@@ -10,7 +10,7 @@ use refusal::{Refusal, Written};
 use old_room::RoomAnswer;
 use std::io;
 
-// 01's number and figures.
+// The refusal's number and figures.
 fn refusal(rt: &impl Print, why: Refusal) -> io::Result<()> {
     let figures = why.figures();
     print!(rt;

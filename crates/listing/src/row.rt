@@ -93,8 +93,11 @@ impl fmt::Display for Hex<'_> {
 /// An entry that was read.
 #[derive(Clone, Copy)]
 pub struct EntryRow<'a> {
+    /// The number of the line, from 1.
     pub line: u64,
+    /// Where the entry starts, in bytes from the start of the frame.
     pub start: usize,
+    /// The symbol that was read there.
     pub info: &'a AdsSymbolInfo<'a>,
 }
 
@@ -132,8 +135,11 @@ impl fmt::Display for EntryRow<'_> {
 /// Why none was read there.
 #[derive(Drop)]
 pub struct RefusalRow {
+    /// The number of the line, from 1.
     pub line: u64,
+    /// Where the step began, in bytes from the start of the frame.
     pub start: usize,
+    /// The refusal's number and figures.
     pub figures: Figures,
 }
 

@@ -14,18 +14,23 @@ pub use block::check_block;
 use refusal::{LIMIT, Mode, Refusal};
 pub use writer::entries_to_vec;
 
+/// A refactor record (docs/FORMAT.md, "Refactor records").
 #[derive(Clone, Copy, Debug, PartialEq, Eq)]
 pub struct AdsRefactorInfo<'a> {
+    /// How often it was renamed, packed: under the mask 0x01111111.
     pub refactor_count: u32,
     /// Whether another record follows.
     pub next_refactor_info: bool,
+    /// The former name, if any.
     pub name: &'a [u8],
 }
 
 /// The records of a chain, read one by one as they are asked for.
 #[derive(Clone, Copy, Debug)]
 pub struct RefactorInfos<'a> {
+    /// The bytes that they begin.
     pub bytes: &'a [u8],
+    /// How many there are.
     pub count: usize,
 }
 

@@ -1,4 +1,4 @@
--- What is asked for comes back as a record, or is refused by 01's number and figures.
+-- What is asked for comes back as a record, or is refused by its number and figures.
 use Rattle.std.specs.Prelude.{ℕ, zero, suc, List, [], ◌∷◌}
 use Rattle.refusal.specs.declared.Figures.{Figures}
 

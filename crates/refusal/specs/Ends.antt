@@ -1,4 +1,4 @@
--- W-212: the end bytes of strings, and the two modes of a reader.
+-- docs/FORMAT.md, "Modes": the end bytes of strings, and the two modes of a reader.
 use Rattle.std.specs.Prelude.{ℕ, Bool, true, false, List, [], ◌∷◌, eqb, get_or, if◌then◌else◌}
 use Rattle.refusal.specs.declared.Refusal.{Refusal}
 use Rattle.refusal.specs.declared.Refusal.TheVariants.{EndByte}

@@ -1,4 +1,4 @@
--- W-212, what the look at end bytes means: it passes exactly where all are 0, and else the first that is not 0 is refused.
+-- docs/FORMAT.md, "Modes": what the look at end bytes means: it passes exactly where all are 0, and else the first that is not 0 is refused.
 use Rattle.std.specs.Prelude.{ℕ, ◌≡◌, List, [], ◌∷◌, ◌++◌, get_or}
 use Rattle.refusal.specs.declared.Refusal.{Refusal}
 use Rattle.refusal.specs.declared.Refusal.TheVariants.{EndByte}

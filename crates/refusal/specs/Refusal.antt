@@ -1,4 +1,4 @@
--- 01, "Refusal numbers", and 02: the number and the two figures of every refusal.
+-- docs/FORMAT.md, "Refusals": the number and the two figures of every refusal.
 use Rattle.std.specs.Prelude.{ℕ, ◌+◌}
 use Rattle.refusal.specs.declared.Figures.{Figures}
 use Rattle.refusal.specs.declared.Refusal.{Refusal}
@@ -25,7 +25,7 @@ use Rattle.refusal.specs.declared.Refusal.TheVariants.{
 abbrev pub limit : ℕ
 limit = 16777216
 
--- the levels of a data type entry (W-202), the root's among them
+-- the levels of a data type entry, the root's among them
 abbrev pub deepest : ℕ
 deepest = 16
 

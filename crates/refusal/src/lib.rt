@@ -1,4 +1,4 @@
-// The numbered refusals of 01, and what a writer answers. The Rust's error.rs.
+//! The numbered refusals (docs/FORMAT.md, "Refusals"), and what a writer answers. After the Rust's error.rs.
 #![tactic(auto, unfolding(crate::specs::EndBytes::ended, crate::specs::Ends::endsMet, crate::specs::Writing::exactly))]
 
 ghost use Rattle.std.specs.Prelude.{◌≡◌, ◌∷◌, [], ◌+◌, Some};
@@ -11,15 +11,16 @@ ghost use Rattle.refusal.specs.Ends.{endsMet};
 use std::error::Error;
 use std::fmt;
 
-// The largest input, and the largest entry that is written.
+/// The most bytes of an input, and of an entry that is written.
 pub const LIMIT: usize = 16777216;
 
-// The levels of a data type entry (W-202), the root's among them.
+/// The levels of a data type entry, the root's among them.
 pub const DEEPEST: usize = 16;
 
-// The modes of a reader (W-212): whether an end byte that is not 0 refuses. In the present mode none is looked at.
+/// The present mode of the older readers, in which no end byte is looked at.
 pub const PRESENT: bool = false;
 
+/// Their checked mode, in which one that is not 0 refuses.
 pub const CHECKED: bool = true;
 
 /// Whether an end byte that is not 0 refuses.
@@ -34,47 +35,66 @@ pub enum Mode {
 /// Why a reader or a writer refuses: one case for each number, with what its two figures are made of.
 #[derive(Clone, Copy, Debug, PartialEq, Eq)]
 pub enum Refusal {
+    /// 1: a record or a flag word of another length, in bytes.
     UnexpectedLength { needed: usize, present: usize },
+    /// 2: less than a header, a length or a record's least, in bytes.
     TooShort { needed: usize, present: usize },
+    /// 3: an entry claims, or its parts need, more bytes than there are.
     EntryLengthMismatch { needed: usize, available: usize },
+    /// 4: the header is there, and the claim is below it.
     ClaimBelowHeader { header: usize, claim: usize },
+    /// 5: an input or a written entry above the limit, in bytes.
     TooLarge { length: usize },
+    /// 6: more is to be written than was lent.
     OutputTooSmall { needed: usize, lent: usize },
+    /// 7: a string or a count above its length field.
     TooLong { most: usize, actual: usize },
+    /// 8: a symbol's flags and the sections given disagree, at this section.
     SectionsDisagree { section: usize },
+    /// 9: a block is not exactly its count of good records; how many stand at its start.
     BadBlock { count: usize, good: usize },
+    /// 10: a walk met an entry that claims no bytes.
     ZeroEntryLength,
+    /// 11: at this place, 1 for bytes that are not UTF-8, 2 for a character that Windows-1252 has not.
     BadText { place: usize, kind: usize },
+    /// 12: a bad line of hexadecimal digits.
     BadHexadecimal,
+    /// 13: nothing has the name.
     NameNotFound,
+    /// 14: no attribute, refactor record, array record or member has that number.
     NoSuchNumber { count: usize, asked: usize },
+    /// 15: a data type entry deeper than its deepest level.
     TooDeep,
+    /// 16: in the checked mode, an end byte that is not 0, at this place of the entry or of a record that is read alone.
     EndByte { place: usize, byte: u8 },
 }
 
-// A refusal as 01 writes it: its number and its two figures.
+/// A refusal in numbers (docs/FORMAT.md, "Refusals").
 #[derive(Clone, Copy, Debug, PartialEq, Eq)]
 pub struct Figures {
+    /// Which refusal it is.
     pub number: u32,
+    /// What was needed or claimed.
     pub expected: usize,
+    /// What was there.
     pub got: usize,
 }
 
-// Whether something is as it is wanted.
+/// Whether something is as it is wanted.
 #[derive(Drop)]
 pub enum Checked {
     Passed,
     Refused(Refusal),
 }
 
-// Good records at the start of a block, and the place after them.
+/// Good records at the start of a block, and the place after them.
 #[derive(Drop)]
 pub struct Counted {
     pub good: usize,
     pub next: usize,
 }
 
-// What a writer answers: how many bytes it wrote from place 0, or why it wrote none.
+/// What an older writer answers: how many bytes it wrote from place 0, or why it wrote none.
 #[derive(Drop)]
 pub enum Written {
     Done(usize),
@@ -82,6 +102,7 @@ pub enum Written {
 }
 
 impl Refusal {
+    /// The refusal's number and its two figures.
     pub fn figures(self) -> Figures
         ensures { result ≡ figures_of self }
     {

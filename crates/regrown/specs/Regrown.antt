@@ -6,7 +6,7 @@ use Rattle.refusal.specs.Refusal.{limit, numbered}
 use Rattle.refusal.specs.declared.Figures.{Figures}
 use Rattle.entry.specs.Walk.{walk}
 
--- a record with its entry's length, a refusal by 01's number and figures, or the end; each with the place where the next step begins
+-- a record with its entry's length, a refusal by its number and figures, or the end; each with the place where the next step begins
 pub data Tells (S : Type 0) : Type 0 where
   Entry : S → ℕ → ℕ → Tells S
   Refused : Figures → ℕ → Tells S

@@ -20,7 +20,9 @@ use walk::{Entry, Walker};
 /// How many bytes of the new upload and how many slots of the list were written.
 #[derive(Clone, Copy, Debug, PartialEq, Eq)]
 pub struct Salvaged {
+    /// Bytes of the new upload.
     pub bytes: usize,
+    /// Slots of the list, three a run.
     pub slots: usize,
 }
 

@@ -18,22 +18,36 @@ use refusal::{Mode, Refusal};
 use walk::{Entry, Walker};
 pub use writer::NewSymbol;
 
+/// A symbol: a variable of the controller (docs/FORMAT.md, "Symbol entries"). Strings are Windows-1252, without their end bytes.
 #[derive(Clone, Copy, Debug)]
 pub struct AdsSymbolInfo<'a> {
+    /// The entry's length in bytes.
     pub length: usize,
+    /// Where the variable is asked for, with the index offset.
     pub index_group: IndexGroup,
+    /// The place within the index group.
     pub index_offset: IndexOffset,
+    /// The variable's size in bytes.
     pub size: u32,
+    /// The maker's number of its type.
     pub data_type_id: u32,
+    /// Which sections follow, and what the variable is.
     pub flags: AdsSymbolFlags,
     /// The two bytes after the flags, as sent: nothing depends on them.
     pub high: u16,
+    /// The name, by which it is found in any case of A to Z.
     pub name: &'a [u8],
+    /// The name of its type.
     pub type_name: &'a [u8],
+    /// The comment.
     pub comment: &'a [u8],
+    /// The GUID of its type, if it is flagged and its bytes are there.
     pub guid: Option<[u8; 16]>,
+    /// The attributes that are shown: one that is refused ends them silently.
     pub attributes: Attributes<'a>,
+    /// The extended flags, if they are flagged and there.
     pub extended_flags: Option<AdsSymbol2Flags>,
+    /// The former names: none where the chain is refused.
     pub refactor_infos: RefactorInfos<'a>,
     /// What stands after the sections.
     pub unread: &'a [u8],
@@ -202,12 +216,15 @@ impl<'a> Entry<'a> for AdsSymbolInfo<'a> {
     }
 }
 
+/// The pieces of an upload of symbols.
 pub type Symbols<'a> = Walker<'a, AdsSymbolInfo<'a>>;
 
 /// What the index and finding look at of a symbol: in the present mode its sections are not read.
 #[derive(Clone, Copy, Debug)]
 pub struct SymbolHead<'a> {
+    /// The entry's length in bytes.
     pub length: usize,
+    /// The name.
     pub name: &'a [u8],
 }
 

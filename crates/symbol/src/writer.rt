@@ -17,15 +17,23 @@ use writing::Block;
 /// A symbol to be written.
 #[derive(Clone, Copy, Debug)]
 pub struct NewSymbol<'a> {
+    /// Where the variable is asked for, with the index offset.
     pub index_group: IndexGroup,
+    /// The place within the index group.
     pub index_offset: IndexOffset,
+    /// The variable's size in bytes.
     pub size: u32,
+    /// The maker's number of its type.
     pub data_type_id: u32,
+    /// Which sections are written: they have to agree with what is given.
     pub flags: AdsSymbolFlags,
     /// The two bytes after the flags, written as given: nothing depends on them.
     pub high: u16,
+    /// The name, of at most 65,535 bytes.
     pub name: &'a [u8],
+    /// The name of its type, likewise.
     pub type_name: &'a [u8],
+    /// The comment, likewise.
     pub comment: &'a [u8],
     /// There exactly if flagged.
     pub guid: Option<[u8; 16]>,

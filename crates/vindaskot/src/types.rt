@@ -1,4 +1,4 @@
-// The calls about whole data types (W-202). Each takes the mode: there is none that leaves it out.
+// The calls about whole data types. Each takes the mode: there is none that leaves it out.
 ghost use Rattle.std.specs.Prelude.{◌≡◌};
 ghost use Rattle.old_data_type.specs.DataType.{typeRead, read_of};
 ghost use Rattle.old_data_type.specs.Questions.{typeAttribute, typeAttributeNamed};

@@ -60,23 +60,28 @@ pub fn parse<'a, E: Entry<'a>>(bytes: &'a [u8], mode: Mode) -> Result<E, Refusal
 /// The place in the upload where the next step begins.
 #[derive(Clone, Copy, Debug)]
 pub struct Cursor {
+    /// Bytes from the start of the upload.
     pub at: usize,
 }
 
 /// A step and the cursor after it: `None` at the end of the upload.
 #[derive(Drop)]
 pub struct Stepped<E> {
+    /// What the step read, or why it read nothing.
     pub answer: Option<Result<E, Refusal>>,
+    /// Where the next step begins. It moves by what the entry claims, read or not.
     pub cursor: Cursor,
 }
 
 impl Cursor {
+    /// The start of an upload.
     pub fn new() -> Self
         ensures { result.at ≡ 0 }
     {
         Cursor { at: 0 }
     }
 
+    /// Makes one step (docs/FORMAT.md, "Walking"): the entry here, or the refusal of what stands here, and the cursor after it. A claim of 0 is refused with 2, and the cursor stays.
     #[tactic(auto, using(entry::proofs::Claims::room_at), unfolding(crate::specs::Step::step_at))]
     pub fn step<'a, E: Entry<'a>>(self, bytes: &'a [u8], mode: Mode) -> Stepped<E>
         ensures { result ≡ step_at (E.read mode) bytes.entry self.at }
@@ -132,21 +137,28 @@ impl Cursor {
 /// What stands from a place of the upload up to the next: an entry that was read, or why none was.
 #[derive(Drop)]
 pub struct Piece<E> {
+    /// Where it begins, in bytes from the start of the upload.
     pub start: usize,
+    /// Where the next one begins.
     pub end: usize,
+    /// The entry, or why there is none.
     pub answer: Result<E, Refusal>,
 }
 
 /// The upload with the cursor on it. It gives the upload's pieces in order: a zero claim, which a step would stay at, is refused with 10 and takes all that is left.
 #[derive(Drop)]
 pub struct Walker<'a, E> {
+    /// The upload.
     pub bytes: &'a [u8],
+    /// The mode in which entries are read.
     pub mode: Mode,
+    /// Where the next piece begins.
     pub cursor: Cursor,
     kind: PhantomData<E>,
 }
 
 impl<'a, E: Entry<'a>> Walker<'a, E> {
+    /// A walker at the start of an upload.
     #[tactic(auto, using(crate::proofs::Left::few_pieces))]
     pub fn new(bytes: &'a [u8], mode: Mode) -> Self
         ensures all { walker_left E.read result ≡ pieces (E.read mode) bytes.entry }

@@ -11,7 +11,9 @@ use refusal::{LIMIT, Refusal};
 /// Records to write as a block: their bytes, one after another, and how many they are.
 #[derive(Clone, Copy, Debug)]
 pub struct Block<'a> {
+    /// The records, one after another.
     pub bytes: &'a [u8],
+    /// How many they are said to be.
     pub count: usize,
 }
 
