@@ -5,3 +5,4 @@ pub mod Field
 pub mod Own
 pub mod Kind
 pub mod Writing
+pub mod Told

@@ -1,2 +1,2 @@
-pub mod Header
-pub mod Sections
+pub mod Around
+pub mod Faithful

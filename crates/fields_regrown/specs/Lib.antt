@@ -1,2 +1,2 @@
-pub mod Fit
+pub mod Kind
 pub mod Theorems

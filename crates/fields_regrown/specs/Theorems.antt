@@ -1,27 +1,32 @@
--- What the theorems say.
-use Rattle.std.specs.Prelude.{ℕ, ◌≤◌, ◌≡◌, List, Ok, length, take}
+-- The theorems of fields that are written.
+use Rattle.std.specs.Prelude.{ℕ, ◌≤◌, ◌≡◌, List, Result, Ok, ok_or, find, nat_eq, length, take}
+use Rattle.std.specs.Cmp.Lexicographic.{pointwise}
 use Rattle.std.specs.Borrow.{Bor}
 use Rattle.refusal.specs.Refusal.{limit}
 use Rattle.refusal.specs.declared.Mode.{Mode}
-use Rattle.part.specs.Outcome.{outcome}
-use Rattle.walk.specs.Step.{parse_of, step_at}
-use Rattle.walk.specs.Theorems.{cursor_of}
+use Rattle.refusal.specs.declared.Refusal.{Refusal}
+use Rattle.refusal.specs.declared.Refusal.TheVariants.{NameNotFound}
 use Rattle.walk.specs.Mapped.{map_ok}
+use Rattle.walk.specs.Step.{step_at}
+use Rattle.walk.specs.Theorems.{cursor_of}
 use Rattle.writing.specs.Writing.{Writes}
-use Rattle.attribute.specs.Attribute.{listed, named}
-use Rattle.attribute.specs.Told.{told_of}
 use Rattle.regrown.specs.Regrown.{grown, ComeBack}
 use Rattle.regrown.specs.ShutsOut.{ShutsOut}
 use Rattle.regrown.specs.Tells.{tells}
+use Rattle.attribute.specs.Attribute.{listed, named}
+use Rattle.attribute.specs.Told as attributes
+use Rattle.field.specs.declared.AdsFieldInfo.{AdsFieldInfo}
 use Rattle.field.specs.declared.writer.NewField.{NewField}
-use Rattle.field.specs.Writing.{field_bytes, field_written}
 use Rattle.field.specs.Field.{field_of}
-use Rattle.fields_regrown.specs.Fit.{IsTyped, IsGuid, Agrees, Fit, told, meant}
+use Rattle.field.specs.Told.{told_of, meant, IsGuid, IsTyped, Agrees}
+use Rattle.field.specs.Writing.{field_bytes, field_written}
+use Rattle.fields_regrown.specs.Kind.{IsFit}
 
+-- fit fields, written one after another, come back from the walk, in whatever mode
 abbrev pub FieldsComeBack : Type 0
-FieldsComeBack = (mode : Mode) → ComeBack Fit field_bytes meant (step_at (field_of mode)) cursor_of (tells (λ r. r.length) told)
+FieldsComeBack = (mode : Mode) → ComeBack IsFit field_bytes meant (step_at (field_of mode)) cursor_of (tells (λ (r : AdsFieldInfo). r.length) told_of)
 
--- no more is asked of numbers than their types say: the largest number that each of them holds is typed
+-- each number the largest that its type holds
 pub record IsLargest (p : NewField) : Type 0 where
   pub version : p.version ≡ 0xFFFFFFFF
   pub hash_value : p.hash_value ≡ 0xFFFFFFFF
@@ -30,21 +35,36 @@ pub record IsLargest (p : NewField) : Type 0 where
   pub offset : p.offset ≡ 0xFFFFFFFF
   pub type_id : p.type_id ≡ 0xFFFFFFFF
   pub flags : p.flags.0 ≡ 0xFFFFFFFF
+  pub guid : IsGuid p.guid
 
 abbrev pub LargestTyped : Type 0
-LargestTyped = (p : NewField) → IsLargest p → IsGuid p.guid → IsTyped p
+LargestTyped = (p : NewField) → IsLargest p → IsTyped p
 
+-- a step that never gives a record, and one that gives its first answer again
 abbrev pub FieldsShutOut : Type 0
-FieldsShutOut = ShutsOut Fit field_bytes meant cursor_of (tells (λ r. r.length) told)
+FieldsShutOut = ShutsOut IsFit field_bytes meant cursor_of (tells (λ (r : AdsFieldInfo). r.length) told_of)
 
--- where `to_vec` answers that it wrote n bytes of a field that agrees with its flags, the field is fit, and these bytes are those that come back
-pub record Reached (p : NewField) (n : ℕ) (new : List ℕ) : Type 0 where
-  pub fit : Fit p
-  pub bytes : take n new ≡ field_bytes p
+-- where `to_vec` answers that it wrote so many bytes of a field that agrees with its flags, the field is fit, and these bytes are those that come back
+pub record IsReached (p : NewField) (count : ℕ) (new : List ℕ) : Type 0 where
+  pub fit : IsFit p
+  pub bytes : take count new ≡ field_bytes p
 
 abbrev pub WrittenFieldsFit : Type 0
-WrittenFieldsFit = (p : NewField) (old new : List ℕ) (n : ℕ) → IsTyped p → Agrees p → Writes (field_written p) old new (Ok n) → Reached p n new
+WrittenFieldsFit = (p : NewField) (old new : List ℕ) (count : ℕ) → IsTyped p → Agrees p → Writes (field_written p) old new (Ok count) → IsReached p count new
 
--- nothing that is written is left out of what is meant
+-- nothing that is written is left out of what is meant: two fit fields that mean the same are written as the same bytes
 abbrev pub FieldsFaithful : Type 0
-FieldsFaithful = (p q : NewField) (extra other : List ℕ) → Fit p → Fit q → meant p extra ≡ meant q other → field_bytes p ≡ field_bytes q
+FieldsFaithful = (p q : NewField) (extra other : List ℕ) → IsFit p → IsFit q → meant p extra ≡ meant q other → field_bytes p ≡ field_bytes q
+
+-- of some attributes, what the first with a name tells; where none has it, 13
+abbrev pub named_told : List attributes.Told → List ℕ → Result attributes.Told Refusal
+named_told all name = ok_or (find (λ a. pointwise nat_eq a.name name) all) NameNotFound
+
+-- of an entry that is read, asked by an attribute's name
+pub record IsNamed (mode : Mode) (p : NewField) (e : Bor (List ℕ)) (name : List ℕ) : Type 0 where
+  pub back : AdsFieldInfo
+  pub is : field_of mode e ≡ Ok back
+  pub tells : map_ok attributes.told_of (named (listed back.attributes.bytes back.attributes.count) name) ≡ named_told (attributes.told (listed p.attributes.bytes p.attributes.count)) name
+
+abbrev pub FieldsByName : Type 0
+FieldsByName = (mode : Mode) (p : NewField) (extra name : List ℕ) (e : Bor (List ℕ)) → IsFit p → e.now ≡ grown (field_bytes p) extra → length e.now ≤ limit → IsNamed mode p e name

@@ -19,7 +19,7 @@ use Rattle.writing.specs.Layout.{attributes_bytes}
 use Rattle.field.specs.Skip.{ahead}
 use Rattle.field.specs.Tail.{guid_of, after_mask, after_methods, attributes_of}
 use Rattle.field.specs.Writing.{zeros, guid_bytes, mask_bytes}
-use Rattle.fields_regrown.specs.Fit.{IsGuid}
+use Rattle.field.specs.Told.{IsGuid}
 
 pub guid_back : (s : Bor (List ℕ)) (here : Bool) (g : Option (List ℕ)) (more : List ℕ) → IsGuid g → is_some g ≡ here → s.now ≡ guid_bytes here g ++ more
     → ((guid_of s here).0 ≡ g) × ((guid_of s here).1.now ≡ more)

@@ -9,7 +9,7 @@ use Rattle.writing.proofs.Laid.{Laid}
 use Rattle.field.specs.declared.writer.NewField.{NewField}
 use Rattle.field.specs.Tail.{type_guid_flag, copy_mask_flag, attributes_flag}
 use Rattle.field.specs.Writing.{flagged, numbers_bytes, header_bytes, guid_bytes, mask_bytes, sections_bytes}
-use Rattle.fields_regrown.specs.Fit.{IsTyped}
+use Rattle.field.specs.Told.{IsTyped}
 
 -- what follows the entry's length
 abbrev pub body_of : NewField → List ℕ

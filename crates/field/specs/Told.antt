@@ -1,12 +1,12 @@
--- docs/FORMAT.md, "Fit records": which fields come back from the walk, and what of them.
-use Rattle.std.specs.Prelude.{ℕ, ◌<◌, ◌≡◌, Bool, false, List, Option, Some, None, is_some, Result, Ok, length}
+-- What a field tells, wherever it lies, and what is meant by one that is written.
+use Rattle.std.specs.Prelude.{ℕ, ◌<◌, ◌≡◌, false, List, Option, Some, None, is_some, length}
 use Rattle.flags.specs.declared.type_flags.AdsTypeFlags.{AdsTypeFlags}
 use Rattle.attribute.specs.Attribute.{listed}
-use Rattle.attribute.specs.Told as attribute
+use Rattle.attribute.specs.Told as attributes
 use Rattle.field.specs.declared.AdsFieldInfo.{AdsFieldInfo}
 use Rattle.field.specs.declared.writer.NewField.{NewField}
 use Rattle.field.specs.Tail.{type_guid_flag, method_infos_flag, attributes_flag}
-use Rattle.field.specs.Writing.{flagged, field_bytes, field_written}
+use Rattle.field.specs.Writing.{flagged}
 
 -- 16 bytes, if any
 abbrev pub IsGuid : Option (List ℕ) → Type 0
@@ -24,18 +24,6 @@ pub record IsTyped (p : NewField) : Type 0 where
   pub flags : p.flags.0 < 4294967296
   pub guid : IsGuid p.guid
 
--- the method flag is clear, the GUID present exactly if flagged, and the attribute block empty and its count 0 unless flagged
-pub record Agrees (p : NewField) : Type 0 where
-  pub no_methods : flagged p method_infos_flag ≡ false
-  pub guid_agrees : is_some p.guid ≡ flagged p type_guid_flag
-  pub no_block : flagged p attributes_flag ≡ false → length p.attributes.bytes.now ≡ 0
-  pub no_count : flagged p attributes_flag ≡ false → p.attributes.count ≡ 0
-
-pub record Fit (p : NewField) : Type 0 where
-  pub typed : IsTyped p
-  pub accepted : field_written p ≡ Ok (field_bytes p)
-  pub agrees : Agrees p
-
 -- all that a field tells: no part of where it stands
 pub record Told : Type 0 where
   pub version : ℕ
@@ -49,10 +37,10 @@ pub record Told : Type 0 where
   pub type_name : List ℕ
   pub comment : List ℕ
   pub guid : Option (List ℕ)
-  pub attributes : List attribute.Told
+  pub attributes : List attributes.Told
 
-abbrev pub told : AdsFieldInfo → Told
-told r =
+abbrev pub told_of : AdsFieldInfo → Told
+told_of r =
     record {
       version = r.version;
       hash_value = r.hash_value;
@@ -65,7 +53,7 @@ told r =
       type_name = r.type_name.now;
       comment = r.comment.now;
       guid = r.guid;
-      attributes = attribute.told (listed r.attributes.bytes r.attributes.count);
+      attributes = attributes.told (listed r.attributes.bytes r.attributes.count);
     }
 
 -- what a field that is written means; the bytes that its entry is grown by are not told
@@ -83,5 +71,12 @@ meant p extra =
       type_name = p.type_name.now;
       comment = p.comment.now;
       guid = p.guid;
-      attributes = attribute.told (listed p.attributes.bytes p.attributes.count);
+      attributes = attributes.told (listed p.attributes.bytes p.attributes.count);
     }
+
+-- docs/FORMAT.md, "Fit records": the method flag is clear, the GUID present exactly if flagged, and the attribute block empty and its count 0 unless flagged
+pub record Agrees (p : NewField) : Type 0 where
+  pub no_methods : flagged p method_infos_flag ≡ false
+  pub guid_agrees : is_some p.guid ≡ flagged p type_guid_flag
+  pub no_block : flagged p attributes_flag ≡ false → length p.attributes.bytes.now ≡ 0
+  pub no_count : flagged p attributes_flag ≡ false → p.attributes.count ≡ 0
