@@ -1,5 +1,5 @@
 -- What the field writer has checked of a field that it accepts.
-use Rattle.std.proofs.Common.{ℕ, ◌≤◌, ◌≡◌, Bool, true, List, length, Ok}
+use Rattle.std.proofs.Common.{ℕ, ◌≤◌, ◌≡◌, true, List, length, Ok}
 use Rattle.refusal.specs.Refusal.{limit}
 use Rattle.attribute.specs.Block.{block_checked}
 use Rattle.writing.specs.Checks.{IsShort}

@@ -1,17 +1,14 @@
 -- A written entry, grown by any bytes and wherever it lies, is read as what was meant.
-use Rattle.std.proofs.Common.{ℕ, ◌+◌, ◌*◌, ◌-◌, ◌<◌, ◌≡◌, refl, ap, ◌∙◌, List, [], ◌++◌, length, take, drop, get_or, Ok, None, Option, Result, Bor, arith, length-append}
+use Rattle.std.proofs.Common.{ℕ, ◌+◌, ◌-◌, ◌<◌, ◌≡◌, refl, ap, ◌∙◌, List, ◌++◌, length, drop, get_or, Ok, Option, Result, Bor, arith, length-append}
 use Rattle.std.proofs.Math.Nat.{zero-min}
 use borrow.Author.Tests.{le-ltb}
 use lib.Seq.{drop-append_seam}
 use Rattle.le.specs.Le.{le2, le4, has}
 use Rattle.le.specs.Le as le
-use Rattle.part.specs.Slice.{after}
 use Rattle.refusal.specs.EndBytes.{ended, in_mode}
 use Rattle.refusal.specs.declared.Refusal.{Refusal}
 use Rattle.refusal.specs.declared.Mode.{Mode}
 use Rattle.refusal.specs.declared.Mode.TheVariants.{Present, Checked}
-use Rattle.attribute.specs.Attribute.{listed}
-use Rattle.attribute.specs.Told as attribute
 use Rattle.attribute.specs.declared.Attributes.{Attributes}
 use Rattle.writing.specs.Layout.{strings_bytes, entry_bytes}
 use Rattle.writing.proofs.Laid as laid
@@ -19,9 +16,9 @@ use Rattle.field.specs.declared.AdsFieldInfo.{AdsFieldInfo}
 use Rattle.field.specs.declared.front.Front.{Front}
 use Rattle.field.specs.declared.tail.Tail.{Tail}
 use Rattle.field.specs.declared.writer.NewField.{NewField}
-use Rattle.field.specs.Skip.{ahead, after_items}
+use Rattle.field.specs.Skip.{after_items}
 use Rattle.field.specs.Front.{with_strings, string_ends, front_of}
-use Rattle.field.specs.Tail.{type_guid_flag, copy_mask_flag, method_infos_flag, attributes_flag, guid_of, after_mask, after_methods, attributes_of, complete, attribute_ends, tail_of}
+use Rattle.field.specs.Tail.{type_guid_flag, copy_mask_flag, method_infos_flag, attributes_flag, guid_of, after_mask, after_methods, attributes_of, tail_of}
 use Rattle.field.specs.Field.{joined, behind_items, field_of}
 use Rattle.field.specs.Told.{IsTyped, Agrees, told_of, meant}
 use Rattle.field.proofs.Accepted.{Accepted}

@@ -1,10 +1,9 @@
 -- The numbers of a written entry's header, and where its strings stand.
 use Rattle.std.proofs.Common.{ℕ, ◌+◌, ◌<◌, ◌≡◌, refl, List, ◌++◌, length, arith}
 use mathlib.Core.List.{append_assoc}
-use Rattle.le.specs.Le.{le2, le4, bytes4, part}
+use Rattle.le.specs.Le.{le2, le4, bytes4}
 use Rattle.writing.specs.Layout.{lengths_bytes, strings_bytes, attributes_bytes, entry_bytes}
 use Rattle.writing.specs.Checks.{IsShort}
-use Rattle.writing.proofs.Laid as strings
 use Rattle.writing.proofs.Laid.{Laid}
 use Rattle.field.specs.declared.writer.NewField.{NewField}
 use Rattle.field.specs.Tail.{type_guid_flag, copy_mask_flag, attributes_flag}

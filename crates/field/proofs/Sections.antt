@@ -1,14 +1,12 @@
 -- The sections of a field that was written are read back.
-use Rattle.std.proofs.Common.{ℕ, ◌+◌, ◌<◌, ◌≤◌, ◌≡◌, refl, sym, ap, ◌∙◌, Bool, true, false, List, [], ◌++◌, length, take, drop, min, Ok, arith, Bor, length-append}
+use Rattle.std.proofs.Common.{ℕ, ◌+◌, ◌≤◌, ◌≡◌, refl, ap, ◌∙◌, Bool, true, false, List, ◌++◌, length, take, drop, min, Ok, arith, Bor, length-append}
 use Rattle.std.specs.Prelude.{Option, Some, None, is_some}
 use Rattle.std.proofs.lemmas.List.{take_at, drop_at}
 use lib.ListN.{length-replicate}
 use borrow.Author.Tests.{le-leb}
-use Rattle.le.specs.Le.{le2, bytes2}
+use Rattle.le.specs.Le.{le2}
 use Rattle.le.proofs.Laws.{le2-bytes2}
 use Rattle.part.specs.Slice.{after}
-use Rattle.part.specs.Outcome.{and_then}
-use Rattle.refusal.specs.declared.Refusal.{Refusal}
 use Rattle.refusal.specs.EndBytes.{ended}
 use Rattle.attribute.specs.Attribute.{listed, ends}
 use Rattle.attribute.specs.Block.{block_checked}
@@ -16,7 +14,6 @@ use Rattle.attribute.specs.Told.{told}
 use Rattle.attribute.proofs.Again.{blocks_read}
 use Rattle.attribute.proofs.Laws.{listed_none}
 use Rattle.writing.specs.Layout.{attributes_bytes}
-use Rattle.field.specs.Skip.{ahead}
 use Rattle.field.specs.Tail.{guid_of, after_mask, after_methods, attributes_of}
 use Rattle.field.specs.Writing.{zeros, guid_bytes, mask_bytes}
 use Rattle.field.specs.Told.{IsGuid}

@@ -6,8 +6,7 @@ use Rattle.attribute.specs.Told as attributes
 use Rattle.attribute.specs.Fit.{block_of}
 use Rattle.attribute.proofs.Fit.{attribute_blocks_made}
 use Rattle.writing.specs.Layout.{attributes_bytes}
-use Rattle.field.specs.declared.writer.NewField.{NewField}
-use Rattle.field.specs.Tail.{type_guid_flag, copy_mask_flag, attributes_flag}
+use Rattle.field.specs.Tail.{attributes_flag}
 use Rattle.field.specs.Told.{Told}
 use Rattle.field.specs.Writing.{flagged, numbers_bytes, header_bytes, sections_bytes, field_bytes}
 use Rattle.field.proofs.Accepted.{accepted_is}
