@@ -7,7 +7,8 @@ ghost use Rattle.refusal.specs.Refusal.{limit};
 ghost use Rattle.refusal.specs.declared.Mode.{Mode};
 ghost use Rattle.walk.specs.Step.{step_at};
 ghost use Rattle.walk.specs.Theorems.{cursor_of};
-ghost use Rattle.regrown.specs.Regrown.{grown, ComeBack};
+ghost use Rattle.regrown.specs.Regrown.{grown, Grown, entry_of, ComeBack};
+ghost use Rattle.regrown.specs.ShutsOut.{ShutsOut};
 ghost use Rattle.regrown.specs.Tells.{tells, ReadsBack};
 
 use walk::Entry;
@@ -38,4 +39,10 @@ pub trait Fits<'a> {
 /// Fit records, written one after another, each grown at its end, come back from the walk, whole and cut anywhere, within the limit.
 pub fn come_back<'a, K: Fits<'a>>()
     ensures { (mode : Mode) → ComeBack K.Fit K.written K.meant (step_at (K.Record.read mode)) cursor_of (tells K.Record.length_of K.told) }
+{}
+
+/// Where there is a fit record, whose entry is within the limit, a step that never gives a record, and one that gives its
+/// first answer again, do not meet it.
+pub fn shuts_out<'a, K: Fits<'a>>()
+    ensures { (g : Grown K.Fit) → length (entry_of K.Fit K.written g) ≤ limit → ShutsOut K.Fit K.written K.meant cursor_of (tells K.Record.length_of K.told) }
 {}
