@@ -31,14 +31,14 @@ by_claim mode None own = refl
 by_claim mode (Some (Ok size)) own = by_result (symbol_of mode (own size))
 by_claim mode (Some (Err why)) own = refl
 
-gives_alike : (mode : Mode) (s : Bor (List ℕ)) (at : ℕ) → gives (head_of mode) s at ≡ gives (symbol_of mode) s at
+pub gives_alike : (mode : Mode) (s : Bor (List ℕ)) (at : ℕ) → gives (head_of mode) s at ≡ gives (symbol_of mode) s at
 unfolding step_at
 gives_alike mode s at = by_claim mode (claim_at s.now at).size (λ size. part s at size)
 
-heads : (mode : Mode) → BySteps (head_of mode)
+pub heads : (mode : Mode) → BySteps (head_of mode)
 heads mode = by_steps_of (head_of mode) 30 kind.four (kind.head_short mode) (kind.head_never_zero mode)
 
-symbols : (mode : Mode) → BySteps (symbol_of mode)
+pub symbols : (mode : Mode) → BySteps (symbol_of mode)
 symbols mode = by_steps_of (symbol_of mode) 30 kind.four (kind.short mode) (kind.never_zero mode)
 
 pub indexed_alike : IndexedAlike

@@ -1,4 +1,5 @@
 pub mod Find
+pub mod Unread
 pub mod Looks
 pub mod Meaning
 pub mod Alike

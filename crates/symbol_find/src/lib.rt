@@ -1,38 +1,116 @@
-//! Finding a symbol by its name, without an index.
+//! Finding a symbol by its name, without an index and through one (docs/FORMAT.md, "Finding").
 #![tactic(auto)]
 
-ghost use Rattle.std.specs.Prelude.{◌≡◌};
-ghost use Rattle.names.specs.Names.{same_name};
-ghost use Rattle.symbol.specs.Head.{head_of};
-ghost use Rattle.symbol_find.specs.Find.{find};
+ghost use Rattle.std.specs.Prelude.{◌≡◌, Some, length, true};
+ghost use Rattle.symbol.specs.Symbol.{symbol_of};
+ghost use Rattle.symbol_find.specs.Looks.{looks_named};
+ghost use Rattle.symbol_find.specs.Unread.{unread_of, four, long, room, short, never_zero};
+ghost use Rattle.symbol_find.specs.Find.{has_name, is_named, find, find_indexed};
+ghost use Rattle.symbol_find.specs.Meaning.{FoundIsFirst, RefusedIsNowhere, AnyCase, SameFind};
 ghost use Rattle.symbol_find.specs.Alike.{IndexedAlike};
 
 use refusal::{LIMIT, Mode, Refusal};
 use symbol::SymbolHead;
-use walk::Walker;
+use walk::{Cursor, Entry, Walker};
 
-fn named(own: &[u8], name: &[u8]) -> bool
-    ensures { result ≡ same_name own.now name.now }
+/// An entry whose header is there, before it is read.
+#[derive(Clone, Copy, Debug)]
+pub struct Unread<'a> {
+    pub bytes: &'a [u8],
+}
+
+impl<'a> Entry<'a> for Unread<'a> {
+    ghost HEADER = { 30 };
+
+    ghost read = { unread_of };
+
+    ghost length_of = { λ r. length r.bytes.now };
+
+    ghost four = { four };
+
+    ghost long = { long };
+
+    ghost room = { room };
+
+    ghost short = { short };
+
+    ghost never_zero = { never_zero };
+
+    fn header() -> usize
+        ensures { result ≡ 30 }
+    {
+        30
+    }
+
+    #[tactic(auto, unfolding(crate::specs::Unread::unread_of))]
+    #[inline(always)]
+    fn read(own: &'a [u8], _mode: Mode) -> Result<Self, Refusal> {
+        let length = own.len();
+        if length < 30 {
+            return Err(Refusal::TooShort {
+                needed: 30,
+                present: length,
+            });
+        }
+        Ok(Unread { bytes: own })
+    }
+}
+
+// A first look, which settles most entries: small, so that the compiler puts it into the loop. One test of both is guessed wrong less often than two.
+#[inline(always)]
+#[tactic(auto, unfolding(crate::specs::Looks::looks_named))]
+fn looks_named(own: &[u8], name: &[u8]) -> bool
+    ensures { result ≡ looks_named own.now name.now }
 {
-    if own.len() != name.len() {
+    let length = name.len();
+    if own.len() < 30 + length {
         return false;
     }
-    names::same_name(own, 0, name)
+    let tells_length = le::u16_at(own, 24) as usize == length;
+    le::both(tells_length, names::ends_near(own, 30, name))
+}
+
+// The same of the whole name, and then of the rest of the entry: asked of few.
+#[tactic(auto, using(crate::proofs::Looks::looked_room, crate::proofs::Looks::named_otherwise, crate::proofs::Looks::named_is))]
+fn holds_name(own: &[u8], mode: Mode, name: &[u8]) -> bool
+    requires { looks_named own.now name.now ≡ true }
+    ensures { result ≡ has_name name.now (Some (symbol_of mode own.entry)) }
+{
+    if !names::same_name(own, 30, name) {
+        return false;
+    }
+    SymbolHead::read(own, mode).is_ok()
+}
+
+// Whether an entry's own bytes give a symbol of that name.
+#[inline(always)]
+#[tactic(auto, using(crate::proofs::Looks::looks_otherwise))]
+fn has_name(own: &[u8], mode: Mode, name: &[u8]) -> bool
+    ensures { result ≡ has_name name.now (Some (symbol_of mode own.entry)) }
+{
+    if !looks_named(own, name) {
+        return false;
+    }
+    holds_name(own, mode, name)
 }
 
 /// Where the first accepted symbol of that name starts.
-#[tactic(auto, using(crate::proofs::Laws::find_within), unfolding(crate::specs::Find::find_in, crate::specs::Find::find))]
+///
+/// # Errors
+///
+/// 5 above the limit, 10 where a zero claim is met before a symbol of that name, 13 where none has it.
+#[tactic(auto, using(crate::proofs::Search::find_large, crate::proofs::Search::find_within, crate::proofs::Search::search_end, crate::proofs::Search::search_found, crate::proofs::Search::search_on, crate::proofs::Search::search_stops, crate::proofs::Search::search_refused))]
 pub fn find(bytes: &[u8], mode: Mode, name: &[u8]) -> Result<usize, Refusal>
-    ensures { result ≡ find (head_of mode) bytes.entry name.now }
+    ensures { result ≡ find mode bytes.entry name.now }
 {
     let length = bytes.len();
     if length > LIMIT {
         return Err(Refusal::TooLarge { length });
     }
-    for piece in Walker::<SymbolHead>::new(bytes, mode) {
+    for piece in Walker::<Unread>::new(bytes, mode) {
         match piece.answer {
-            Ok(symbol) => {
-                if named(symbol.name, name) {
+            Ok(entry) => {
+                if has_name(entry.bytes, mode, name) {
                     return Ok(piece.start);
                 }
             }
@@ -43,7 +121,59 @@ pub fn find(bytes: &[u8], mode: Mode, name: &[u8]) -> Result<usize, Refusal>
     Err(Refusal::NameNotFound)
 }
 
-// The theorem, as the contract of a function that does nothing.
+// Whether the step from a place gives a symbol of that name.
+#[inline(always)]
+#[tactic(auto, using(entry::proofs::Claims::room_at), unfolding(crate::specs::Find::is_named, walk::specs::Step::step_at))]
+fn is_named(bytes: &[u8], at: usize, mode: Mode, name: &[u8]) -> bool
+    ensures { result ≡ is_named mode bytes.entry name.now at }
+{
+    match entry::claim_at(bytes, at).size {
+        Some(Ok(size)) => has_name(&bytes[at..at + size], mode, name),
+        _ => false,
+    }
+}
+
+/// The first slot of an index at which a step of the walk gives a symbol of that name. Any other slot is passed over, whatever it holds.
+///
+/// # Errors
+///
+/// 5 above the limit, 13 where no slot has the name.
+#[tactic(auto, using(crate::proofs::Search::find_indexed_large))]
+pub fn find_indexed(bytes: &[u8], mode: Mode, slots: &[u32], name: &[u8]) -> Result<usize, Refusal>
+    ensures { result ≡ find_indexed mode bytes.entry slots.now name.now }
+{
+    let length = bytes.len();
+    if length > LIMIT {
+        return Err(Refusal::TooLarge { length });
+    }
+    slots
+        .iter()
+        .map(|slot| *slot as usize)
+        .find(|at| is_named(bytes, *at, mode, name))
+        .ok_or(Refusal::NameNotFound)
+}
+
+// The theorems. Each is the contract of a function that does nothing, so that none goes unnoticed if its proof does.
+
+/// What is found is the first that has the name, of the steps of the walk or of the slots.
+pub fn found_is_first()
+    ensures { FoundIsFirst }
+{}
+
+/// Where an upload within the limit is refused, no step of its walk has the name; through an index, no slot.
+pub fn refused_is_nowhere()
+    ensures { RefusedIsNowhere }
+{}
+
+/// A name in any case is found as in any other.
+pub fn any_case()
+    ensures { AnyCase }
+{}
+
+/// Through an index that was built a name is found as without one.
+pub fn same_find()
+    ensures { SameFind }
+{}
 
 /// `index::build::<SymbolHead>` builds the index of the symbols.
 pub fn indexed_alike()

@@ -1,0 +1,157 @@
+-- What finding means: proved.
+use Rattle.std.proofs.Common.{ℕ, ◌≤◌, ◌≡◌, refl, sym, ap, ◌∙◌, Bool, true, false, List, [], ◌∷◌, ◌++◌, length, Bor, if◌then◌else◌}
+use Rattle.std.specs.Prelude.{ltb, ◌||◌, filter, take, Option, Some, None, Result, Ok, Err, ok_or}
+use Rattle.std.specs.List.{find as first_of, list_any}
+use borrow.Author.Tests.{le-ltb}
+use Rattle.le.proofs.Laws.{not-both}
+use Rattle.refusal.specs.Refusal.{limit}
+use Rattle.refusal.specs.declared.Mode.{Mode}
+use Rattle.refusal.specs.declared.Refusal.{Refusal}
+use Rattle.refusal.specs.declared.Refusal.TheVariants.{TooLarge}
+use Rattle.names.specs.Names.{same_name}
+use Rattle.names.proofs.Laws.{same-either}
+use Rattle.entry.specs.Walk.{stands, steps}
+use Rattle.writing.specs.Writing.{Writes}
+use Rattle.walk.specs.Step.{step_at}
+use Rattle.walk.proofs.Theorems.{reads}
+use Rattle.symbol.specs.declared.AdsSymbolInfo.{AdsSymbolInfo}
+use Rattle.symbol.specs.Symbol.{symbol_of}
+use Rattle.symbol.specs.Head.{head_of}
+use Rattle.symbol.specs.Kind as kind
+use Rattle.index.specs.Index.{indexing}
+use Rattle.index.specs.Steps.{is_record, gives, BySteps}
+use Rattle.index.proofs.Meaning.{built}
+use Rattle.symbol_find.specs.Find.{has_name, is_named, find, find_indexed}
+use Rattle.symbol_find.specs.Meaning.{HasName, Finds, FoundIsFirst, RefusedIsNowhere, AnyCase, SameFind}
+use Rattle.symbol_find.proofs.Alike.{gives_alike, heads, symbols}
+
+-- the first of some places that passes a test
+record IsFirst (test : ℕ → Bool) (places : List ℕ) (at : ℕ) : Type 0 where
+  before : List ℕ
+  behind : List ℕ
+  among : places ≡ before ++ (at ∷ behind)
+  passes : test at ≡ true
+  none : list_any test before ≡ false
+
+module _ (test : ℕ → Bool) (other : Refusal) where
+  first_is : (places : List ℕ) (at : ℕ) → ok_or (first_of test places) other ≡ Ok at → IsFirst test places at
+  first_is [] at h = cc
+  first_is (x ∷ more) at h = turn (first_is more at) (test x) refl h
+    where
+      turn : (ok_or (first_of test more) other ≡ Ok at → IsFirst test more at) → (t : Bool) → test x ≡ t → ok_or (if t then Some x else first_of test more) other ≡ Ok at → IsFirst test (x ∷ more) at
+      turn on true e k = let x-at : x ≡ at = cc in record { before = []; behind = more; among = ap (λ (y : ℕ). y ∷ more) x-at; passes = rw x-at at e; none = refl }
+      turn on false e k =
+          let r = on k in
+          record { before = x ∷ r.before; behind = r.behind; among = ap (λ (m : List ℕ). x ∷ m) r.among; passes = r.passes; none = simp e r.none }
+
+  -- what is not found stands nowhere
+  nowhere : (places : List ℕ) (why : Refusal) → ok_or (first_of test places) other ≡ Err why → list_any test places ≡ false
+  nowhere [] why h = refl
+  nowhere (x ∷ more) why h = turn (nowhere more why) (test x) h
+    where
+      turn : (ok_or (first_of test more) other ≡ Err why → list_any test more ≡ false) → (t : Bool) → ok_or (if t then Some x else first_of test more) other ≡ Err why → (t || list_any test more) ≡ false
+      turn on true k = cc
+      turn on false k = on k
+
+within : (b : Bool) (large : Refusal) (y : Result ℕ Refusal) (at : ℕ) → (if b then Err large else y) ≡ Ok at → y ≡ Ok at
+within true large y at h = cc
+within false large y at h = h
+
+module _ (mode : Mode) (s : Bor (List ℕ)) (name : List ℕ) where
+  -- the symbol of a place with a name is what its entry gives when it is read by itself
+  has_of : (at : ℕ) → is_named mode s name at ≡ true → HasName mode s name at
+  unfolding is_named
+  has_of at h = by (step_at (symbol_of mode) s at).answer refl h
+    where
+      by : (t : Option (Result AdsSymbolInfo Refusal)) → (step_at (symbol_of mode) s at).answer ≡ t → has_name name t ≡ true → HasName mode s name at
+      by None e h = absurd (not-both h refl)
+      by (Some (Err why)) e h = absurd (not-both h refl)
+      by (Some (Ok symbol)) e h =
+          let r = reads (symbol_of mode) 30 (λ r. r.length) kind.four (kind.long mode) (kind.room mode) s at symbol e in
+          record { symbol = symbol; read = r.answers; named = h }
+
+  finds : (places : List ℕ) (other : Refusal) (at : ℕ) → ok_or (first_of (is_named mode s name) places) other ≡ Ok at → Finds mode s name places at
+  finds places other at h =
+      let f = first_is (is_named mode s name) other places at h in
+      record { before = f.before; behind = f.behind; among = f.among; has = has_of at f.passes; first = f.none }
+
+walked_first : (mode : Mode) (s : Bor (List ℕ)) (name : List ℕ) (at : ℕ) → find mode s name ≡ Ok at → Finds mode s name (steps s.now) at
+unfolding find
+walked_first mode s name at h = finds mode s name (steps s.now) _ at (within (ltb limit (length s.now)) (TooLarge (length s.now)) _ at h)
+
+indexed_first : (mode : Mode) (s : Bor (List ℕ)) (slots name : List ℕ) (at : ℕ) → find_indexed mode s slots name ≡ Ok at → Finds mode s name slots at
+unfolding find_indexed
+indexed_first mode s slots name at h = finds mode s name slots _ at (within (ltb limit (length s.now)) (TooLarge (length s.now)) _ at h)
+
+pub found_is_first : FoundIsFirst
+found_is_first = record { walked = walked_first; indexed = indexed_first }
+
+walked_nowhere : (mode : Mode) (s : Bor (List ℕ)) (name : List ℕ) (why : Refusal) → length s.now ≤ limit → find mode s name ≡ Err why → list_any (is_named mode s name) (steps s.now) ≡ false
+unfolding find
+walked_nowhere mode s name why small h = nowhere (is_named mode s name) _ (steps s.now) why (simp (le-ltb limit (length s.now) small) at h)
+
+indexed_nowhere : (mode : Mode) (s : Bor (List ℕ)) (slots name : List ℕ) (why : Refusal) → length s.now ≤ limit → find_indexed mode s slots name ≡ Err why → list_any (is_named mode s name) slots ≡ false
+unfolding find_indexed
+indexed_nowhere mode s slots name why small h = nowhere (is_named mode s name) _ slots why (simp (le-ltb limit (length s.now) small) at h)
+
+pub refused_is_nowhere : RefusedIsNowhere
+refused_is_nowhere = record { walked = walked_nowhere; indexed = indexed_nowhere }
+
+-- the case that a name is typed in makes no difference
+module _ (mode : Mode) (s : Bor (List ℕ)) (name typed : List ℕ) (same : same_name name typed ≡ true) where
+  answer_either : (t : Option (Result AdsSymbolInfo Refusal)) → has_name typed t ≡ has_name name t
+  answer_either None = refl
+  answer_either (Some (Err why)) = refl
+  answer_either (Some (Ok symbol)) = sym (same-either name typed symbol.name.now same)
+
+  either : is_named mode s typed ≡ is_named mode s name
+  unfolding is_named
+  either = λ i at. answer_either (step_at (symbol_of mode) s at).answer i
+
+  walked_either : find mode s typed ≡ find mode s name
+  unfolding find
+  walked_either = simp either
+
+  indexed_either : (slots : List ℕ) → find_indexed mode s slots typed ≡ find_indexed mode s slots name
+  unfolding find_indexed
+  indexed_either slots = simp either
+
+pub any_case : AnyCase
+any_case = record { walked = walked_either; indexed = λ mode s slots name typed same. indexed_either mode s name typed same slots }
+
+-- the first of those that pass a weaker test
+module _ (test weaker : ℕ → Bool) (passes : (at : ℕ) → test at ≡ true → weaker at ≡ true) where
+  first_filter : (places : List ℕ) → first_of test (filter weaker places) ≡ first_of test places
+  first_filter [] = refl
+  first_filter (x ∷ more) = turn (first_filter more) (test x) (weaker x) refl refl
+    where
+      turn : first_of test (filter weaker more) ≡ first_of test more → (t w : Bool) → test x ≡ t → weaker x ≡ w → first_of test (if w then x ∷ filter weaker more else filter weaker more) ≡ (if t then Some x else first_of test more)
+      turn on true true e f = simp e
+      turn on false true e f = simp e on
+      turn on true false e f = absurd (not-both (passes x e) f)
+      turn on false false e f = on
+
+named_gives : (mode : Mode) (s : Bor (List ℕ)) (name : List ℕ) (at : ℕ) → is_named mode s name at ≡ true → gives (symbol_of mode) s at ≡ true
+unfolding is_named
+named_gives mode s name at = by (step_at (symbol_of mode) s at).answer
+  where
+    by : (t : Option (Result AdsSymbolInfo Refusal)) → has_name name t ≡ true → is_record t ≡ true
+    by None h = h
+    by (Some (Err why)) h = h
+    by (Some (Ok symbol)) h = refl
+
+module _ {R : Type 0} (read : Bor (List ℕ) → Result R Refusal) (by_steps : BySteps read) (mode : Mode) (s : Bor (List ℕ)) (name : List ℕ)
+    (accepts : (at : ℕ) → is_named mode s name at ≡ true → gives read s at ≡ true) where
+  same_by : (old new : List ℕ) (n : ℕ) → Writes (indexing read s) old new (Ok n) → find_indexed mode s (take n new) name ≡ find mode s name
+  unfolding find find_indexed
+  same_by old new n w =
+      let b = built read s old new n w in
+      let slots : take n new ≡ filter (gives read s) (steps s.now) = b.first ∙ by_steps.starts-are s in
+      let none : list_any (stands s.now) (steps s.now) ≡ false = sym (by_steps.stopped-is s) ∙ b.none_stood in
+      simp (le-ltb limit (length s.now) b.small, none, slots, first_filter (is_named mode s name) (gives read s) accepts (steps s.now))
+
+pub same_find : SameFind
+same_find = record {
+  symbols = λ mode s old new n w name. same_by (symbol_of mode) (symbols mode) mode s name (named_gives mode s name) old new n w;
+  heads = λ mode s old new n w name. same_by (head_of mode) (heads mode) mode s name (λ at h. gives_alike mode s at ∙ named_gives mode s name at h) old new n w;
+}
