@@ -1,0 +1,5 @@
+pub mod Laws
+pub mod Bounds
+pub mod Smallest
+pub mod Meaning
+pub mod Only
