@@ -13,10 +13,10 @@ use refusal::{LIMIT, Mode, Refusal};
 use symbol::SymbolHead;
 use walk::{Cursor, Entry, Walker};
 
-/// An entry whose header is there, before it is read.
+// An entry whose header is there, before it is read.
 #[derive(Clone, Copy, Debug)]
-pub struct Unread<'a> {
-    pub bytes: &'a [u8],
+struct Unread<'a> {
+    bytes: &'a [u8],
 }
 
 impl<'a> Entry<'a> for Unread<'a> {
