@@ -141,7 +141,7 @@ read_more s b more left e g r =
       ended = λ at. ap ended (ends_here s at left t) ∙ two_zero _ _ _ n v ∙ r.ended (at + (2 + n_of s + 1 + v_of s) + 1);
     }
 
-after_zero : (s : Bor (List ℕ)) → s ≡ after s 0
+pub after_zero : (s : Bor (List ℕ)) → s ≡ after s 0
 after_zero s = ap (λ (x : ℕ). record { ref_ptr = (s.ref_ptr.0, x); now = s.now }) (sym (add-zero s.ref_ptr.1))
 
 read_none : (s b : Bor (List ℕ)) → length b.now ≡ 0 → IsRead 0 b s

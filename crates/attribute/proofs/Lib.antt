@@ -4,3 +4,5 @@ pub mod Again
 pub mod Written
 pub mod Fit
 pub mod Modes
+pub mod Inside
+pub mod Asked

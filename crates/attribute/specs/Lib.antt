@@ -4,3 +4,5 @@ pub mod Told
 pub mod Writing
 pub mod Fit
 pub mod Modes
+pub mod Inside
+pub mod Asked

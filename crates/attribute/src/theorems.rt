@@ -1,6 +1,8 @@
 //! Theorems. Each is the contract of a function that does nothing, so that none goes unnoticed if its proof does.
 ghost use Rattle.attribute.specs.Told.{BlocksRead};
 ghost use Rattle.attribute.specs.Modes.{AttributesModes};
+ghost use Rattle.attribute.specs.Inside.{AttributesInside};
+ghost use Rattle.attribute.specs.Asked.{AttributesShown, AttributesNamed, OneNamed};
 ghost use Rattle.attribute.specs.Fit.{AttributesReadBack, AttributeBlocks, AttributesFixed, AttributeBlocksMade};
 
 /// A block that passes is read wherever it stands, whatever follows it.
@@ -32,4 +34,25 @@ pub fn attribute_blocks_made()
 /// The modes agree where 0 follows both strings of an attribute, and the checked mode accepts nothing else.
 pub fn attributes_modes()
     ensures { AttributesModes }
+{}
+
+/// Both strings of an attribute that is listed lie inside the bytes that it was listed from, each with its end byte, and so
+/// do the bytes after the list.
+pub fn attributes_inside()
+    ensures { AttributesInside }
+{}
+
+/// By number the attribute of that place in the list is answered, past the last 14.
+pub fn attributes_shown()
+    ensures { AttributesShown }
+{}
+
+/// By name the first attribute is answered that has these very bytes, and 13 where none has.
+pub fn attributes_named()
+    ensures { AttributesNamed }
+{}
+
+/// A question for a name has one answer.
+pub fn one_named()
+    ensures { OneNamed }
 {}
