@@ -44,7 +44,7 @@ pub record IsGood (s next : Bor (List ℕ)) (follows : Bool) : Type 0 where
   pub end : get_or s.now (6 + n_of s) 0 ≡ 0
 
 -- its name has the length that it says
-length_name : (s : Bor (List ℕ)) → n_of s + 7 ≤ length s.now → length (here s).0.name.now ≡ n_of s
+pub length_name : (s : Bor (List ℕ)) → n_of s + 7 ≤ length s.now → length (here s).0.name.now ≡ n_of s
 length_name s h = length-take-le (n_of s) (drop 6 s.now) (simp length-drop (omega arith))
 
 same_bool : (a b : Bool) → beq a b ≡ true → a ≡ b
@@ -117,11 +117,11 @@ module _ (s b : Bor (List ℕ)) (more : List ℕ) (e : s.now ≡ b.now ++ more) 
     same_length : n_of s + 7 + length (here b).1.now ≡ length b.now
     same_length = rw same_n (ap (λ (m : ℕ). n_of b + 7 + m) (length-drop (n_of b + 7) b.now) ∙ omega arith)
 
-after_after : (s : Bor (List ℕ)) (k m : ℕ) → after (after s k) m ≡ after s (k + m)
+pub after_after : (s : Bor (List ℕ)) (k m : ℕ) → after (after s k) m ≡ after s (k + m)
 after_after s k m = ap₂ (λ (x : ℕ) (y : List ℕ). record { ref_ptr = (s.ref_ptr.0, x); now = y }) (add_assoc s.ref_ptr.1 k m) (drop-drop m k s.now)
 
 -- a turn of a list, and of a chain and its end bytes: one that another follows, and the last
-listed_here : (s : Bor (List ℕ)) (left : ℕ) → n_of s + 7 ≤ length s.now → listed s (suc left) ≡ (here s).0 ∷ listed (here s).1 left
+pub listed_here : (s : Bor (List ℕ)) (left : ℕ) → n_of s + 7 ≤ length s.now → listed s (suc left) ≡ (here s).0 ∷ listed (here s).1 left
 unfolding listed
 listed_here s left h = simp (first_here s h)
 

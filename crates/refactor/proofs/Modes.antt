@@ -1,5 +1,5 @@
 -- A refactor record in the two modes, and what is written behind a count: proved.
-use Rattle.std.proofs.Common.{◌≡◌, ℕ, ◌+◌, ◌<◌, ◌≤◌, Bool, true, false, List, [], ◌∷◌, ◌++◌, length, drop, get_or, length-drop, Ok, Err, Result, refl, sym, ap, ◌∙◌, arith, Bor}
+use Rattle.std.proofs.Common.{◌≡◌, ℕ, zero, suc, ◌+◌, ◌<◌, ◌≤◌, Bool, true, false, List, [], ◌∷◌, ◌++◌, length, drop, get_or, length-drop, Ok, Err, Result, refl, sym, ap, ◌∙◌, arith, Bor}
 use Rattle.std.proofs.lemmas.Option.{slice_get_past}
 use mathlib.Core.List.{append-nil}
 use lib.Dec.{ltb}
@@ -15,11 +15,14 @@ use Rattle.refusal.specs.declared.Refusal.{Refusal}
 use Rattle.writing.specs.Checks.{count_checked}
 use Rattle.writing.proofs.Entry.{both_passed, count_passed, entry_passed}
 use Rattle.refactor.specs.declared.AdsRefactorInfo.{AdsRefactorInfo}
-use Rattle.refactor.specs.Refactor.{first_of, alone, chain_alone, chain_of, ends, listed}
+use Rattle.refactor.specs.declared.RefactorInfos.{RefactorInfos}
+use Rattle.refactor.specs.Refactor.{first_of, alone, chain_alone, chain_of, ends_from, ends, listed}
 use Rattle.refactor.specs.Block.{block_checked}
 use Rattle.refactor.specs.Writing.{entries_writing}
-use Rattle.refactor.specs.Modes.{Ended, Modes, RefactorsModes, IsBack, EntriesReadBack}
+use Rattle.refactor.specs.Modes.{Ended, Modes, RefactorsModes, EndedTo, ChainEnded, ChainModes, ChainsModes, IsBack, EntriesReadBack}
 use Rattle.refactor.proofs.Again.{blocks_read}
+use Rattle.refusal.proofs.EndBytes.{ended_none as none_ended}
+use Rattle.refactor.proofs.Turn.{room, ends_refused, nothing_ended}
 
 module _ (mode : Mode) (count : ℕ) (block s : Bor (List ℕ)) (pos : 0 < count) where
   chain_by : (mode : Mode) (t : Bor (List ℕ)) → length t.now ≤ limit → chain_of t ≡ Ok (count, after t (length block.now)) → ended (ends t 0) ≡ Ok tt
@@ -74,3 +77,53 @@ module _ (s : Bor (List ℕ)) where
 
 pub refactors_modes : RefactorsModes
 refactors_modes s = by_first s (ltb limit (length s.now)) refl (first_of s) refl
+
+one_ended : (x : ℕ × ℕ) (more : List (ℕ × ℕ)) → ended (x ∷ more) ≡ Ok tt → (x.1 ≡ 0) × (ended more ≡ Ok tt)
+unfolding ended
+one_ended x more h = grind arith
+
+-- 0 behind each name that a chain meets: no end byte refuses it
+on_zero : (s : Bor (List ℕ)) (at left : ℕ) (p : AdsRefactorInfo × Bor (List ℕ)) → first_of s ≡ Ok p → (b : Bool) → p.0.next_refactor_info ≡ b → get_or s.now (6 + length p.0.name.now) 0 ≡ 0
+    → (b ≡ true → ended (ends_from p.1 (at + (6 + length p.0.name.now) + 1) left) ≡ Ok tt) → ended (ends_from s at (suc left)) ≡ Ok tt
+unfolding ends_from ended
+on_zero s at left p e true f z rest = simp (e, f, z) (rest refl)
+on_zero s at left p e false f z rest = simp (e, f, z)
+
+by_record : (s : Bor (List ℕ)) (at left : ℕ) (w : Result (AdsRefactorInfo × Bor (List ℕ)) Refusal) → first_of s ≡ w → EndedTo s (suc left)
+    → ((q : Bor (List ℕ)) (k : ℕ) → EndedTo q left → ended (ends_from q k left) ≡ Ok tt) → ended (ends_from s at (suc left)) ≡ Ok tt
+unfolding EndedTo
+by_record s at left (Err why) e h rest = rw (ends_refused s at (suc left) why e) none_ended
+by_record s at left (Ok p) e h rest =
+    let z = h p.0 p.1 e in
+    on_zero s at left p e p.0.next_refactor_info refl z.0 (λ f. rest p.1 (at + (6 + length p.0.name.now) + 1) (z.1 f))
+
+ends_zero : (left : ℕ) (s : Bor (List ℕ)) (at : ℕ) → EndedTo s left → ended (ends_from s at left) ≡ Ok tt
+ends_zero zero s at h = nothing_ended s at
+ends_zero (suc left) s at h = by_record s at left (first_of s) refl h (ends_zero left)
+
+-- and where none does, 0 stands behind each
+zero_first : (s : Bor (List ℕ)) (at left : ℕ) (p : AdsRefactorInfo × Bor (List ℕ)) → first_of s ≡ Ok p → ended (ends_from s at (suc left)) ≡ Ok tt
+    → (get_or s.now (6 + length p.0.name.now) 0 ≡ 0) × (p.0.next_refactor_info ≡ true → ended (ends_from p.1 (at + (6 + length p.0.name.now) + 1) left) ≡ Ok tt)
+unfolding ends_from
+zero_first s at left p e h = let o = one_ended _ _ (simp e at h) in (o.0, λ f. simp f at o.1)
+
+zero_ends : (left : ℕ) (s : Bor (List ℕ)) (at f : ℕ) → length s.now ≤ f → ended (ends_from s at f) ≡ Ok tt → EndedTo s left
+unfolding EndedTo
+zero_ends zero s at f l h = tt
+zero_ends (suc left) s at zero l h = λ r next e. absurd (let m = room s (r, next) e in omega arith)
+zero_ends (suc left) s at (suc f) l h = λ r next e.
+    let m = room s (r, next) e in
+    let z = zero_first s at f (r, next) e h in
+    (z.0, λ t. zero_ends left next (at + (6 + length r.name.now) + 1) f (omega arith) (z.1 t))
+
+module _ (s : Bor (List ℕ)) where
+  by_length : (t : Bool) → ltb limit (length s.now) ≡ t → ChainModes s
+  by_length true l = record { agree = λ h. simp l; ended = λ c h. absurd (let z : ◌≡◌ {A = ℕ} 0 1 = cc (simp l at h) in omega arith) }
+  by_length false l = record { agree = λ h. simp (l, ends_zero (length s.now) s 0 (h (length s.now))); ended = by_ends (ended (ends s 0)) refl }
+    where
+      by_ends : (e : Result Unit Refusal) → ended (ends s 0) ≡ e → (c : RefactorInfos × Bor (List ℕ)) → chain_alone Checked s ≡ Ok c → (chain_alone Present s ≡ Ok c) × ChainEnded s
+      by_ends (Err why) e c h = absurd (let z : ◌≡◌ {A = ℕ} 0 1 = cc (simp (l, e) at h) in omega arith)
+      by_ends (Ok u) e c h = (simp l (simp (l, e) at h), λ left. zero_ends left s 0 (length s.now) (omega arith) e)
+
+pub chains_modes : ChainsModes
+chains_modes s = by_length s (ltb limit (length s.now)) refl

@@ -1,6 +1,7 @@
 -- A turn of a chain.
 use Rattle.std.proofs.Common.{◌≡◌, ℕ, ◌+◌, ◌-◌, ◌≤◌, List, [], ◌∷◌, get_or, length, Ok, Err, true, false, arith, Bor, zero, suc, refl}
 use Rattle.std.proofs.lemmas.Grind.{common_steps}
+use Rattle.refusal.specs.EndBytes.{ended}
 use Rattle.refusal.specs.declared.Refusal.{Refusal}
 use Rattle.refusal.specs.declared.Refusal.TheVariants.{TooShort}
 use Rattle.refactor.specs.declared.AdsRefactorInfo.{AdsRefactorInfo}
@@ -48,3 +49,7 @@ pub ends_refused : (s : Bor (List ℕ)) (at f : ℕ) (why : Refusal) → first_o
 unfolding ends_from
 ends_refused s at zero why h = refl
 ends_refused s at (suc f) why h = rw h refl
+
+pub nothing_ended : (s : Bor (List ℕ)) (at : ℕ) → ended (ends_from s at 0) ≡ Ok tt
+unfolding ends_from ended
+nothing_ended s at = refl

@@ -3,3 +3,4 @@ pub mod Block
 pub mod Told
 pub mod Writing
 pub mod Modes
+pub mod Inside

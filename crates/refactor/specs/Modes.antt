@@ -1,5 +1,5 @@
--- docs/FORMAT.md, "Modes" and "Fit records": a refactor record in the two modes, by its bytes; what is written behind a count is read back.
-use Rattle.std.specs.Prelude.{ℕ, ◌+◌, ◌<◌, ◌≤◌, ◌≡◌, List, Result, Ok, Err, length, get_or}
+-- docs/FORMAT.md, "Modes" and "Fit records": a refactor record and a chain in the two modes, by their bytes; what is written behind a count is read back.
+use Rattle.std.specs.Prelude.{ℕ, zero, suc, ◌+◌, ◌<◌, ◌≤◌, ◌≡◌, true, List, Result, Ok, Err, length, get_or}
 use Rattle.std.specs.Borrow.{Bor}
 use Rattle.le.specs.Le.{le2}
 use Rattle.part.specs.Slice.{after}
@@ -8,7 +8,8 @@ use Rattle.refusal.specs.declared.Mode.TheVariants.{Present, Checked}
 use Rattle.refusal.specs.declared.Refusal.{Refusal}
 use Rattle.refusal.specs.declared.Refusal.TheVariants.{NoSuchNumber}
 use Rattle.refactor.specs.declared.AdsRefactorInfo.{AdsRefactorInfo}
-use Rattle.refactor.specs.Refactor.{alone, chain_alone, listed, numbered}
+use Rattle.refactor.specs.declared.RefactorInfos.{RefactorInfos}
+use Rattle.refactor.specs.Refactor.{first_of, alone, chain_alone, listed, numbered}
 use Rattle.refactor.specs.Told.{told}
 use Rattle.refactor.specs.Writing.{entries_writing}
 
@@ -23,6 +24,23 @@ pub record Modes (s : Bor (List ℕ)) : Type 0 where
 
 abbrev pub RefactorsModes : Type 0
 RefactorsModes = (s : Bor (List ℕ)) → Modes s
+
+-- 0 follows the name of each of the first so many records that a chain meets: the first, and each behind one that another follows
+unfoldable pub EndedTo : Bor (List ℕ) → ℕ → Type 0
+EndedTo s zero = Unit {0}
+EndedTo s (suc left) = (r : AdsRefactorInfo) (next : Bor (List ℕ)) → first_of s ≡ Ok (r, next) → (get_or s.now (6 + length r.name.now) 0 ≡ 0) × (r.next_refactor_info ≡ true → EndedTo next left)
+
+-- of all that it meets: it need not be a whole chain
+abbrev pub ChainEnded : Bor (List ℕ) → Type 0
+ChainEnded s = (left : ℕ) → EndedTo s left
+
+-- a chain read alone: the modes agree where every record that it meets is ended, and the checked mode accepts nothing else
+pub record ChainModes (s : Bor (List ℕ)) : Type 0 where
+  pub agree : ChainEnded s → chain_alone Checked s ≡ chain_alone Present s
+  pub ended : (c : RefactorInfos × Bor (List ℕ)) → chain_alone Checked s ≡ Ok c → (chain_alone Present s ≡ Ok c) × ChainEnded s
+
+abbrev pub ChainsModes : Type 0
+ChainsModes = (s : Bor (List ℕ)) → ChainModes s
 
 -- what is written behind a count is a chain of that count to its end; its records are those of the block, and past the count it is 14
 pub record IsBack (mode : Mode) (count : ℕ) (block s : Bor (List ℕ)) : Type 0 where

@@ -1,6 +1,7 @@
 //! Theorems. Each is the contract of a function that does nothing, so that none goes unnoticed if its proof does.
 ghost use Rattle.refactor.specs.Told.{BlocksRead};
-ghost use Rattle.refactor.specs.Modes.{EntriesReadBack, RefactorsModes};
+ghost use Rattle.refactor.specs.Modes.{EntriesReadBack, RefactorsModes, ChainsModes};
+ghost use Rattle.refactor.specs.Inside.{RefactorsInside, ChainsCounted, RefactorsShown};
 
 /// A block that passes is read wherever it stands, whatever follows it.
 pub fn blocks_read()
@@ -16,4 +17,25 @@ pub fn entries_read_back()
 /// The modes agree where 0 follows the name of a record, and the checked mode accepts nothing else.
 pub fn refactors_modes()
     ensures { RefactorsModes }
+{}
+
+/// The modes agree on a chain where 0 follows the name of every record that it meets, and the checked mode accepts
+/// nothing else.
+pub fn chains_modes()
+    ensures { ChainsModes }
+{}
+
+/// The name of a record that is listed lies inside the bytes that it was listed from, with its end byte.
+pub fn refactors_inside()
+    ensures { RefactorsInside }
+{}
+
+/// A chain has as many records as it counts, and each tells a follower exactly where others stand behind it.
+pub fn chains_counted()
+    ensures { ChainsCounted }
+{}
+
+/// By number the record of that place in a chain is answered, past the last 14.
+pub fn refactors_shown()
+    ensures { RefactorsShown }
 {}
