@@ -23,11 +23,11 @@ each_more : {X : Type 0} (P : X → Type 0) (x : X) (xs : List X) → P x → Al
 each_more P x xs p ps zero d h = p
 each_more P x xs p ps (suc k) d h = ps k d (omega arith)
 
-listed_none : (s : Bor (List ℕ)) → listed s 0 ≡ []
+pub listed_none : (s : Bor (List ℕ)) → listed s 0 ≡ []
 unfolding listed
 listed_none s = refl
 
-listed_stop : (s : Bor (List ℕ)) (left : ℕ) (why : Refusal) → first_of s ≡ Err why → listed s (suc left) ≡ []
+pub listed_stop : (s : Bor (List ℕ)) (left : ℕ) (why : Refusal) → first_of s ≡ Err why → listed s (suc left) ≡ []
 unfolding listed
 listed_stop s left why e = rw e refl
 

@@ -4,3 +4,4 @@ pub mod Written
 pub mod Mask
 pub mod Modes
 pub mod Inside
+pub mod Fit

@@ -53,3 +53,8 @@ ends_refused s at (suc f) why h = rw h refl
 pub nothing_ended : (s : Bor (List ℕ)) (at : ℕ) → ended (ends_from s at 0) ≡ Ok tt
 unfolding ends_from ended
 nothing_ended s at = refl
+
+-- where there are no bytes, there is none
+pub nothing_first : (s : Bor (List ℕ)) → length s.now ≡ 0 → first_of s ≡ Err (TooShort 7 0)
+unfolding first_of
+nothing_first s h = rw h refl

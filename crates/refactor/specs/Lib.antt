@@ -4,3 +4,4 @@ pub mod Told
 pub mod Writing
 pub mod Modes
 pub mod Inside
+pub mod Fit

@@ -2,6 +2,7 @@
 ghost use Rattle.refactor.specs.Told.{BlocksRead};
 ghost use Rattle.refactor.specs.Modes.{EntriesReadBack, RefactorsModes, ChainsModes};
 ghost use Rattle.refactor.specs.Inside.{RefactorsInside, ChainsCounted, RefactorsShown};
+ghost use Rattle.refactor.specs.Fit.{RefactorsReadBack, RefactorBlocks, RefactorsFixed, RefactorBlocksMade};
 
 /// A block that passes is read wherever it stands, whatever follows it.
 pub fn blocks_read()
@@ -38,4 +39,26 @@ pub fn chains_counted()
 /// By number the record of that place in a chain is answered, past the last 14.
 pub fn refactors_shown()
     ensures { RefactorsShown }
+{}
+
+/// A record is written exactly where it fits its length field. Its bytes, with any bytes after them, are read as what was
+/// written, and only they are taken.
+pub fn refactors_read_back()
+    ensures { RefactorsReadBack }
+{}
+
+/// Records one after another are a good block of their count, unless the last one's count says that another follows, and the
+/// block tells them.
+pub fn refactor_blocks()
+    ensures { RefactorBlocks }
+{}
+
+/// A block is that of one list of records, as they are written.
+pub fn refactors_fixed()
+    ensures { RefactorsFixed }
+{}
+
+/// A block of bytes that passes is the block of the records that it tells.
+pub fn refactor_blocks_made()
+    ensures { RefactorBlocksMade }
 {}
