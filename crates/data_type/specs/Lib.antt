@@ -1,0 +1,5 @@
+pub mod Array
+pub mod DataType
+pub mod Accepted
+pub mod Own
+pub mod Kind

@@ -1,0 +1,63 @@
+//! Array records: a dimension of an array each.
+ghost use Rattle.std.specs.Prelude.{◌≡◌};
+ghost use Rattle.std.specs.Iterator.{YieldsFirst, item_count};
+ghost use Rattle.data_type.specs.Array.{listed, numbered};
+
+use refusal::Refusal;
+
+/// An array record.
+#[derive(Clone, Copy, Debug, PartialEq, Eq)]
+pub struct AdsArrayInfo {
+    /// The lowest index, as its 32 bits, which a controller may mean with a sign.
+    pub lower_bound: u32,
+    /// How many elements there are.
+    pub elements: u32,
+}
+
+/// The array records of an entry, read one by one as they are asked for.
+#[derive(Clone, Copy, Debug)]
+pub struct ArrayInfos<'a> {
+    /// They fill these bytes, 8 each.
+    pub bytes: &'a [u8],
+    /// How many there are.
+    pub count: usize,
+}
+
+impl Iterator for ArrayInfos<'_> {
+    type Item = AdsArrayInfo;
+
+    ghost next_gives = { YieldsFirst (λ s. listed s.bytes s.count) };
+
+    ghost remaining = { item_count (λ s. listed s.bytes s.count) };
+
+    #[tactic(auto, unfolding(crate::specs::Array::listed))]
+    fn next(&mut self) -> Option<AdsArrayInfo> {
+        if self.count == 0 {
+            return None;
+        }
+        if self.bytes.len() < 8 {
+            self.count = 0;
+            return None;
+        }
+        let array = AdsArrayInfo {
+            lower_bound: le::u32_at(self.bytes, 0),
+            elements: le::u32_at(self.bytes, 4),
+        };
+        self.bytes = &self.bytes[8..];
+        self.count -= 1;
+        Some(array)
+    }
+}
+
+impl ArrayInfos<'_> {
+    /// The array record with a number, counted from 0; 14 where there is none.
+    pub fn get(mut self, number: usize) -> Result<AdsArrayInfo, Refusal>
+        ensures { result ≡ numbered self.entry number }
+    {
+        let count = self.count;
+        self.nth(number).ok_or(Refusal::NoSuchNumber {
+            count,
+            asked: number,
+        })
+    }
+}

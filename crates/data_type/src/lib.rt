@@ -1,0 +1,118 @@
+//! Data type entries of an upload, read whole: array records and sub-items too, to the deepest level. What one holds is a part of the bytes that it was read from.
+#![tactic(auto)]
+
+ghost use Rattle.std.specs.Prelude.{◌≡◌};
+ghost use Rattle.data_type.specs.DataType.{joined, type_of};
+ghost use Rattle.data_type.specs.Kind.{four, long, room, short, never_zero};
+
+use crate::array::ArrayInfos;
+use attribute::Attributes;
+use field::front::Front;
+use field::tail::Tail;
+use flags::type_flags::AdsTypeFlags;
+use refusal::{Mode, Refusal};
+use walk::{Entry, Walker};
+
+pub mod array;
+pub mod reader;
+
+/// The sub-items of an entry.
+#[derive(Clone, Copy, Debug)]
+pub struct SubItems<'a> {
+    /// They fill these bytes, one behind another.
+    pub bytes: &'a [u8],
+    /// Where the bytes end, counted from the start of the entry.
+    pub end: usize,
+    /// How many there are, without what they hold in turn.
+    pub count: u16,
+}
+
+/// A data type (docs/FORMAT.md, "Data type entries").
+#[derive(Clone, Copy, Debug)]
+pub struct AdsDataTypeInfo<'a> {
+    /// The entry's length in bytes.
+    pub length: usize,
+    pub version: u32,
+    pub hash_value: u32,
+    pub type_hash_value: u32,
+    /// The size of a value, in bytes.
+    pub size: u32,
+    /// Of a sub-item: where it stands in a value of its parent, in bytes.
+    pub offset: u32,
+    pub type_id: u32,
+    pub flags: AdsTypeFlags,
+    /// Windows-1252, as the other strings.
+    pub name: &'a [u8],
+    pub type_name: &'a [u8],
+    pub comment: &'a [u8],
+    pub guid: Option<[u8; 16]>,
+    pub attributes: Attributes<'a>,
+    pub arrays: ArrayInfos<'a>,
+    pub sub_items: SubItems<'a>,
+    /// How many members it has: its sub-items, theirs, and so on.
+    pub member_count: usize,
+}
+
+impl<'a> AdsDataTypeInfo<'a> {
+    /// The record of an entry with this front, these array records and sub-items, so many members and this tail.
+    #[inline(always)]
+    pub fn joined(
+        front: &Front<'a>,
+        arrays: ArrayInfos<'a>,
+        sub_items: SubItems<'a>,
+        member_count: usize,
+        tail: Tail<'a>,
+    ) -> AdsDataTypeInfo<'a>
+        ensures { result ≡ joined front.now arrays.entry sub_items.entry member_count tail.entry }
+    {
+        AdsDataTypeInfo {
+            length: front.length,
+            version: front.version,
+            hash_value: front.hash_value,
+            type_hash_value: front.type_hash_value,
+            size: front.size,
+            offset: front.offset,
+            type_id: front.type_id,
+            flags: front.flags,
+            name: front.name,
+            type_name: front.type_name,
+            comment: front.comment,
+            guid: tail.guid,
+            attributes: tail.attributes,
+            arrays,
+            sub_items,
+            member_count,
+        }
+    }
+}
+
+impl<'a> Entry<'a> for AdsDataTypeInfo<'a> {
+    ghost HEADER = { 42 };
+
+    ghost read = { type_of };
+
+    ghost length_of = { λ r. r.length };
+
+    ghost four = { four };
+
+    ghost long = { long };
+
+    ghost room = { room };
+
+    ghost short = { short };
+
+    ghost never_zero = { never_zero };
+
+    fn header() -> usize
+        ensures { result ≡ 42 }
+    {
+        42
+    }
+
+    #[inline(always)]
+    fn read(own: &'a [u8], mode: Mode) -> Result<Self, Refusal> {
+        reader::read_entry(own, mode, reader::LEVELS)
+    }
+}
+
+pub type DataTypes<'a> = Walker<'a, AdsDataTypeInfo<'a>>;

@@ -1,0 +1,118 @@
+//! An entry is read through its list of sub-items, and each sub-item as an entry, with a level less below it.
+#![tactic(auto, unfolding(crate::specs::DataType::taken, crate::specs::DataType::arrays_of))]
+
+ghost use Rattle.std.specs.Prelude.{◌≡◌, ◌<◌, ◌^◌, IfOk};
+ghost use Rattle.data_type.specs.DataType.{taken, arrays_of, sub_items_of, item_at, items_from, type_at, SomeMembers, SomeItems};
+
+use crate::array::ArrayInfos;
+use crate::{AdsDataTypeInfo, SubItems};
+use field::front::Front;
+use field::tail::Tail;
+use refusal::{Mode, Refusal};
+
+/// The levels below the root, which stands at depth 1.
+pub const LEVELS: usize = 15;
+
+/// The own bytes of the sub-item at the start of some bytes of its parent, and the bytes behind it.
+#[inline(always)]
+pub fn taken(bytes: &[u8]) -> Result<(&[u8], &[u8]), Refusal>
+    ensures { result ≡ taken bytes.entry }
+{
+    let left = bytes.len();
+    if left < 4 {
+        return Err(Refusal::TooShort {
+            needed: 4,
+            present: left,
+        });
+    }
+    let claim = le::u32_at(bytes, 0) as usize;
+    if left < claim {
+        return Err(Refusal::EntryLengthMismatch {
+            needed: claim,
+            available: left,
+        });
+    }
+    if claim < 42 {
+        return Err(Refusal::ClaimBelowHeader { header: 42, claim });
+    }
+    Ok((&bytes[..claim], &bytes[claim..]))
+}
+
+/// The array records of an entry with this front, and the bytes behind them.
+#[inline(always)]
+fn read_arrays<'a>(front: &Front<'a>) -> Result<(ArrayInfos<'a>, &'a [u8]), Refusal>
+    requires { front.now.length < 2 ^ 63 }
+    ensures { result ≡ arrays_of front.now }
+{
+    let needed = 8 * front.array_count as usize;
+    let available = front.rest.len();
+    if available < needed {
+        return Err(Refusal::EntryLengthMismatch {
+            needed: front.length.saturating_sub(available) + needed,
+            available: front.length,
+        });
+    }
+    let arrays = ArrayInfos {
+        bytes: &front.rest[..needed],
+        count: front.array_count as usize,
+    };
+    Ok((arrays, &front.rest[needed..]))
+}
+
+/// The sub-items between two places of an entry with this front.
+#[inline(always)]
+fn sub_items<'a>(front: &Front<'_>, first: &'a [u8], rest: &[u8]) -> SubItems<'a>
+    ensures { result ≡ sub_items_of front.now first.entry rest.now }
+{
+    SubItems {
+        bytes: &first[..first.len().saturating_sub(rest.len())],
+        end: front.length.saturating_sub(rest.len()),
+        count: front.sub_item_count,
+    }
+}
+
+/// Sub-items that were read: the bytes behind them, and how many members they bring.
+#[derive(Clone, Copy, Debug)]
+pub struct Items<'a> {
+    pub rest: &'a [u8],
+    pub members: usize,
+}
+
+/// An entry's own bytes, where there may be so many levels below it.
+#[tactic(auto, using(crate::proofs::Entry::fits))]
+#[cycle(read_entry_read_items)]
+pub fn read_entry(own: &[u8], mode: Mode, left: usize) -> Result<AdsDataTypeInfo<'_>, Refusal>
+    ensures value { result ≡ type_at mode left own.entry }
+    ensures few { IfOk result (SomeMembers own.now) }
+{
+    let front = Front::read(own, mode)?;
+    let (arrays, first) = read_arrays(&front)?;
+    let items = read_items(first, mode, left, front.sub_item_count)?;
+    let sub_items = sub_items(&front, first, items.rest);
+    let tail = Tail::read(&front, items.rest, mode)?;
+    Ok(AdsDataTypeInfo::joined(&front, arrays, sub_items, items.members, tail))
+}
+
+/// So many sub-items at the start of some bytes. A loop, since there may be 65,535 of them.
+#[cycle(read_entry_read_items)]
+fn read_items(first: &[u8], mode: Mode, left: usize, count: u16) -> Result<Items<'_>, Refusal>
+    ensures value { result ≡ items_from (item_at mode left) first.entry count }
+    ensures few { IfOk result (SomeItems first.now) }
+{
+    let mut done = Items {
+        rest: first,
+        members: 0,
+    };
+    let mut todo = count;
+    while 0 < todo {
+        todo -= 1;
+        if left == 0 {
+            return Err(Refusal::TooDeep);
+        }
+        let (own, behind) = taken(done.rest)?;
+        let item = read_entry(own, mode, left - 1)?;
+        done.members += 1 + item.member_count;
+        done.rest = behind;
+    }
+    Ok(done)
+}
