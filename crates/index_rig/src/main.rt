@@ -1,14 +1,16 @@
-// Builds an index over a sample rig, finds every name of it both ways, and prints what was answered; then the room for
-// uploads of some lengths, and the index of one that needs all of it.
-// tools/index_rig.py makes the expected output, crates/index_rig/stdout, by a walk of its own.
+//! Builds an index over a sample rig, finds every name of it both ways, and prints what was answered; then the room for
+//! uploads of some lengths, and the index of one that needs all of it.
+//! tools/index_rig.py makes the expected output, crates/index_rig/stdout, by a walk of its own.
 #![tactic(auto)]
 
 ghost use Rattle.std.specs.Prelude.{◌<◌};
 
-use old_index::FindAnswer;
-use refusal::{Refusal, Written};
-use old_room::RoomAnswer;
+use index::build;
+use refusal::{LIMIT, Mode, Refusal};
+use room::room;
 use std::io;
+use symbol::SymbolHead;
+use symbol_find::{find, find_indexed};
 
 // The refusal's number and figures.
 fn refusal(rt: &impl Print, why: Refusal) -> io::Result<()> {
@@ -19,11 +21,11 @@ fn refusal(rt: &impl Print, why: Refusal) -> io::Result<()> {
     )
 }
 
-fn answer(rt: &impl Print, found: FindAnswer) -> io::Result<()> {
-    print!(rt; " ")?;
-    match found {
-        FindAnswer::Found(at) => print!(rt; "{at}"),
-        FindAnswer::Refused(why) => refusal(rt, why),
+// A number, or why there is none.
+fn answer(rt: &impl Print, answered: Result<usize, Refusal>) -> io::Result<()> {
+    match answered {
+        Ok(number) => print!(rt; "{number}"),
+        Err(why) => refusal(rt, why),
     }
 }
 
@@ -69,8 +71,10 @@ fn put_entry(rig: &mut [u8; 1600], i: usize)
 
 fn find_both(rt: &impl Print, rig: &[u8], slots: &[u32], name: &[u8]) -> io::Result<()> {
     rt.write_all(name)?;
-    answer(rt, old_index::find(rig, refusal::PRESENT, name))?;
-    answer(rt, old_index::find_indexed(rig, refusal::PRESENT, slots, name))?;
+    print!(rt; " ")?;
+    answer(rt, find(rig, Mode::Present, name))?;
+    print!(rt; " ")?;
+    answer(rt, find_indexed(rig, Mode::Present, slots, name))?;
     println!(rt)
 }
 
@@ -91,12 +95,12 @@ fn find_all(rt: &impl Print, rig: &[u8], slots: &[u32]) -> io::Result<()> {
 }
 
 fn survey(rt: &impl Print, rig: &[u8; 1600], slots: &mut [u32]) -> io::Result<()> {
-    match old_index::build(rig, refusal::PRESENT, slots) {
-        Written::Done(n) => {
+    match build::<SymbolHead>(rig, Mode::Present, slots) {
+        Ok(n) => {
             println!(rt; "index {n}")?;
             find_all(rt, rig, &slots[..n])
         }
-        Written::Refused(why) => {
+        Err(why) => {
             refusal(rt, why)?;
             println!(rt)?;
             find_all(rt, rig, slots)
@@ -106,10 +110,7 @@ fn survey(rt: &impl Print, rig: &[u8; 1600], slots: &mut [u32]) -> io::Result<()
 
 fn room_for(rt: &impl Print, length: usize) -> io::Result<()> {
     print!(rt; "room for {length} ")?;
-    match old_room::room(length) {
-        RoomAnswer::Slots(n) => print!(rt; "{n}")?,
-        RoomAnswer::Refused(why) => refusal(rt, why)?,
-    }
+    answer(rt, room(length))?;
     println!(rt)
 }
 
@@ -119,8 +120,8 @@ fn rooms(rt: &impl Print) -> io::Result<()> {
     room_for(rt, 33)?;
     room_for(rt, 65)?;
     room_for(rt, 66)?;
-    room_for(rt, refusal::LIMIT)?;
-    room_for(rt, refusal::LIMIT + 1)
+    room_for(rt, LIMIT)?;
+    room_for(rt, LIMIT + 1)
 }
 
 // Claims that lead beyond the end, but for entries of 33 bytes, as many as there is room for.
@@ -131,25 +132,25 @@ fn put_smallest(rig: &mut [u8; 1600]) {
     }
 }
 
-fn build(rt: &impl Print, rig: &[u8], slots: &mut [u32]) -> io::Result<()> {
-    match old_index::build(rig, refusal::PRESENT, slots) {
-        Written::Done(n) => print!(rt; "index {n}")?,
-        Written::Refused(why) => refusal(rt, why)?,
+fn build_in(rt: &impl Print, rig: &[u8], slots: &mut [u32]) -> io::Result<()> {
+    match build::<SymbolHead>(rig, Mode::Present, slots) {
+        Ok(n) => print!(rt; "index {n}")?,
+        Err(why) => refusal(rt, why)?,
     }
     println!(rt)
 }
 
 // With as many slots as are set aside, and with one fewer.
 fn build_tight(rt: &impl Print, rig: &[u8; 1600], slots: &mut [u32]) -> io::Result<()> {
-    match old_room::room(rig.len()) {
-        RoomAnswer::Slots(n) => {
+    match room(rig.len()) {
+        Ok(n) => {
             if 0 < n && n <= slots.len() {
-                build(rt, rig, &mut slots[..n])?;
-                build(rt, rig, &mut slots[..n - 1])?;
+                build_in(rt, rig, &mut slots[..n])?;
+                build_in(rt, rig, &mut slots[..n - 1])?;
             }
             Ok(())
         }
-        RoomAnswer::Refused(why) => refusal(rt, why),
+        Err(why) => refusal(rt, why),
     }
 }
 
