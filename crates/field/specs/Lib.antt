@@ -6,3 +6,5 @@ pub mod Own
 pub mod Kind
 pub mod Writing
 pub mod Told
+pub mod Within
+pub mod Modes

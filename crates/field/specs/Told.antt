@@ -24,6 +24,20 @@ pub record IsTyped (p : NewField) : Type 0 where
   pub flags : p.flags.0 < 4294967296
   pub guid : IsGuid p.guid
 
+-- and no more: each number the largest that its type holds
+pub record IsLargest (p : NewField) : Type 0 where
+  pub version : p.version ≡ 0xFFFFFFFF
+  pub hash_value : p.hash_value ≡ 0xFFFFFFFF
+  pub type_hash_value : p.type_hash_value ≡ 0xFFFFFFFF
+  pub size : p.size ≡ 0xFFFFFFFF
+  pub offset : p.offset ≡ 0xFFFFFFFF
+  pub type_id : p.type_id ≡ 0xFFFFFFFF
+  pub flags : p.flags.0 ≡ 0xFFFFFFFF
+  pub guid : IsGuid p.guid
+
+abbrev pub LargestTyped : Type 0
+LargestTyped = (p : NewField) → IsLargest p → IsTyped p
+
 -- all that a field tells: no part of where it stands
 pub record Told : Type 0 where
   pub version : ℕ

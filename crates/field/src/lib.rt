@@ -16,6 +16,7 @@ use walk::{Entry, Walker};
 pub mod front;
 pub mod skip;
 pub mod tail;
+pub mod theorems;
 pub mod writer;
 
 /// A field of a structure, or an entry of a data type read as one.

@@ -20,19 +20,7 @@ use Rattle.field.specs.Told.{told_of, meant, IsTyped, Agrees}
 use Rattle.field.specs.Writing.{numbers_bytes, header_bytes, guid_bytes, mask_bytes, sections_bytes, field_bytes, attributes_checked, field_checked, field_written}
 use Rattle.field.proofs.Accepted.{accepted_is}
 use Rattle.fields_regrown.specs.Kind.{IsFit, reads_back}
-use Rattle.fields_regrown.specs.Theorems.{LargestTyped, FieldsShutOut, WrittenFieldsFit, named_told, FieldsByName}
-
-pub largest : LargestTyped
-largest p l = record {
-  version = omega (arith, l.version);
-  hash_value = omega (arith, l.hash_value);
-  type_hash_value = omega (arith, l.type_hash_value);
-  size = omega (arith, l.size);
-  offset = omega (arith, l.offset);
-  type_id = omega (arith, l.type_id);
-  flags = omega (arith, l.flags);
-  guid = l.guid;
-}
+use Rattle.fields_regrown.specs.Theorems.{FieldsShutOut, WrittenFieldsFit, named_told, FieldsByName}
 
 -- every number 0, no flag set, no name
 abbrev nothing : Bor (List ℕ)

@@ -18,27 +18,13 @@ use Rattle.attribute.specs.Told as attributes
 use Rattle.field.specs.declared.AdsFieldInfo.{AdsFieldInfo}
 use Rattle.field.specs.declared.writer.NewField.{NewField}
 use Rattle.field.specs.Field.{field_of}
-use Rattle.field.specs.Told.{told_of, meant, IsGuid, IsTyped, Agrees}
+use Rattle.field.specs.Told.{told_of, meant, IsTyped, Agrees}
 use Rattle.field.specs.Writing.{field_bytes, field_written}
 use Rattle.fields_regrown.specs.Kind.{IsFit}
 
 -- fit fields, written one after another, come back from the walk, in whatever mode
 abbrev pub FieldsComeBack : Type 0
 FieldsComeBack = (mode : Mode) → ComeBack IsFit field_bytes meant (step_at (field_of mode)) cursor_of (tells (λ (r : AdsFieldInfo). r.length) told_of)
-
--- each number the largest that its type holds
-pub record IsLargest (p : NewField) : Type 0 where
-  pub version : p.version ≡ 0xFFFFFFFF
-  pub hash_value : p.hash_value ≡ 0xFFFFFFFF
-  pub type_hash_value : p.type_hash_value ≡ 0xFFFFFFFF
-  pub size : p.size ≡ 0xFFFFFFFF
-  pub offset : p.offset ≡ 0xFFFFFFFF
-  pub type_id : p.type_id ≡ 0xFFFFFFFF
-  pub flags : p.flags.0 ≡ 0xFFFFFFFF
-  pub guid : IsGuid p.guid
-
-abbrev pub LargestTyped : Type 0
-LargestTyped = (p : NewField) → IsLargest p → IsTyped p
 
 -- a step that never gives a record, and one that gives its first answer again
 abbrev pub FieldsShutOut : Type 0

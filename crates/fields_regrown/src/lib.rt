@@ -5,7 +5,7 @@ ghost use Rattle.field.specs.declared.writer.NewField.{NewField};
 ghost use Rattle.field.specs.Writing.{field_bytes};
 ghost use Rattle.field.specs.Told.{Told, told_of, meant};
 ghost use Rattle.fields_regrown.specs.Kind.{IsFit, reads_back};
-ghost use Rattle.fields_regrown.specs.Theorems.{FieldsComeBack, LargestTyped, FieldsShutOut, WrittenFieldsFit, FieldsFaithful, FieldsByName};
+ghost use Rattle.fields_regrown.specs.Theorems.{FieldsComeBack, FieldsShutOut, WrittenFieldsFit, FieldsFaithful, FieldsByName};
 
 use field::AdsFieldInfo;
 use regrown::Fits;
@@ -39,11 +39,6 @@ pub fn fields_come_back()
 {
     regrown::come_back::<WrittenFields>()
 }
-
-/// That is said of every number that the writer's types hold: the largest of each width is typed.
-pub fn largest_typed()
-    ensures { LargestTyped }
-{}
 
 /// A step that never gives a record, and one that gives its first answer again, do not meet it.
 pub fn fields_shut_out()

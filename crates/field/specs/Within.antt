@@ -1,0 +1,72 @@
+-- What a field that is accepted tells is a part of its entry, with its end byte; what it shows is given by its number and by its name.
+use Rattle.std.specs.Prelude.{ℕ, ◌+◌, ◌<◌, ◌≤◌, ◌≡◌, List, Result, Ok, Err, length}
+use Rattle.std.specs.List.{All}
+use Rattle.std.specs.Borrow.{Bor}
+use Rattle.part.specs.Slice.{part}
+use Rattle.refusal.specs.declared.Mode.{Mode}
+use Rattle.refusal.specs.declared.Refusal.{Refusal}
+use Rattle.refusal.specs.declared.Refusal.TheVariants.{NameNotFound, NoSuchNumber}
+use Rattle.attribute.specs.declared.AdsAttribute.{AdsAttribute}
+use Rattle.attribute.specs.Attribute.{listed, numbered, named}
+use Rattle.field.specs.declared.AdsFieldInfo.{AdsFieldInfo}
+use Rattle.field.specs.Field.{field_of}
+
+-- an attribute of an entry: its name and an end byte, its value and an end byte
+pub record IsAttributeIn (e : Bor (List ℕ)) (a : AdsAttribute) : Type 0 where
+  pub at : ℕ
+  pub name : a.name ≡ part e at (length a.name.now)
+  pub value : a.value ≡ part e (at + length a.name.now + 1) (length a.value.now)
+  pub room : at + length a.name.now + 1 + length a.value.now + 1 ≤ length e.now
+
+-- the attributes of a field
+abbrev pub shown : AdsFieldInfo → List AdsAttribute
+shown r = listed r.attributes.bytes r.attributes.count
+
+-- a header of 42 bytes, three strings with an end byte each, and as many attributes as are counted
+pub record IsWithin (e : Bor (List ℕ)) (r : AdsFieldInfo) : Type 0 where
+  pub long : r.length ≡ length e.now
+  pub name : r.name ≡ part e 42 (length r.name.now)
+  pub type_name : r.type_name ≡ part e (43 + length r.name.now) (length r.type_name.now)
+  pub comment : r.comment ≡ part e (44 + length r.name.now + length r.type_name.now) (length r.comment.now)
+  pub room : 45 + length r.name.now + length r.type_name.now + length r.comment.now ≤ length e.now
+  pub attributes : All (IsAttributeIn e) (shown r)
+  pub counted : length (shown r) ≡ r.attributes.count
+
+abbrev pub FieldsWithin : Type 0
+FieldsWithin = (mode : Mode) (e : Bor (List ℕ)) (r : AdsFieldInfo) → field_of mode e ≡ Ok r → IsWithin e r
+
+-- the attribute with a number
+abbrev pub attribute_of : AdsFieldInfo → ℕ → Result AdsAttribute Refusal
+attribute_of r number = numbered (shown r) r.attributes.count number
+
+-- a number is answered by an attribute
+pub record IsGiven (e : Bor (List ℕ)) (answer : Result AdsAttribute Refusal) : Type 0 where
+  pub attribute : AdsAttribute
+  pub is : answer ≡ Ok attribute
+  pub within : IsAttributeIn e attribute
+
+-- a number below the count is never refused, and one past it is 14
+pub record IsShown (e : Bor (List ℕ)) (r : AdsFieldInfo) : Type 0 where
+  pub given : (number : ℕ) → number < r.attributes.count → IsGiven e (attribute_of r number)
+  pub no_more : (number : ℕ) → r.attributes.count ≤ number → attribute_of r number ≡ Err (NoSuchNumber r.attributes.count number)
+
+abbrev pub FieldsShown : Type 0
+FieldsShown = (mode : Mode) (e : Bor (List ℕ)) (r : AdsFieldInfo) → field_of mode e ≡ Ok r → IsShown e r
+
+-- the answer to a number is an attribute with a name
+pub record HasName (answer : Result AdsAttribute Refusal) (name : List ℕ) : Type 0 where
+  pub attribute : AdsAttribute
+  pub is : answer ≡ Ok attribute
+  pub called : attribute.name.now ≡ name
+
+-- of the numbers below some number, none has it
+abbrev pub NoneHas : AdsFieldInfo → List ℕ → ℕ → Type 0
+NoneHas r name below = (number : ℕ) → number < below → HasName (attribute_of r number) name → ⊥
+
+-- the answer to a name is that to the first number that has it; 13 where none has
+pub data IsFirstNamed (r : AdsFieldInfo) (name : List ℕ) (answer : Result AdsAttribute Refusal) : Type 0 where
+  found : (number : ℕ) → number < r.attributes.count → answer ≡ attribute_of r number → HasName answer name → NoneHas r name number → IsFirstNamed r name answer
+  nowhere : answer ≡ Err NameNotFound → NoneHas r name r.attributes.count → IsFirstNamed r name answer
+
+abbrev pub FieldsNamed : Type 0
+FieldsNamed = (mode : Mode) (e : Bor (List ℕ)) (r : AdsFieldInfo) (name : List ℕ) → field_of mode e ≡ Ok r → IsFirstNamed r name (named (shown r) name)

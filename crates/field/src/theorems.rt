@@ -1,0 +1,29 @@
+//! Theorems. Each is the contract of a function that does nothing, so that none goes unnoticed if its proof does.
+ghost use Rattle.field.specs.Modes.{FieldsModes};
+ghost use Rattle.field.specs.Told.{LargestTyped};
+ghost use Rattle.field.specs.Within.{FieldsWithin, FieldsShown, FieldsNamed};
+
+/// What a field that is accepted tells is a part of its entry, each string with its end byte.
+pub fn fields_within()
+    ensures { FieldsWithin }
+{}
+
+/// Of a field that is accepted, a number below its count of attributes is never refused, and one past it is 14.
+pub fn fields_shown()
+    ensures { FieldsShown }
+{}
+
+/// The answer to a name is the attribute with the first number that has it; 13 where none has.
+pub fn fields_named()
+    ensures { FieldsNamed }
+{}
+
+/// The modes agree where all end bytes are 0, the checked mode accepts nothing else, and it refuses by the first that is not 0.
+pub fn fields_modes()
+    ensures { FieldsModes }
+{}
+
+/// No more is asked of a field's numbers than their types say: the largest of each width is typed.
+pub fn largest_typed()
+    ensures { LargestTyped }
+{}
