@@ -1,12 +1,14 @@
 -- The laws of symbols.
 use Rattle.std.proofs.Common.{◌≡◌, ℕ, ◌+◌, ◌≤◌, Bool, List, length, Ok, arith, Bor, subst}
+use Rattle.part.specs.Outcome.{and_then}
 use Rattle.refusal.specs.declared.Mode.{Mode}
+use Rattle.refusal.specs.declared.Mode.TheVariants.{Present, Checked}
 use Rattle.le.specs.Le.{le2}
 use Rattle.attribute.specs.Attribute as attribute
 use Rattle.attribute.proofs.Laws.{listed_again, listed_none}
 use Rattle.symbol.specs.declared.AdsSymbolInfo.{AdsSymbolInfo}
-use Rattle.symbol.specs.Symbol.{attributes_of, with_strings, symbol_of, ended_symbol}
-use Rattle.symbol.specs.Laws.{IsWhole, SymbolsWhole, SymbolsModes}
+use Rattle.symbol.specs.Symbol.{attributes_of, with_strings, symbol_of, symbol_ended, ended_symbol}
+use Rattle.symbol.specs.Laws.{IsWhole, SymbolsWhole}
 use Rattle.symbol.proofs.Within.{within}
 
 counted_at : (s : Bor (List ℕ)) (b : Bool) → length (attribute.listed (attributes_of s b).0.bytes (attributes_of s b).0.count) ≡ (attributes_of s b).0.count
@@ -14,11 +16,11 @@ unfolding attributes_of
 counted_at s b = grind (arith, listed_again, listed_none)
 
 -- an accepted symbol is the one that its entry's lengths place
-accepted_room : (mode : Mode) (e : Bor (List ℕ)) (r : AdsSymbolInfo) → symbol_of mode e ≡ Ok r → 33 + le2 e.now 24 + le2 e.now 26 + le2 e.now 28 ≤ length e.now
+pub accepted_room : (mode : Mode) (e : Bor (List ℕ)) (r : AdsSymbolInfo) → symbol_of mode e ≡ Ok r → 33 + le2 e.now 24 + le2 e.now 26 + le2 e.now 28 ≤ length e.now
 unfolding symbol_of ended_symbol
 accepted_room mode e r h = grind arith
 
-accepted_is : (mode : Mode) (e : Bor (List ℕ)) (r : AdsSymbolInfo) → symbol_of mode e ≡ Ok r → with_strings e (le2 e.now 24) (le2 e.now 26) (le2 e.now 28) ≡ r
+pub accepted_is : (mode : Mode) (e : Bor (List ℕ)) (r : AdsSymbolInfo) → symbol_of mode e ≡ Ok r → with_strings e (le2 e.now 24) (le2 e.now 26) (le2 e.now 28) ≡ r
 unfolding symbol_of ended_symbol
 accepted_is mode e r h = grind arith
 
@@ -26,9 +28,10 @@ with_counted : (e : Bor (List ℕ)) (n t k : ℕ) → length (attribute.listed (
 unfolding with_strings
 with_counted e n t k = counted_at _ _
 
-pub symbols_modes : SymbolsModes
+-- the checked mode reads what the present mode reads, and then refuses by the first end byte that is not 0
+pub checked_is : (e : Bor (List ℕ)) → symbol_of Checked e ≡ and_then (symbol_of Present e) (λ r. and_then (symbol_ended e r) (λ _. Ok r))
 unfolding symbol_of ended_symbol
-symbols_modes e = grind arith
+checked_is e = grind arith
 
 pub symbols_whole : SymbolsWhole
 symbols_whole mode e r h =

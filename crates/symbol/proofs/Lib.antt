@@ -1,5 +1,11 @@
 pub mod Within
 pub mod Laws
+pub mod Tails
+pub mod Lies
+pub mod Ends
+pub mod Modes
+pub mod Shown
+pub mod Typed
 pub mod Sizes
 pub mod Sections
 pub mod Accepted

@@ -1,5 +1,8 @@
 pub mod Symbol
 pub mod Laws
+pub mod Inside
+pub mod Modes
+pub mod Shown
 pub mod Head
 pub mod Kind
 pub mod Writing

@@ -82,3 +82,17 @@ pub record IsTyped (n : NewSymbol) : Type 0 where
   pub high : n.high < 65536
   pub extended_flags : n.extended_flags.0 < 4294967296
   pub guid : IsSixteen n.guid
+
+-- and no more than they say: the largest number that each of them holds is typed
+pub record IsLargest (n : NewSymbol) : Type 0 where
+  pub index_group : n.index_group.0 ≡ 0xFFFFFFFF
+  pub index_offset : n.index_offset.0 ≡ 0xFFFFFFFF
+  pub size : n.size ≡ 0xFFFFFFFF
+  pub data_type_id : n.data_type_id ≡ 0xFFFFFFFF
+  pub flags : n.flags.0 ≡ 0xFFFF
+  pub high : n.high ≡ 0xFFFF
+  pub extended_flags : n.extended_flags.0 ≡ 0xFFFFFFFF
+  pub guid : IsSixteen n.guid
+
+abbrev pub LargestTyped : Type 0
+LargestTyped = (n : NewSymbol) → IsLargest n → IsTyped n

@@ -7,6 +7,7 @@ ghost use Rattle.symbol.specs.Symbol.{type_guid_flag, attributes_flag, extended_
 ghost use Rattle.symbol.specs.Head.{head_of};
 ghost use Rattle.symbol.specs.Kind.{four, long, room, short, never_zero, head_long, head_room, head_short, head_never_zero};
 
+pub mod theorems;
 mod writer;
 
 use attribute::Attributes;
