@@ -1,20 +1,17 @@
 -- The line-up table holds: antt computes what the definitions say of its bytes.
-use mathlib.Core.Path.{refl}
-use Rattle.le.specs.Le.{le2, le4, part}
-use Rattle.refusal.specs.Ends.{endsIn}
-use Rattle.old_entry.specs.Entry.{claimAt, directClaim}
-use Rattle.guid.specs.Guid.{guidAt}
-use Rattle.attr.specs.Attribute.{attributeAt, attributeRead, attributesFrom, attributesAt}
-use Rattle.old_refactor.specs.Refactor.{refactorAt, refactorRead, chainFrom, chainAt, chainSection}
-use Rattle.old_symbol.specs.Symbol.{extendedAt, sectionsOf, infoRecord, infoOf, symbolPresent, symbolEntry, symbolRead}
-use Rattle.old_symbol.specs.Questions.{symbolName, symbolTypeName, symbolComment}
-use Rattle.old_walk.specs.Walk.{symbolStep}
-use Rattle.old_field.specs.Field.{fieldRead}
+use Rattle.std.proofs.Common.{refl}
+use Rattle.le.specs.Le.{le2, le4}
+use Rattle.refusal.specs.EndBytes.{ended}
+use Rattle.entry.specs.Entry.{claim_at, claim_of}
+use Rattle.walk.specs.Step.{step_at}
+use Rattle.attribute.specs.Attribute as attribute
+use Rattle.refactor.specs.Refactor as refactor
+use Rattle.symbol.specs.Symbol.{guid_of, attributes_of, extended_of, refactor_infos_of, with_strings, ended_symbol, symbol_of}
 use Rattle.lineup.specs.LineUp.{LineUp}
 
-pub line-up : LineUp
-unfolding le2 le4 part endsIn claimAt directClaim guidAt attributeAt attributeRead attributesFrom attributesAt refactorAt refactorRead chainFrom chainAt chainSection extendedAt sectionsOf infoRecord infoOf symbolPresent symbolEntry symbolRead symbolName symbolTypeName symbolComment symbolStep fieldRead
-line-up =
+pub line_up : LineUp
+unfolding le2 le4 ended claim_at claim_of step_at attribute.first_of attribute.listed attribute.after_listed refactor.first_of refactor.listed refactor.chained guid_of attributes_of extended_of refactor_infos_of with_strings ended_symbol symbol_of
+line_up m =
     record {
       l1 = refl;
       l2 = λ b. refl;
@@ -23,12 +20,19 @@ line-up =
       l5 = refl;
       l6 = refl;
       l7 = refl;
-      l7-name = refl;
-      l7-type-name = refl;
-      l7-comment = refl;
+      l7_name = refl;
+      l7_type_name = refl;
+      l7_comment = refl;
+      l7_unread = refl;
       l8 = refl;
+      l8_takes = refl;
+      l8_name = refl;
+      l8_value = refl;
       l9 = refl;
       l10 = refl;
+      l10_takes = refl;
+      l10_name = refl;
       l11 = refl;
+      l11_takes = refl;
       l12 = refl;
     }

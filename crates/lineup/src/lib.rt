@@ -1,11 +1,11 @@
-// 01's line-up table: nothing to run, but one theorem about the definitions (specs/LineUp.antt).
+//! The line-up table: nothing to run, but one theorem about the definitions.
 #![tactic(auto)]
 
 ghost use Rattle.lineup.specs.LineUp.{LineUp};
 
 // The theorems. Each is the contract of a function that does nothing, so that none goes unnoticed if its proof does.
 
-// L1 to L12 of 01's line-up table, in its numbers and figures, of the present mode.
+/// L1 to L12 of the line-up table, in its numbers and figures, of the present mode.
 pub fn line_up()
     ensures { LineUp }
 {}

@@ -1,5 +1,5 @@
-use Rattle.lineup.proofs.LineUp.{line-up}
+use Rattle.lineup.proofs.LineUp.{line_up}
 use Rattle.lineup.proofs.line_up.Goals as goal
 
 pub returns : goal.returns
-returns c = line-up
+returns c = line_up
