@@ -22,19 +22,7 @@ use Rattle.symbol.specs.Told.{told_of, meant, IsTyped, IsSixteen}
 use Rattle.symbol.specs.Writing.{numbers_bytes, header_bytes, sections_bytes, symbol_bytes, sections_checked, symbol_checked, symbol_written}
 use Rattle.symbol.proofs.Accepted.{accepted_is}
 use Rattle.symbols_regrown.specs.Kind.{IsFit, reads_back}
-use Rattle.symbols_regrown.specs.Theorems.{LargestTyped, SymbolsShutOut, WrittenSymbolsFit, named_told, SymbolsByName}
-
-pub largest : LargestTyped
-largest n l = record {
-  index_group = omega (arith, l.index_group);
-  index_offset = omega (arith, l.index_offset);
-  size = omega (arith, l.size);
-  data_type_id = omega (arith, l.data_type_id);
-  flags = omega (arith, l.flags);
-  high = omega (arith, l.high);
-  extended_flags = omega (arith, l.extended_flags);
-  guid = rw l.guid l.guid_long;
-}
+use Rattle.symbols_regrown.specs.Theorems.{SymbolsShutOut, WrittenSymbolsFit, named_told, SymbolsByName}
 
 -- every number 0, no flag set, no name
 abbrev nothing : Bor (List ℕ)

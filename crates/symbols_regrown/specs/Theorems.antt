@@ -1,6 +1,7 @@
 -- The theorems around the one that written symbols come back.
-use Rattle.std.specs.Prelude.{ℕ, ◌≤◌, ◌≡◌, List, Some, Result, Ok, ok_or, find, nat_eq, length, take}
+use Rattle.std.specs.Prelude.{ℕ, ◌<◌, ◌≤◌, ◌≡◌, List, Result, Ok, ok_or, find, nat_eq, length, take}
 use Rattle.std.specs.Cmp.Lexicographic.{pointwise}
+use Rattle.std.specs.List.{All}
 use Rattle.std.specs.Borrow.{Bor}
 use Rattle.refusal.specs.Refusal.{limit}
 use Rattle.refusal.specs.declared.Mode.{Mode}
@@ -20,22 +21,6 @@ use Rattle.symbol.specs.Symbol.{symbol_of}
 use Rattle.symbol.specs.Told.{told_of, meant, IsTyped}
 use Rattle.symbol.specs.Writing.{symbol_bytes, symbol_written}
 use Rattle.symbols_regrown.specs.Kind.{IsFit}
-
--- each number the largest that its type holds, and 16 bytes of GUID
-pub record IsLargest (n : NewSymbol) : Type 0 where
-  pub index_group : n.index_group.0 ≡ 0xFFFFFFFF
-  pub index_offset : n.index_offset.0 ≡ 0xFFFFFFFF
-  pub size : n.size ≡ 0xFFFFFFFF
-  pub data_type_id : n.data_type_id ≡ 0xFFFFFFFF
-  pub flags : n.flags.0 ≡ 0xFFFF
-  pub high : n.high ≡ 0xFFFF
-  pub extended_flags : n.extended_flags.0 ≡ 0xFFFFFFFF
-  pub sixteen : List ℕ
-  pub guid : n.guid ≡ Some sixteen
-  pub guid_long : length sixteen ≡ 16
-
-abbrev pub LargestTyped : Type 0
-LargestTyped = (n : NewSymbol) → IsLargest n → IsTyped n
 
 -- a step that never gives a record, and one that gives its first answer again
 abbrev pub SymbolsShutOut : Type 0
@@ -61,3 +46,10 @@ pub record IsNamed (mode : Mode) (n : NewSymbol) (e : Bor (List ℕ)) (name : Li
 
 abbrev pub SymbolsByName : Type 0
 SymbolsByName = (mode : Mode) (n : NewSymbol) (extra name : List ℕ) (e : Bor (List ℕ)) → IsFit n → e.now ≡ grown (symbol_bytes n) extra → length e.now ≤ limit → IsNamed mode n e name
+
+-- Nothing that is written is left out of what is meant: two fit symbols that mean the same are written as the same bytes. A chain is a block of bytes
+abbrev pub AreBytes : List ℕ → Type 0
+AreBytes = All (λ b. b < 256)
+
+abbrev pub SymbolsFaithful : Type 0
+SymbolsFaithful = (n m : NewSymbol) (extra other : List ℕ) → IsFit n → IsFit m → AreBytes n.refactor_infos.bytes.now → AreBytes m.refactor_infos.bytes.now → meant n extra ≡ meant m other → symbol_bytes n ≡ symbol_bytes m

@@ -11,7 +11,7 @@ ghost use Rattle.symbol.specs.Symbol.{symbol_of};
 ghost use Rattle.symbol.specs.Told.{Told, told_of, meant};
 ghost use Rattle.symbol.specs.Writing.{symbol_bytes};
 ghost use Rattle.symbols_regrown.specs.Kind.{IsFit, reads_back};
-ghost use Rattle.symbols_regrown.specs.Theorems.{LargestTyped, SymbolsShutOut, WrittenSymbolsFit, SymbolsByName};
+ghost use Rattle.symbols_regrown.specs.Theorems.{SymbolsShutOut, WrittenSymbolsFit, SymbolsByName, SymbolsFaithful};
 
 use regrown::Fits;
 use symbol::AdsSymbolInfo;
@@ -46,11 +46,6 @@ pub fn symbols_come_back()
     regrown::come_back::<WrittenSymbols>()
 }
 
-/// That is said of every number that the writer's types hold: the largest of each width is typed.
-pub fn largest_typed()
-    ensures { LargestTyped }
-{}
-
 /// A step that never gives a record, and one that gives its first answer again, do not meet it.
 pub fn symbols_shut_out()
     ensures { SymbolsShutOut }
@@ -64,4 +59,9 @@ pub fn written_symbols_fit()
 /// What was written under an attribute's name is told for that name, of two alike the first; where none has it, 13.
 pub fn symbols_by_name()
     ensures { SymbolsByName }
+{}
+
+/// Two fit symbols that mean the same, their chains blocks of bytes, are written as the same bytes.
+pub fn symbols_faithful()
+    ensures { SymbolsFaithful }
 {}

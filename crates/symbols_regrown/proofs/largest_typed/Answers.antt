@@ -1,5 +1,0 @@
-use Rattle.symbols_regrown.proofs.Around.{largest}
-use Rattle.symbols_regrown.proofs.largest_typed.Goals as goal
-
-pub returns : goal.returns
-returns c = largest
