@@ -18,7 +18,7 @@ fn sample() -> Vec<u8> {
 const TABLE: usize = 882;
 const CURVE: usize = 1070;
 
-/// An entry as documents 01 and 02 lay it out, with these entries in it.
+/// An entry as docs/FORMAT.md lays it out, with these entries in it.
 #[derive(Default)]
 struct Entry<'a> {
     name: &'a [u8],

@@ -6,10 +6,6 @@ use Rattle.refusal.specs.declared.Written.{Written}
 use Rattle.refusal.specs.declared.Written.TheVariants as written
 use Rattle.refusal.specs.Writing.{Writing, leaves}
 use Rattle.refusal.specs.Writing as writing
-use Rattle.old_room.specs.declared.RoomAnswer.{RoomAnswer}
-use Rattle.old_room.specs.declared.RoomAnswer.TheVariants as room
-use Rattle.old_index.specs.declared.FindAnswer.{FindAnswer}
-use Rattle.old_index.specs.declared.FindAnswer.TheVariants as find
 use Rattle.attr.specs.declared.AttributeAnswer.{AttributeAnswer}
 use Rattle.attr.specs.declared.AttributeAnswer.TheVariants as attribute
 use Rattle.old_field.specs.declared.AdsFieldInfo.{AdsFieldInfo}
@@ -28,16 +24,6 @@ writtenTold (written.Refused why) = figures_of why
 pub record WrittenTold (w : Writing) (old new : List ℕ) (status : ℕ) (answer : List ℕ) : Type 0 where
   pub tells : Tells (writtenTold (writing.answer w (length old))) status answer
   pub left : new ≡ leaves w old
-
--- how many slots to set aside
-abbrev pub roomTold : RoomAnswer → Figures
-roomTold (room.Slots slots) = done slots 0
-roomTold (room.Refused why) = figures_of why
-
--- where it starts
-abbrev pub foundTold : FindAnswer → Figures
-foundTold (find.Found start) = done start 0
-foundTold (find.Refused why) = figures_of why
 
 abbrev pub attributeTold : AttributeAnswer → Figures
 attributeTold (attribute.Record r) = done 0 0

@@ -2,13 +2,11 @@
 ghost use Rattle.std.specs.Prelude.{◌≡◌, ◌+◌};
 ghost use Rattle.field_walk.specs.Walk as «field-walks»;
 ghost use Rattle.told.specs.Told.{Tells};
-ghost use Rattle.told.specs.Older.{writtenTold, roomTold, foundTold, attributeTold, fieldTold, fieldSlots, fieldSlotsAfter, fieldGuidAfter, attributeSlotsAfter};
+ghost use Rattle.told.specs.Older.{writtenTold, attributeTold, fieldTold, fieldSlots, fieldSlotsAfter, fieldGuidAfter, attributeSlotsAfter};
 
 use crate::{DONE, FINISHED, refused, tell};
 use attr::AttributeAnswer;
 use old_field::{AdsFieldInfo, FieldAnswer, FieldRead};
-use old_index::FindAnswer;
-use old_room::RoomAnswer;
 use refusal::Written;
 
 pub fn written(w: Written, answer: &mut [u64; 2]) -> u32
@@ -17,24 +15,6 @@ pub fn written(w: Written, answer: &mut [u64; 2]) -> u32
     match w {
         Written::Done(count) => tell(DONE, count, 0, answer),
         Written::Refused(why) => refused(why, answer),
-    }
-}
-
-pub fn room(a: RoomAnswer, answer: &mut [u64; 2]) -> u32
-    ensures { Tells (roomTold a) result answer.new }
-{
-    match a {
-        RoomAnswer::Slots(slots) => tell(DONE, slots, 0, answer),
-        RoomAnswer::Refused(why) => refused(why, answer),
-    }
-}
-
-pub fn found(f: FindAnswer, answer: &mut [u64; 2]) -> u32
-    ensures { Tells (foundTold f) result answer.new }
-{
-    match f {
-        FindAnswer::Found(start) => tell(DONE, start, 0, answer),
-        FindAnswer::Refused(why) => refused(why, answer),
     }
 }
 

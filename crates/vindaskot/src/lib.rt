@@ -21,15 +21,15 @@ ghost use Rattle.old_field.specs.Questions.{fieldAttribute, fieldAttributeNamed}
 ghost use Rattle.field_walk.specs.Walk as fields;
 ghost use Rattle.field.specs.Writing.{field_written};
 ghost use Rattle.index.specs.Index.{indexing};
-ghost use Rattle.old_index.specs.Index.{find, findIndexed};
-ghost use Rattle.old_room.specs.Room.{room_for};
+ghost use Rattle.symbol_find.specs.Find.{find, find_indexed};
+ghost use Rattle.room.specs.Room.{room_for};
 ghost use Rattle.salvage.specs.Salvage.{salvaging};
 ghost use Rattle.text.specs.Text.{decoding, encoding};
 ghost use Rattle.places.specs.Alone.{attribute_alone, refactor_alone, chain_read, chain_record};
 ghost use Rattle.places.specs.Symbol.{symbol_attribute, symbol_attribute_named, symbol_refactor_info};
 ghost use Rattle.told.specs.Told.{Tells, WritesTold, WritesBothTold, number_told, numbers_told, record_told, step_told, end_told};
 ghost use Rattle.told.specs.Slots.{slots_after, step_after, symbol_slots, symbol_guid, attribute_slots, refactor_slots};
-ghost use Rattle.told.specs.Older.{roomTold, foundTold, attributeTold, fieldTold, fieldSlotsAfter, fieldGuidAfter, attributeSlotsAfter};
+ghost use Rattle.told.specs.Older.{attributeTold, fieldTold, fieldSlotsAfter, fieldGuidAfter, attributeSlotsAfter};
 ghost use Rattle.vindaskot.specs.Lent.{lent_guid, new_symbol, new_field};
 
 use attribute::AdsAttribute;
@@ -40,7 +40,7 @@ use flags::symbol_flags::{AdsSymbol2Flags, AdsSymbolFlags};
 use flags::type_flags::AdsTypeFlags;
 use refactor::AdsRefactorInfo;
 use refusal::{Mode, Refusal};
-use symbol::{AdsSymbolInfo, NewSymbol};
+use symbol::{NewSymbol, SymbolHead};
 use writing::Block;
 
 // The number of this interface changes with the arguments or the slots of any call, which no linker sees. So it stands in names, which a linker
@@ -469,12 +469,14 @@ pub extern "C" fn vindaskot_field_write(
 
 #[unsafe(no_mangle)]
 pub extern "C" fn vindaskot_room(length: usize, answer: &mut [u64; 2]) -> u32
-    ensures { Tells (roomTold (room_for length)) result answer.new }
+    ensures { Tells (number_told (room_for length)) result answer.new }
 {
-    told::older::room(old_room::room(length), answer)
+    told::number(room::room(length), answer)
 }
 
+// By heads, which read no section in the present mode.
 #[unsafe(no_mangle)]
+#[tactic(auto, using(symbol_find::proofs::Alike::indexed_alike))]
 pub extern "C" fn vindaskot_index_build(
     bytes: &[u8],
     slots: &mut [u32],
@@ -483,16 +485,16 @@ pub extern "C" fn vindaskot_index_build(
     ensures { WritesTold (indexing (symbol_of Present) bytes.entry) slots.old slots.new result answer.new }
 {
     told::number(
-        index::build::<AdsSymbolInfo>(bytes, Mode::Present, slots),
+        index::build::<SymbolHead>(bytes, Mode::Present, slots),
         answer,
     )
 }
 
 #[unsafe(no_mangle)]
 pub extern "C" fn vindaskot_find(bytes: &[u8], name: &[u8], answer: &mut [u64; 2]) -> u32
-    ensures { Tells (foundTold (find presentMode bytes.now name.now)) result answer.new }
+    ensures { Tells (number_told (find Present bytes.entry name.now)) result answer.new }
 {
-    told::older::found(old_index::find(bytes, refusal::PRESENT, name), answer)
+    told::number(symbol_find::find(bytes, Mode::Present, name), answer)
 }
 
 #[unsafe(no_mangle)]
@@ -502,10 +504,10 @@ pub extern "C" fn vindaskot_find_indexed(
     name: &[u8],
     answer: &mut [u64; 2],
 ) -> u32
-    ensures { Tells (foundTold (findIndexed presentMode bytes.now slots.now name.now)) result answer.new }
+    ensures { Tells (number_told (find_indexed Present bytes.entry slots.now name.now)) result answer.new }
 {
-    told::older::found(
-        old_index::find_indexed(bytes, refusal::PRESENT, slots, name),
+    told::number(
+        symbol_find::find_indexed(bytes, Mode::Present, slots, name),
         answer,
     )
 }

@@ -7,15 +7,15 @@ ghost use Rattle.old_field.specs.Field.{fieldRead};
 ghost use Rattle.old_field.specs.Questions.{fieldAttribute, fieldAttributeNamed};
 ghost use Rattle.field_walk.specs.Walk as fields;
 ghost use Rattle.index.specs.Index.{indexing};
-ghost use Rattle.old_index.specs.Index.{find, findIndexed};
+ghost use Rattle.symbol_find.specs.Find.{find, find_indexed};
 ghost use Rattle.salvage.specs.Salvage.{salvaging};
 ghost use Rattle.places.specs.Alone.{attribute_alone, refactor_alone, chain_read, chain_record};
 ghost use Rattle.places.specs.Symbol.{symbol_attribute, symbol_attribute_named, symbol_refactor_info};
 ghost use Rattle.told.specs.Told.{Tells, WritesTold, WritesBothTold, mode_of, number_told, numbers_told, record_told, step_told};
 ghost use Rattle.told.specs.Slots.{slots_after, step_after, symbol_slots, symbol_guid, attribute_slots, refactor_slots};
-ghost use Rattle.told.specs.Older.{foundTold, attributeTold, fieldTold, fieldSlotsAfter, fieldGuidAfter, attributeSlotsAfter};
+ghost use Rattle.told.specs.Older.{attributeTold, fieldTold, fieldSlotsAfter, fieldGuidAfter, attributeSlotsAfter};
 
-use symbol::{AdsSymbolInfo, SymbolHead};
+use symbol::SymbolHead;
 use told::mode;
 
 #[unsafe(no_mangle)]
@@ -234,6 +234,7 @@ pub extern "C" fn vindaskot_chain_record_in(
 }
 
 #[unsafe(no_mangle)]
+#[tactic(auto, using(symbol_find::proofs::Alike::indexed_alike))]
 pub extern "C" fn vindaskot_index_build_in(
     bytes: &[u8],
     checked: bool,
@@ -243,7 +244,7 @@ pub extern "C" fn vindaskot_index_build_in(
     ensures { WritesTold (indexing (symbol_of (mode_of checked)) bytes.entry) slots.old slots.new result answer.new }
 {
     told::number(
-        index::build::<AdsSymbolInfo>(bytes, mode(checked), slots),
+        index::build::<SymbolHead>(bytes, mode(checked), slots),
         answer,
     )
 }
@@ -255,9 +256,9 @@ pub extern "C" fn vindaskot_find_in(
     name: &[u8],
     answer: &mut [u64; 2],
 ) -> u32
-    ensures { Tells (foundTold (find checked bytes.now name.now)) result answer.new }
+    ensures { Tells (number_told (find (mode_of checked) bytes.entry name.now)) result answer.new }
 {
-    told::older::found(old_index::find(bytes, checked, name), answer)
+    told::number(symbol_find::find(bytes, mode(checked), name), answer)
 }
 
 #[unsafe(no_mangle)]
@@ -268,9 +269,12 @@ pub extern "C" fn vindaskot_find_indexed_in(
     name: &[u8],
     answer: &mut [u64; 2],
 ) -> u32
-    ensures { Tells (foundTold (findIndexed checked bytes.now slots.now name.now)) result answer.new }
+    ensures { Tells (number_told (find_indexed (mode_of checked) bytes.entry slots.now name.now)) result answer.new }
 {
-    told::older::found(old_index::find_indexed(bytes, checked, slots, name), answer)
+    told::number(
+        symbol_find::find_indexed(bytes, mode(checked), slots, name),
+        answer,
+    )
 }
 
 #[unsafe(no_mangle)]
