@@ -1,0 +1,3 @@
+pub mod Anywhere
+pub mod Refused
+pub mod Kind
