@@ -11,3 +11,5 @@ pub mod Sections
 pub mod Accepted
 pub mod Header
 pub mod Back
+pub mod Anywhere
+pub mod Refused

@@ -1,6 +1,7 @@
 -- Every part of a symbol lies in its entry, in layout order.
 use Rattle.std.proofs.Common.{ℕ, zero, suc, ◌+◌, ◌-◌, ◌<◌, ◌≤◌, ◌≡◌, refl, sym, ap, ◌∙◌, Bool, true, false, List, [], ◌∷◌, length, take, drop, Ok, Err, Result, arith, Bor, subst, length-drop}
-use Rattle.std.specs.Prelude.{Option, Some, None, leb, if◌then◌else◌}
+use Rattle.std.specs.Prelude.{Option, Some, None, is_some, leb, if◌then◌else◌}
+use Rattle.std.proofs.lemmas.Grind.{common_steps}
 use lib.Seq.{length-take-le}
 use borrow.Author.Tests.{leb-true}
 use Rattle.flags.specs.declared.symbol_flags.AdsSymbol2Flags.{AdsSymbol2Flags}
@@ -181,6 +182,15 @@ extended_tail s true = by_room (leb 4 (length s.now)) refl
     by_room true h = tail_after s 4 (leb-true 4 (length s.now) h)
     by_room false h = tail_self s
 
+-- as many bytes are taken as are there for the section
+guid_size : (s : Bor (List ℕ)) (b : Bool) → length (guid_of s b).1.now + (if is_some (guid_of s b).0 then 16 else 0) ≡ length s.now
+unfolding guid_of
+guid_size s b = grind (arith, common_steps)
+
+extended_size : (s : Bor (List ℕ)) (b : Bool) → length (extended_of s b).1.now + (if is_some (extended_of s b).0 then 4 else 0) ≡ length s.now
+unfolding extended_of
+extended_size s b = grind (arith, common_steps)
+
 -- a list of attributes of an entry's last bytes, and the bytes after it
 record AttributesSection (e s : Bor (List ℕ)) (q : Attributes × Bor (List ℕ)) : Type 0 where
   from : IsTail s q.0.bytes
@@ -251,11 +261,13 @@ inside e n t k h =
       name = string_of e 30 n (omega arith);
       type_name = string_at e (part e (31 + n) t) (31 + n) (31 + length (part e 30 n).now) (omega (arith, ln)) (string_of e (31 + n) t (omega arith));
       comment = string_at e (part e (32 + n + t) k) (32 + n + t) (32 + length (part e 30 n).now + length (part e (31 + n) t).now) (omega (arith, ln, lt)) (string_of e (32 + n + t) k (omega arith));
-      behind_strings = omega (arith, ln, lt, lk, ls, (guid_tail s (has w type_guid_flag)).within, ta.from.within);
+      behind_strings = omega (arith, ln, lt, lk, ls, guid_size s (has w type_guid_flag), ts.within, ta.from.within);
       attributes = attributes_lie e a.0.bytes a.0.count (tail_again e g.1 a.0.bytes tg ta.from);
       attribute_bytes = tail_again e g.1 a.0.bytes tg ta.from;
       refactor_bytes = subst (IsTail e) (sym tf.from) (tail_again e a.1 x.1 ta.tail tx);
-      before_chain = omega (arith, ap (λ (q : Bor (List ℕ)). length q.now) ta.after_is, ap (λ (q : Bor (List ℕ)). length q.now) tf.from, tx.within);
+      chain_at =
+          let y = extended_size a.1 (has w extended_flags_flag) in
+          omega (arith, ap (λ (q : Bor (List ℕ)). length q.now) ta.after_is, ap (λ (q : Bor (List ℕ)). length q.now) tf.from, y, ta.tail.within);
       refactor_infos = subst (λ (q : Bor (List ℕ)). RefactorsLie e (place_in e q) (refactor.listed (refactor_infos_of x.1 (has (extended_word x.0) refactor_info_flag)).0.bytes (refactor_infos_of x.1 (has (extended_word x.0) refactor_info_flag)).0.count) (place_in e (refactor_infos_of x.1 (has (extended_word x.0) refactor_info_flag)).1)) (sym tf.from) tf.lie;
       unread = tf.tail;
     }

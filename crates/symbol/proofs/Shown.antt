@@ -1,14 +1,13 @@
 -- What is asked of a symbol by number and by name: proved.
-use Rattle.std.proofs.Common.{ℕ, zero, suc, ◌<◌, ◌≤◌, ◌≡◌, refl, sym, ap, ◌∙◌, Bool, true, false, List, [], ◌∷◌, length, Ok, Err, Some, None, arith, Bor}
+use Rattle.std.proofs.Common.{ℕ, zero, suc, ◌<◌, ◌≡◌, refl, sym, Bool, true, false, List, [], ◌∷◌, length, Ok, Some, None, arith}
 use Rattle.std.specs.Prelude.{Option, slice_get, find, ok_or, nat_eq}
 use Rattle.std.specs.Cmp.Lexicographic.{pointwise, same_text, other_text}
 use Rattle.std.proofs.lemmas.Option.{slice_get_past, slice_get_within}
 use Rattle.refusal.specs.declared.Refusal.{Refusal}
-use Rattle.refusal.specs.declared.Refusal.TheVariants.{NoSuchNumber, NameNotFound}
+use Rattle.refusal.specs.declared.Refusal.TheVariants.{NoSuchNumber}
 use Rattle.attribute.specs.declared.AdsAttribute.{AdsAttribute}
-use Rattle.attribute.specs.Attribute as attribute
 use Rattle.symbol.specs.declared.AdsSymbolInfo.{AdsSymbolInfo}
-use Rattle.symbol.specs.Shown.{attributes_of, refactors_of, IsShown, SymbolsShown, NoneHas, FirstNamed, found, nowhere, SymbolsNamed}
+use Rattle.symbol.specs.Shown.{attributes_of, refactors_of, SymbolsShown, FirstNamed, found, nowhere, SymbolsNamed}
 use Rattle.symbol.proofs.Laws.{symbols_whole}
 use Rattle.symbol.proofs.Lies.{chain_counted}
 

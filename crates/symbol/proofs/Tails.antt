@@ -1,5 +1,5 @@
 -- Parts of parts: the last bytes of an entry, and its strings.
-use Rattle.std.proofs.Common.{ℕ, ◌+◌, ◌-◌, ◌<◌, ◌≤◌, ◌≡◌, refl, sym, ap, ap₂, ◌∙◌, List, length, take, drop, arith, Bor, subst, length-drop}
+use Rattle.std.proofs.Common.{ℕ, ◌+◌, ◌<◌, ◌≤◌, ◌≡◌, sym, ap, ap₂, ◌∙◌, List, length, take, arith, Bor, subst, length-drop}
 use native.Mathlib.Nat.{add_assoc, add-zero}
 use lib.Seq.{drop-drop}
 use Rattle.part.specs.Slice.{part, after}

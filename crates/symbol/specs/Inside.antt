@@ -1,5 +1,5 @@
 -- docs/FORMAT.md, "Symbol entries": every part of a symbol lies in its entry, in layout order.
-use Rattle.std.specs.Prelude.{ℕ, ◌+◌, ◌<◌, ◌≤◌, ◌≡◌, List, [], ◌∷◌, Ok, length}
+use Rattle.std.specs.Prelude.{ℕ, ◌+◌, ◌<◌, ◌≤◌, ◌≡◌, List, [], ◌∷◌, Ok, is_some, length, if◌then◌else◌}
 use Rattle.std.specs.Borrow.{Bor}
 use Rattle.part.specs.Slice.{part, after}
 use Rattle.refusal.specs.declared.Mode.{Mode}
@@ -32,15 +32,16 @@ abbrev pub RefactorsLie : Bor (List ℕ) → ℕ → List AdsRefactorInfo → �
 RefactorsLie e at [] to = at ≡ to
 RefactorsLie e at (r ∷ more) to = IsString e (at + 6) r.name × RefactorsLie e (at + 6 + length r.name.now + 1) more to
 
--- the header, three strings, the attributes that are shown, the chain, and what is unread to the end
+-- the header, three strings, a GUID, the attributes that are shown, extended flags, the chain, and what is unread to the end
 pub record IsInside (e : Bor (List ℕ)) (r : AdsSymbolInfo) : Type 0 where
   pub long : r.length ≡ length e.now
   pub name : IsString e 30 r.name
   pub type_name : IsString e (31 + length r.name.now) r.type_name
   pub comment : IsString e (32 + length r.name.now + length r.type_name.now) r.comment
-  pub behind_strings : 33 + length r.name.now + length r.type_name.now + length r.comment.now ≤ place_in e r.attributes.bytes
+  pub behind_strings : 33 + length r.name.now + length r.type_name.now + length r.comment.now + (if is_some r.guid then 16 else 0) ≤ place_in e r.attributes.bytes
   pub attributes : AttributesLie e (place_in e r.attributes.bytes) (attribute.listed r.attributes.bytes r.attributes.count) (place_in e (attribute.after_listed r.attributes.bytes r.attributes.count))
-  pub before_chain : place_in e (attribute.after_listed r.attributes.bytes r.attributes.count) ≤ place_in e r.refactor_infos.bytes
+  -- the extended flags between them
+  pub chain_at : place_in e r.refactor_infos.bytes ≡ place_in e (attribute.after_listed r.attributes.bytes r.attributes.count) + (if is_some r.extended_flags then 4 else 0)
   pub refactor_infos : RefactorsLie e (place_in e r.refactor_infos.bytes) (refactor.listed r.refactor_infos.bytes r.refactor_infos.count) (place_in e r.unread)
   pub unread : IsTail e r.unread
   -- the bytes that the two lists are read from reach to the entry's end

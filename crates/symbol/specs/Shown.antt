@@ -1,5 +1,5 @@
 -- docs/FORMAT.md, "Symbol entries" and "Attributes": what is asked of a symbol by number and by name.
-use Rattle.std.specs.Prelude.{ℕ, ◌<◌, ◌≤◌, ◌≡◌, List, Some, Ok, Err, length, slice_get}
+use Rattle.std.specs.Prelude.{ℕ, ◌<◌, ◌≤◌, ◌≡◌, List, Some, Ok, Err, slice_get}
 use Rattle.std.specs.Borrow.{Bor}
 use Rattle.refusal.specs.declared.Mode.{Mode}
 use Rattle.refusal.specs.declared.Refusal.TheVariants.{NoSuchNumber, NameNotFound}

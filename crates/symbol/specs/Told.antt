@@ -1,5 +1,8 @@
 -- What a symbol tells, wherever it lies, and what is meant by one that is written.
 use Rattle.std.specs.Prelude.{ℕ, ◌<◌, ◌≡◌, List, Option, Some, None, length, if◌then◌else◌}
+use Rattle.std.specs.Borrow.{Bor}
+use Rattle.refusal.specs.declared.Mode.{Mode}
+use Rattle.walk.specs.Mapped.{map_ok}
 use Rattle.flags.specs.declared.index_group.IndexGroup.{IndexGroup}
 use Rattle.flags.specs.declared.index_offset.IndexOffset.{IndexOffset}
 use Rattle.flags.specs.declared.symbol_flags.AdsSymbolFlags.{AdsSymbolFlags}
@@ -10,7 +13,7 @@ use Rattle.refactor.specs.Refactor as refactor
 use Rattle.refactor.specs.Told as refactors
 use Rattle.symbol.specs.declared.AdsSymbolInfo.{AdsSymbolInfo}
 use Rattle.symbol.specs.declared.writer.NewSymbol.{NewSymbol}
-use Rattle.symbol.specs.Symbol.{extended_flags_flag}
+use Rattle.symbol.specs.Symbol.{extended_flags_flag, symbol_of}
 use Rattle.symbol.specs.Writing.{flagged}
 
 pub record Told : Type 0 where
@@ -96,3 +99,7 @@ pub record IsLargest (n : NewSymbol) : Type 0 where
 
 abbrev pub LargestTyped : Type 0
 LargestTyped = (n : NewSymbol) → IsLargest n → IsTyped n
+
+-- what a symbol tells does not depend on where it lies
+abbrev pub SymbolsAnywhere : Type 0
+SymbolsAnywhere = (mode : Mode) (e f : Bor (List ℕ)) → e.now ≡ f.now → map_ok told_of (symbol_of mode e) ≡ map_ok told_of (symbol_of mode f)

@@ -3,6 +3,7 @@
 
 ghost use Rattle.std.specs.Prelude.{◌≡◌, ◌+◌, ◌≤◌, length};
 ghost use Rattle.le.specs.Le.{has};
+ghost use Rattle.part.specs.Slice.{part, after};
 ghost use Rattle.symbol.specs.Symbol.{type_guid_flag, attributes_flag, extended_flags_flag, refactor_info_flag, guid_of, attributes_of, extended_of, refactor_infos_of, extended_word, IsWithin, with_strings, symbol_ended, symbol_of};
 ghost use Rattle.symbol.specs.Head.{head_of};
 ghost use Rattle.symbol.specs.Kind.{four, long, room, short, never_zero, head_long, head_room, head_short, head_never_zero};
@@ -102,6 +103,22 @@ fn read_refactor_infos(rest: &[u8], flagged: bool) -> (RefactorInfos<'_>, &[u8])
     (none, rest)
 }
 
+#[inline(always)]
+fn string_at(own: &[u8], at: usize, size: usize) -> &[u8]
+    requires { at + size ≤ length own.now }
+    ensures { result ≡ part own.entry at size }
+{
+    &own[at..at + size]
+}
+
+#[inline(always)]
+fn rest_from(own: &[u8], at: usize) -> &[u8]
+    requires { at ≤ length own.now }
+    ensures { result ≡ after own.entry at }
+{
+    &own[at..]
+}
+
 /// The symbol of an entry's own bytes whose strings have these lengths.
 #[tactic(auto, unfolding(crate::specs::Symbol::with_strings))]
 #[inline(always)]
@@ -109,9 +126,7 @@ fn with_strings(own: &[u8], name: usize, type_name: usize, comment: usize) -> Ad
     requires { 33 + name + type_name + comment ≤ length own.now }
     ensures { result ≡ with_strings own.entry name type_name comment }
 {
-    let type_at = 31 + name;
-    let comment_at = type_at + type_name + 1;
-    let sections = &own[comment_at + comment + 1..];
+    let sections = rest_from(own, 33 + name + type_name + comment);
     let flags = AdsSymbolFlags(le::u16_at(own, 20));
     let (guid, rest) = read_guid(sections, flags.has_type_guid());
     let (attributes, rest) = read_attributes(rest, flags.has_attributes());
@@ -125,9 +140,9 @@ fn with_strings(own: &[u8], name: usize, type_name: usize, comment: usize) -> Ad
         data_type_id: le::u32_at(own, 16),
         flags,
         high: le::u16_at(own, 22),
-        name: &own[30..30 + name],
-        type_name: &own[type_at..type_at + type_name],
-        comment: &own[comment_at..comment_at + comment],
+        name: string_at(own, 30, name),
+        type_name: string_at(own, 31 + name, type_name),
+        comment: string_at(own, 32 + name + type_name, comment),
         guid,
         attributes,
         extended_flags,
@@ -281,7 +296,7 @@ impl<'a> Entry<'a> for SymbolHead<'a> {
         }
         Ok(SymbolHead {
             length,
-            name: &own[30..30 + name],
+            name: string_at(own, 30, name),
         })
     }
 }

@@ -3,7 +3,7 @@ ghost use Rattle.symbol.specs.Laws.{SymbolsWhole};
 ghost use Rattle.symbol.specs.Inside.{SymbolsInside};
 ghost use Rattle.symbol.specs.Modes.{SymbolsModes};
 ghost use Rattle.symbol.specs.Shown.{SymbolsShown, SymbolsNamed};
-ghost use Rattle.symbol.specs.Told.{LargestTyped};
+ghost use Rattle.symbol.specs.Told.{LargestTyped, SymbolsAnywhere};
 
 /// A symbol that is accepted has room for its strings and lists, and shows as many attributes as it counts.
 pub fn symbols_whole()
@@ -34,4 +34,9 @@ pub fn symbols_named()
 /// No more is asked of what a symbol is written from than its types say: the largest number of each width is typed.
 pub fn largest_typed()
     ensures { LargestTyped }
+{}
+
+/// What a symbol tells is told by its bytes, wherever they lie.
+pub fn symbols_anywhere()
+    ensures { SymbolsAnywhere }
 {}

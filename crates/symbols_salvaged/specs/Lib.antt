@@ -1,3 +1,1 @@
-pub mod Anywhere
-pub mod Refused
 pub mod Kind

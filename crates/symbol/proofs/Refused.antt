@@ -3,7 +3,7 @@ use Rattle.std.proofs.Common.{ℕ, ◌+◌, ◌≡◌, refl, sym, ap, ◌∙◌,
 use Rattle.std.specs.Prelude.{ltb, eqb, if◌then◌else◌}
 use Rattle.le.specs.Le.{le2}
 use Rattle.part.specs.Outcome.{and_then}
-use Rattle.refusal.specs.EndBytes.{ended, in_mode}
+use Rattle.refusal.specs.EndBytes.{ended}
 use Rattle.refusal.specs.Refusal.{figures_of}
 use Rattle.refusal.specs.declared.Mode.{Mode}
 use Rattle.refusal.specs.declared.Mode.TheVariants.{Present, Checked}

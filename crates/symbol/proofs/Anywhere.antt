@@ -1,5 +1,5 @@
 -- What a symbol tells does not depend on where it lies in memory.
-use Rattle.std.proofs.Common.{◌≡◌, ℕ, zero, suc, ◌+◌, ◌⊎◌, inl, inr, Bool, true, false, List, [], ◌∷◌, length, refl, sym, ap, ap₂, ◌∙◌, Bor}
+use Rattle.std.proofs.Common.{◌≡◌, ℕ, zero, suc, ◌+◌, ◌⊎◌, inl, inr, Bool, true, false, List, ◌∷◌, length, refl, sym, ap, ap₂, ◌∙◌, Bor}
 use Rattle.std.specs.Prelude.{Option, Result, Ok, Err, ltb, leb, get_or, bit_and, if◌then◌else◌}
 use Rattle.le.specs.Le.{le2, le4, has}
 use Rattle.part.specs.Slice.{part, after}
@@ -19,7 +19,7 @@ use Rattle.walk.specs.Mapped.{map_ok}
 use Rattle.symbol.specs.declared.AdsSymbolInfo.{AdsSymbolInfo}
 use Rattle.attribute.specs.Told as attributes
 use Rattle.refactor.specs.Told as refactors
-use Rattle.symbol.specs.Told.{Told, told_of}
+use Rattle.symbol.specs.Told.{told_of, SymbolsAnywhere}
 use Rattle.symbol.specs.Symbol.{type_guid_flag, attributes_flag, extended_flags_flag, refactor_info_flag, guid_of, attributes_of, extended_of, extended_word, refactor_infos_of, with_strings, symbol_ended, ended_symbol, symbol_of}
 
 -- the same bytes at another place
@@ -249,7 +249,7 @@ answer_still (Err why) = refl
 told_moved : (mode : Mode) (m : ℕ × ℕ) (e : Bor (List ℕ)) → map_ok told_of (symbol_of mode (moved m e)) ≡ map_ok told_of (symbol_of mode e)
 told_moved mode m e = sym (answer_still (symbol_of mode (moved m e))) ∙ ap (map_ok told_of) (read_still mode m e) ∙ answer_still (symbol_of mode e)
 
-pub told_anywhere : (mode : Mode) (e f : Bor (List ℕ)) → e.now ≡ f.now → map_ok told_of (symbol_of mode e) ≡ map_ok told_of (symbol_of mode f)
-told_anywhere mode e f h =
+pub symbols_anywhere : SymbolsAnywhere
+symbols_anywhere mode e f h =
     let is : moved f.ref_ptr e ≡ f = ap (λ (s : List ℕ). record { ref_ptr = f.ref_ptr; now = s }) h in
     sym (told_moved mode f.ref_ptr e) ∙ ap (λ q. map_ok told_of (symbol_of mode q)) is
