@@ -1,6 +1,6 @@
 //! What entries of fields and of data types begin with: the header's numbers and the strings.
 ghost use Rattle.std.specs.Prelude.{◌≡◌, ◌+◌, ◌≤◌, length};
-ghost use Rattle.refusal.specs.EndBytes.{ended};
+ghost use Rattle.refusal.specs.EndBytes.{ended, in_mode};
 ghost use Rattle.field.specs.Front.{with_strings, string_ends, front_of};
 
 use flags::type_flags::AdsTypeFlags;
@@ -54,12 +54,21 @@ fn with_strings(own: &[u8], name: usize, type_name: usize, comment: usize) -> Fr
     }
 }
 
-/// Refuses the first end byte that is not 0 of strings of these lengths.
+/// Refuses the first end byte that is not 0 of strings of these lengths, in the checked mode.
 #[tactic(auto, using(refusal::proofs::EndBytes::ended_passed, refusal::proofs::EndBytes::ended_refused, refusal::proofs::EndBytes::ended_none))]
-fn check_ends(own: &[u8], name: usize, type_name: usize, comment: usize) -> Result<(), Refusal>
+fn check_ends(
+    own: &[u8],
+    name: usize,
+    type_name: usize,
+    comment: usize,
+    mode: Mode,
+) -> Result<(), Refusal>
     requires { 45 + name + type_name + comment ≤ length own.now }
-    ensures { result ≡ ended (string_ends own.now name type_name comment) }
+    ensures { result ≡ in_mode mode (ended (string_ends own.now name type_name comment)) }
 {
+    if mode == Mode::Present {
+        return Ok(());
+    }
     let name_end = 42 + name;
     let type_end = name_end + 1 + type_name;
     let comment_end = type_end + 1 + comment;
@@ -92,9 +101,7 @@ impl<'a> Front<'a> {
                 available: length,
             });
         }
-        if mode == Mode::Checked {
-            check_ends(own, name, type_name, comment)?;
-        }
+        check_ends(own, name, type_name, comment, mode)?;
         Ok(with_strings(own, name, type_name, comment))
     }
 }

@@ -1,7 +1,8 @@
 //! Field entries of an upload, read whole: what a field holds is a part of the bytes that it was read from.
 #![tactic(auto, unfolding(crate::specs::Tail::guid_of, crate::specs::Tail::after_mask, crate::specs::Tail::after_methods, crate::specs::Tail::attributes_of, le::specs::Le::le2, le::specs::Le::le4))]
 
-ghost use Rattle.std.specs.Prelude.{◌≡◌};
+ghost use Rattle.std.specs.Prelude.{◌≡◌, ◌*◌};
+ghost use Rattle.field.specs.Skip.{ahead};
 ghost use Rattle.field.specs.Field.{joined, behind_items, field_of};
 ghost use Rattle.field.specs.Kind.{four, long, room, short, never_zero};
 
@@ -61,12 +62,20 @@ impl<'a> AdsFieldInfo<'a> {
     }
 }
 
+/// What stands behind so many array records, of 8 bytes each.
+#[inline(always)]
+fn behind_arrays(rest: &[u8], count: u16) -> &[u8]
+    ensures { result ≡ ahead rest.entry (8 * count) }
+{
+    ahead(rest, 8 * count as usize)
+}
+
 /// What stands behind the array records and the sub-items of a field.
 #[inline(always)]
 fn behind_items<'a>(front: &Front<'a>) -> &'a [u8]
     ensures { result ≡ behind_items front.now }
 {
-    let items = ahead(front.rest, 8 * front.array_count as usize);
+    let items = behind_arrays(front.rest, front.array_count);
     after_items(items, front.sub_item_count as usize)
 }
 

@@ -1,7 +1,7 @@
 //! What entries of fields and of data types end with: GUID, copy mask, methods and attributes.
 ghost use Rattle.std.specs.Prelude.{◌≡◌};
 ghost use Rattle.le.specs.Le.{has};
-ghost use Rattle.refusal.specs.EndBytes.{ended};
+ghost use Rattle.refusal.specs.EndBytes.{ended, in_mode};
 ghost use Rattle.field.specs.Tail.{guid_of, after_mask, after_methods, attributes_of, sections_of, complete, attribute_ends, tail_of};
 
 use crate::front::Front;
@@ -59,6 +59,28 @@ fn read_attributes(rest: &[u8], flagged: bool) -> (Attributes<'_>, Option<Refusa
     (found.attributes, found.stopped)
 }
 
+/// Refuses the first end byte that is not 0 of attributes at the end of an entry of so many bytes, in the checked mode.
+#[inline(always)]
+fn check_ends(attributes: Attributes<'_>, length: usize, mode: Mode) -> Result<(), Refusal>
+    ensures { result ≡ in_mode mode (ended (attribute_ends length attributes.entry)) }
+{
+    if mode == Mode::Present {
+        return Ok(());
+    }
+    attributes.check_ends(length.saturating_sub(attributes.bytes.len()))
+}
+
+/// Refuses a list that ended before its count, by the attribute that was refused.
+#[inline(always)]
+fn check_whole(stopped: Option<Refusal>) -> Result<(), Refusal>
+    ensures { result ≡ complete stopped }
+{
+    match stopped {
+        None => Ok(()),
+        Some(why) => Err(why),
+    }
+}
+
 impl<'a> Tail<'a> {
     /// Reads the tail of an entry with this front, from the bytes behind its sub-items on.
     #[tactic(auto, unfolding(crate::specs::Tail::tail_of))]
@@ -71,12 +93,8 @@ impl<'a> Tail<'a> {
         let rest = skip_mask(rest, front.size as usize, flags.has_copy_mask());
         let rest = skip_methods(rest, flags.has_method_infos());
         let (attributes, stopped) = read_attributes(rest, flags.has_attributes());
-        if mode == Mode::Checked {
-            attributes.check_ends(front.length.saturating_sub(attributes.bytes.len()))?;
-        }
-        match stopped {
-            None => Ok(Tail { guid, attributes }),
-            Some(why) => Err(why),
-        }
+        check_ends(attributes, front.length, mode)?;
+        check_whole(stopped)?;
+        Ok(Tail { guid, attributes })
     }
 }
