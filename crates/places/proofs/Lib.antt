@@ -1,4 +1,4 @@
 pub mod Turn
 pub mod Chain
-pub mod Symbols
+pub mod Direct
 pub mod Single

@@ -1,5 +1,5 @@
 -- A record, or a chain, that stands alone.
-use Rattle.std.proofs.Common.{◌≡◌, ℕ, zero, suc, ◌+◌, ◌-◌, ◌<◌, ◌≤◌, Bool, true, false, List, [], ◌∷◌, length, Ok, Err, Result, arith, Bor, refl, sym, ap, ◌∙◌, subst}
+use Rattle.std.proofs.Common.{◌≡◌, ℕ, zero, suc, ◌+◌, ◌-◌, ◌≤◌, Bool, true, false, List, length, Ok, Err, Result, arith, Bor, refl, sym, ap, ◌∙◌, subst}
 use Rattle.std.specs.Prelude.{if◌then◌else◌}
 use Rattle.part.specs.Outcome.{outcome, and_then}
 use Rattle.refusal.specs.declared.Mode.{Mode}
@@ -15,7 +15,6 @@ use Rattle.places.specs.Places.{IsEnd, attribute_places, refactor_places}
 use Rattle.places.specs.Counted.{attribute_at, refactor_at}
 use Rattle.places.proofs.Turn as turn
 use Rattle.places.proofs.Chain as chain
-use Rattle.places.proofs.Symbols.{self_ends}
 
 first_alone : (mode : Mode) (s : Bor (List ℕ)) (a : AdsAttribute) → attribute.alone mode s ≡ Ok a → (p : AdsAttribute × Bor (List ℕ)) × ((attribute.first_of s ≡ Ok p) × (p.0 ≡ a))
 first_alone mode s a h = by (attribute.first_of s) refl
@@ -27,7 +26,7 @@ first_alone mode s a h = by (attribute.first_of s) refl
 starts_at : (s : Bor (List ℕ)) (p : AdsAttribute × Bor (List ℕ)) → attribute.first_of s ≡ Ok p → attribute_places s p.0 ≡ attribute_at 0 p.0
 starts_at s p h =
     let z : length s.now - length s.now ≡ 0 = omega arith in
-    turn.counted s p h s (self_ends s) ∙ simp z
+    turn.counted s p h s (turn.self_ends s) ∙ simp z
 
 pub attribute_is : (mode : Mode) (s : Bor (List ℕ)) (a : AdsAttribute) → attribute.alone mode s ≡ Ok a → attribute_places s a ≡ attribute_at 0 a
 attribute_is mode s a h =
@@ -44,10 +43,10 @@ attribute_room mode s a h =
 turn_by : (s : Bor (List ℕ)) (count left : ℕ) (q : ℕ × Bor (List ℕ)) (p : AdsRefactorInfo × Bor (List ℕ)) → refactor.first_of s ≡ Ok p
     → ((t : Bor (List ℕ)) → refactor.chained t (count + 1) left ≡ Ok q → IsEnd t q.1) → (b : Bool) → p.0.next_refactor_info ≡ b
     → (if b then refactor.chained p.1 (count + 1) left else Ok (count + 1, p.1)) ≡ Ok q → IsEnd s q.1
-turn_by s count left q p e ih true f h = turn.again s p.1 q.1 (chain.next_ends s p e s (self_ends s)) (ih p.1 h)
+turn_by s count left q p e ih true f h = turn.again s p.1 q.1 (chain.next_ends s p e s (turn.self_ends s)) (ih p.1 h)
 turn_by s count left q p e ih false f h =
     let is : p.1 ≡ q.1 = cc in
-    subst (IsEnd s) is (chain.next_ends s p e s (self_ends s))
+    subst (IsEnd s) is (chain.next_ends s p e s (turn.self_ends s))
 
 chained_by : (s : Bor (List ℕ)) (count left : ℕ) (q : ℕ × Bor (List ℕ)) (w : Result (AdsRefactorInfo × Bor (List ℕ)) Refusal) → refactor.first_of s ≡ w
     → ((t : Bor (List ℕ)) → refactor.chained t (count + 1) left ≡ Ok q → IsEnd t q.1)
@@ -83,7 +82,7 @@ pub chain_within : (mode : Mode) (s : Bor (List ℕ)) (q : RefactorInfos × Bor 
 chain_within mode s q h = (of_chain mode s q h).0.within
 
 pub chain_end : (mode : Mode) (s : Bor (List ℕ)) (q : RefactorInfos × Bor (List ℕ)) → refactor.chain_alone mode s ≡ Ok q → IsEnd s q.0.bytes
-chain_end mode s q h = subst (IsEnd s) (sym (of_chain mode s q h).1) (self_ends s)
+chain_end mode s q h = subst (IsEnd s) (sym (of_chain mode s q h).1) (turn.self_ends s)
 
 first_record : (mode : Mode) (s : Bor (List ℕ)) (r : AdsRefactorInfo) → refactor.alone mode s ≡ Ok r → (p : AdsRefactorInfo × Bor (List ℕ)) × ((refactor.first_of s ≡ Ok p) × (p.0 ≡ r))
 first_record mode s r h = by (refactor.first_of s) refl

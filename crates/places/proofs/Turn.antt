@@ -1,5 +1,5 @@
 -- A turn of the way through a list, whose bytes end where those of the entry end.
-use Rattle.std.proofs.Common.{◌≡◌, ℕ, zero, suc, ◌+◌, ◌-◌, ◌<◌, ◌≤◌, List, [], ◌∷◌, length, Bool, true, false, Ok, Err, arith, Bor, refl, sym, ap, ◌∙◌}
+use Rattle.std.proofs.Common.{◌≡◌, ℕ, zero, suc, ◌+◌, ◌-◌, ◌<◌, ◌≤◌, List, [], ◌∷◌, length, Bool, true, false, Ok, Err, arith, Bor, refl, sym, ◌∙◌}
 use Rattle.std.specs.Prelude.{Some, None, slice_get, find, nat_eq}
 use Rattle.std.specs.Cmp.Lexicographic.{pointwise}
 use Rattle.std.proofs.lemmas.Grind.{common_steps}
@@ -9,8 +9,12 @@ use Rattle.attribute.specs.declared.AdsAttribute.{AdsAttribute}
 use Rattle.attribute.specs.declared.Attributes.{Attributes}
 use Rattle.attribute.specs.Attribute as attribute
 use Rattle.attribute.proofs.Room as attribute-room
-use Rattle.places.specs.Places.{IsEnd, place_in, attribute_places, attribute_numbered, attribute_named}
+use Rattle.places.specs.Places.{IsEnd, attribute_places, attribute_numbered, attribute_named}
 use Rattle.places.specs.Counted.{attribute_at}
+
+-- all bytes are an end of themselves
+pub self_ends : (s : Bor (List ℕ)) → IsEnd s s
+self_ends s = record { memory = refl; within = omega arith }
 
 -- an end of an end
 pub again : (e s t : Bor (List ℕ)) → IsEnd e s → IsEnd s t → IsEnd e t

@@ -1,5 +1,5 @@
 -- Records and chains that stand alone, which other bytes may follow, in a mode.
-use Rattle.std.specs.Prelude.{ℕ, ◌-◌, List, Result}
+use Rattle.std.specs.Prelude.{ℕ, List, Result}
 use Rattle.std.specs.Borrow.{Bor}
 use Rattle.part.specs.Outcome.{and_then}
 use Rattle.refusal.specs.declared.Mode.{Mode}

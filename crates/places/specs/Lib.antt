@@ -1,4 +1,6 @@
 pub mod Places
 pub mod Counted
+pub mod Entry
 pub mod Symbol
+pub mod Kind
 pub mod Alone

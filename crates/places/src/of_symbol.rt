@@ -1,42 +1,31 @@
 // What can be asked of the symbol at the start of some bytes.
 ghost use Rattle.std.specs.Prelude.{◌≡◌};
-ghost use Rattle.places.specs.Symbol.{SymbolsLie, symbol_attribute, symbol_attribute_named, symbol_refactor_info};
+ghost use Rattle.places.specs.Symbol.{symbol_refactor_info};
+ghost use Rattle.places.specs.Kind.{attributes_at_end};
 
-use crate::{
-    AttributePlaces, RefactorPlaces, attribute_named, attribute_numbered, refactor_numbered,
-};
+use crate::of_entry::Attributed;
+use crate::{RefactorPlaces, refactor_numbered};
+use attribute::Attributes;
 use refusal::{Mode, Refusal};
 use symbol::AdsSymbolInfo;
+use walk::Entry;
 
-/// The attribute of a symbol with a number, counted from 0.
-pub fn symbol_attribute(bytes: &[u8], mode: Mode, number: usize) -> Result<AttributePlaces, Refusal>
-    ensures { result ≡ symbol_attribute mode bytes.entry number }
-{
-    let symbol = walk::parse::<AdsSymbolInfo>(bytes, mode)?;
-    attribute_numbered(
-        part::part_of(bytes, 0, symbol.length),
-        symbol.attributes,
-        number,
-    )
-}
+impl<'a> Attributed<'a> for AdsSymbolInfo<'a> {
+    ghost shown = { λ r. r.attributes };
 
-/// The first attribute of a symbol with a name.
-pub fn symbol_attribute_named(
-    bytes: &[u8],
-    mode: Mode,
-    name: &[u8],
-) -> Result<AttributePlaces, Refusal>
-    ensures { result ≡ symbol_attribute_named mode bytes.entry name.now }
-{
-    let symbol = walk::parse::<AdsSymbolInfo>(bytes, mode)?;
-    attribute_named(
-        part::part_of(bytes, 0, symbol.length),
-        symbol.attributes,
-        name,
-    )
+    fn shown(&self) -> Attributes<'a> {
+        self.attributes
+    }
+
+    ghost at_end = { attributes_at_end };
 }
 
 /// The refactor record of a symbol with a number, counted from 0.
+///
+/// # Errors
+///
+/// Those of reading, then 14.
+#[tactic(auto, using(crate::specs::Kind::refactors_at_end, crate::proofs::Direct::refactor_direct), unfolding(entry::specs::Entry::claim_of))]
 pub fn symbol_refactor_info(
     bytes: &[u8],
     mode: Mode,
@@ -44,17 +33,8 @@ pub fn symbol_refactor_info(
 ) -> Result<RefactorPlaces, Refusal>
     ensures { result ≡ symbol_refactor_info mode bytes.entry number }
 {
-    let symbol = walk::parse::<AdsSymbolInfo>(bytes, mode)?;
-    refactor_numbered(
-        part::part_of(bytes, 0, symbol.length),
-        symbol.refactor_infos,
-        number,
-    )
+    let size = entry::claim(bytes, AdsSymbolInfo::header())?;
+    let own = &bytes[..size];
+    let symbol = AdsSymbolInfo::read(own, mode)?;
+    refactor_numbered(own, symbol.refactor_infos, number)
 }
-
-// The theorem, as the contract of a function that does nothing.
-
-/// What a symbol holds lies where its entry has it.
-pub fn symbols_lie()
-    ensures { SymbolsLie }
-{}

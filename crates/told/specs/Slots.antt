@@ -19,7 +19,7 @@ abbrev pub step_after : {A : Type 0} → (A → List ℕ) → Option (Result A R
 step_after slots None old = old
 step_after slots (Some found) old = slots_after slots found old
 
--- the strings' places go from the header on, each with its end byte; those of the lists are counted from what they have left of the entry (places, SymbolLies)
+-- the strings' places go from the header on, each with its end byte; those of the lists are counted from what they have left of the entry (symbol, IsInside)
 unfoldable pub symbol_slots : AdsSymbolInfo → List ℕ
 symbol_slots r =
     r.length

@@ -40,7 +40,7 @@ use flags::symbol_flags::{AdsSymbol2Flags, AdsSymbolFlags};
 use flags::type_flags::AdsTypeFlags;
 use refactor::AdsRefactorInfo;
 use refusal::{Mode, Refusal};
-use symbol::{NewSymbol, SymbolHead};
+use symbol::{AdsSymbolInfo, NewSymbol, SymbolHead};
 use writing::Block;
 
 // The number of this interface changes with the arguments or the slots of any call, which no linker sees. So it stands in names, which a linker
@@ -93,7 +93,7 @@ pub extern "C" fn vindaskot_symbol_attribute(
     ensures slots_after { slots.new ≡ slots_after attribute_slots (symbol_attribute Present bytes.entry number) slots.old }
 {
     told::attribute(
-        places::of_symbol::symbol_attribute(bytes, Mode::Present, number),
+        places::of_entry::entry_attribute::<AdsSymbolInfo>(bytes, Mode::Present, number),
         slots,
         answer,
     )
@@ -110,7 +110,7 @@ pub extern "C" fn vindaskot_symbol_attribute_named(
     ensures slots_after { slots.new ≡ slots_after attribute_slots (symbol_attribute_named Present bytes.entry name.now) slots.old }
 {
     told::attribute(
-        places::of_symbol::symbol_attribute_named(bytes, Mode::Present, name),
+        places::of_entry::entry_attribute_named::<AdsSymbolInfo>(bytes, Mode::Present, name),
         slots,
         answer,
     )

@@ -15,7 +15,7 @@ ghost use Rattle.told.specs.Told.{Tells, WritesTold, WritesBothTold, mode_of, nu
 ghost use Rattle.told.specs.Slots.{slots_after, step_after, symbol_slots, symbol_guid, attribute_slots, refactor_slots};
 ghost use Rattle.told.specs.Older.{attributeTold, fieldTold, fieldSlotsAfter, fieldGuidAfter, attributeSlotsAfter};
 
-use symbol::SymbolHead;
+use symbol::{AdsSymbolInfo, SymbolHead};
 use told::mode;
 
 #[unsafe(no_mangle)]
@@ -62,7 +62,7 @@ pub extern "C" fn vindaskot_symbol_attribute_in(
     ensures slots_after { slots.new ≡ slots_after attribute_slots (symbol_attribute (mode_of checked) bytes.entry number) slots.old }
 {
     told::attribute(
-        places::of_symbol::symbol_attribute(bytes, mode(checked), number),
+        places::of_entry::entry_attribute::<AdsSymbolInfo>(bytes, mode(checked), number),
         slots,
         answer,
     )
@@ -80,7 +80,7 @@ pub extern "C" fn vindaskot_symbol_attribute_named_in(
     ensures slots_after { slots.new ≡ slots_after attribute_slots (symbol_attribute_named (mode_of checked) bytes.entry name.now) slots.old }
 {
     told::attribute(
-        places::of_symbol::symbol_attribute_named(bytes, mode(checked), name),
+        places::of_entry::entry_attribute_named::<AdsSymbolInfo>(bytes, mode(checked), name),
         slots,
         answer,
     )

@@ -1,4 +1,4 @@
-use Rattle.std.proofs.Common.{rules, arith, sym, ◌∙◌, ap, Ok}
+use Rattle.std.proofs.Common.{arith, sym, ◌∙◌, ap, Ok}
 use Rattle.places.proofs.Turn.{again, next_ends, name_found, name_goes_on, room_left, name_none, name_refused}
 use Rattle.places.proofs.attribute_named.Goals as goal
 

@@ -1,4 +1,4 @@
-use Rattle.std.proofs.Common.{rules, arith, sym, ◌∙◌, ap, Ok}
+use Rattle.std.proofs.Common.{arith, sym, ◌∙◌, ap, Ok}
 use Rattle.places.proofs.Turn.{again, next_ends, number_found, number_goes_on, room_left, number_none, number_refused}
 use Rattle.places.proofs.attribute_numbered.Goals as goal
 

@@ -1,4 +1,4 @@
-use Rattle.std.proofs.Common.{rules, arith, sym, ◌∙◌, ap, Ok}
+use Rattle.std.proofs.Common.{arith, sym, ◌∙◌, ap, Ok}
 use Rattle.places.proofs.Chain.{again, next_ends, record_found, record_goes_on, room_left, record_none, record_refused}
 use Rattle.places.proofs.refactor_numbered.Goals as goal
 
