@@ -1,4 +1,0 @@
-pub mod Steps
-pub mod Index
-pub mod Inside
-pub mod Meaning

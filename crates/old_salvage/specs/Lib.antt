@@ -1,4 +1,0 @@
-pub mod Both
-pub mod Pieces
-pub mod Salvage
-pub mod Meaning

@@ -1,4 +1,0 @@
-pub mod Read
-pub mod Inside
-pub mod Named
-pub mod Modes
