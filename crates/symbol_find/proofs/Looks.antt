@@ -1,7 +1,7 @@
 -- An entry has a name exactly where the first look, its name and its symbol say so: proved.
-use Rattle.std.proofs.Common.{ℕ, ◌+◌, ◌≤◌, ◌≡◌, refl, sym, ap, ◌∙◌, Bool, true, false, List, length, arith, Bor, Result, if◌then◌else◌}
+use Rattle.std.proofs.Common.{ℕ, ◌+◌, ◌≤◌, ◌<◌, ◌≡◌, refl, sym, ap, ◌∙◌, Bool, true, false, List, length, arith, Bor, Result, if◌then◌else◌}
 use Rattle.std.specs.Prelude.{ltb, eqb, is_ok, Some, Ok, Err}
-use borrow.Author.Tests.{ltb-true, ltb-false, eqb-true, eqb-false}
+use borrow.Author.Tests.{le-ltb, lt-ltb, ltb-true, ltb-false, eqb-true, eqb-false}
 use Rattle.le.specs.Le.{le2, part}
 use Rattle.le.proofs.Laws.{length_part, not-both}
 use Rattle.refusal.specs.declared.Mode.{Mode}
@@ -31,6 +31,15 @@ strings_of mode e r h = grind arith
 
 stands_of : (mode : Mode) (e : Bor (List ℕ)) (r : AdsSymbolInfo) → symbol_of mode e ≡ Ok r → Stands e r
 stands_of mode e r h = record { name = name_of mode e r h; strings = strings_of mode e r h }
+
+pub looks_short : (e name : List ℕ) → length e < 30 + length name → looks_named e name ≡ false
+unfolding looks_named
+looks_short e name h = simp (lt-ltb (length e) (30 + length name) h)
+
+-- by what was looked at
+pub looks_by : (e name : List ℕ) (told : ℕ) (near both : Bool) → 30 + length name ≤ length e → told ≡ le2 e 24 → near ≡ ends_near (part e 30 (length name)) name → both ≡ (if eqb told (length name) then near else false) → both ≡ looks_named e name
+unfolding looks_named
+looks_by e name told near both h p q r = r ∙ simp (p, q, le-ltb (length e) (30 + length name) h)
 
 pub looked_room : (e name : List ℕ) → looks_named e name ≡ true → 30 + length name ≤ length e
 unfolding looks_named

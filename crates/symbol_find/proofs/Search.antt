@@ -125,6 +125,10 @@ module _ (mode : Mode) (s : Bor (List ℕ)) (name : List ℕ) where
   unfolding find steps
   find_within h = simp (le-ltb limit (length s.now) h) (sym (ap (search_in mode name) (pieces_are (unread_of mode) s) ∙ from 0 (length s.now)))
 
+  -- what the search gives from where it has come to
+  pub find_ends : (all left : List (Piece Unread)) (r : Result ℕ Refusal) → length s.now ≤ limit → all ≡ pieces (unread_of mode) s → search_in mode name left ≡ search_in mode name all → search_in mode name left ≡ r → r ≡ find mode s name
+  find_ends all left r h is going ends = sym (find_within h ∙ ap (search_in mode name) (sym is) ∙ sym going ∙ ends)
+
   module _ (slots : List ℕ) where
     pub find_indexed_large : limit < length s.now → find_indexed mode s slots name ≡ Err (TooLarge (length s.now))
     unfolding find_indexed

@@ -1,8 +1,9 @@
 //! Finding a symbol by its name, without an index and through one (docs/FORMAT.md, "Finding").
 #![tactic(auto)]
 
-ghost use Rattle.std.specs.Prelude.{◌≡◌, Some, length, true};
+ghost use Rattle.std.specs.Prelude.{◌≡◌, Some, is_ok, length, true};
 ghost use Rattle.symbol.specs.Symbol.{symbol_of};
+ghost use Rattle.symbol.specs.Head.{head_of};
 ghost use Rattle.symbol_find.specs.Looks.{looks_named};
 ghost use Rattle.symbol_find.specs.Unread.{unread_of, four, long, room, short, never_zero};
 ghost use Rattle.symbol_find.specs.Find.{has_name, is_named, find, find_indexed};
@@ -58,7 +59,7 @@ impl<'a> Entry<'a> for Unread<'a> {
 
 // A first look, which settles most entries: small, so that the compiler puts it into the loop. One test of both is guessed wrong less often than two.
 #[inline(always)]
-#[tactic(auto, unfolding(crate::specs::Looks::looks_named))]
+#[tactic(auto, using(crate::proofs::Looks::looks_short))]
 fn looks_named(own: &[u8], name: &[u8]) -> bool
     ensures { result ≡ looks_named own.now name.now }
 {
@@ -70,8 +71,15 @@ fn looks_named(own: &[u8], name: &[u8]) -> bool
     le::both(tells_length, names::ends_near(own, 30, name))
 }
 
+// Whether an entry's own bytes give a symbol.
+fn is_symbol(own: &[u8], mode: Mode) -> bool
+    ensures { result ≡ is_ok (head_of mode own.entry) }
+{
+    SymbolHead::read(own, mode).is_ok()
+}
+
 // The same of the whole name, and then of the rest of the entry: asked of few.
-#[tactic(auto, using(crate::proofs::Looks::looked_room, crate::proofs::Looks::named_otherwise, crate::proofs::Looks::named_is))]
+#[tactic(auto, using(crate::proofs::Looks::looked_room, crate::proofs::Looks::named_is))]
 fn holds_name(own: &[u8], mode: Mode, name: &[u8]) -> bool
     requires { looks_named own.now name.now ≡ true }
     ensures { result ≡ has_name name.now (Some (symbol_of mode own.entry)) }
@@ -79,7 +87,7 @@ fn holds_name(own: &[u8], mode: Mode, name: &[u8]) -> bool
     if !names::same_name(own, 30, name) {
         return false;
     }
-    SymbolHead::read(own, mode).is_ok()
+    is_symbol(own, mode)
 }
 
 // Whether an entry's own bytes give a symbol of that name.
@@ -99,7 +107,7 @@ fn has_name(own: &[u8], mode: Mode, name: &[u8]) -> bool
 /// # Errors
 ///
 /// 5 above the limit, 10 where a zero claim is met before a symbol of that name, 13 where none has it.
-#[tactic(auto, using(crate::proofs::Search::find_large, crate::proofs::Search::find_within, crate::proofs::Search::search_end, crate::proofs::Search::search_found, crate::proofs::Search::search_on, crate::proofs::Search::search_stops, crate::proofs::Search::search_refused))]
+#[tactic(auto, using(crate::proofs::Search::find_large, crate::proofs::Search::find_within, crate::proofs::Search::search_end, crate::proofs::Search::search_on, crate::proofs::Search::search_refused))]
 pub fn find(bytes: &[u8], mode: Mode, name: &[u8]) -> Result<usize, Refusal>
     ensures { result ≡ find mode bytes.entry name.now }
 {
