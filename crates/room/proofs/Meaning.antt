@@ -40,10 +40,10 @@ size_of n = by (ltb limit n) refl
 
 answered : (n slots : ℕ) → room_for n ≡ Ok slots → Size n → (n ≤ limit) × (n / least ≡ slots)
 answered n slots h (within l) = let e = room_within n l in (l, cc)
-answered n slots h (above l) = let e = room_large n l in cc
+answered n slots h (above l) = let e = room_large n l in absurd (let z : ◌≡◌ {A = ℕ} 0 1 = cc in omega arith)
 
 not_answered : (n : ℕ) (why : Refusal) → room_for n ≡ Err why → Size n → (limit < n) × (TooLarge n ≡ why)
-not_answered n why h (within l) = let e = room_within n l in cc
+not_answered n why h (within l) = let e = room_within n l in absurd (let z : ◌≡◌ {A = ℕ} 0 1 = cc in omega arith)
 not_answered n why h (above l) = let e = room_large n l in (l, cc)
 
 stopped_is : (mode : Mode) (s : Bor (List ℕ)) → stopped (pieces (symbol_of mode) s) ≡ list_any (stands s.now) (steps s.now)

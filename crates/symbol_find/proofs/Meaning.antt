@@ -83,8 +83,8 @@ indexed_first : (mode : Mode) (s : Bor (List ℕ)) (slots name : List ℕ) (at :
 unfolding find_indexed
 indexed_first mode s slots name at h = finds mode s name slots _ at (within (ltb limit (length s.now)) (TooLarge (length s.now)) _ at h)
 
-pub found_is_first : FoundIsFirst
-found_is_first = record { walked = walked_first; indexed = indexed_first }
+pub found_is_first : FoundIsFirst find find_indexed
+found_is_first = record { walk = walked_first; index = indexed_first }
 
 walked_nowhere : (mode : Mode) (s : Bor (List ℕ)) (name : List ℕ) (why : Refusal) → length s.now ≤ limit → find mode s name ≡ Err why → list_any (is_named mode s name) (steps s.now) ≡ false
 unfolding find
@@ -94,8 +94,8 @@ indexed_nowhere : (mode : Mode) (s : Bor (List ℕ)) (slots name : List ℕ) (wh
 unfolding find_indexed
 indexed_nowhere mode s slots name why small h = nowhere (is_named mode s name) _ slots why (simp (le-ltb limit (length s.now) small) at h)
 
-pub refused_is_nowhere : RefusedIsNowhere
-refused_is_nowhere = record { walked = walked_nowhere; indexed = indexed_nowhere }
+pub refused_is_nowhere : RefusedIsNowhere find find_indexed
+refused_is_nowhere = record { walk = walked_nowhere; index = indexed_nowhere }
 
 -- the case that a name is typed in makes no difference
 module _ (mode : Mode) (s : Bor (List ℕ)) (name typed : List ℕ) (same : same_name name typed ≡ true) where
@@ -116,8 +116,8 @@ module _ (mode : Mode) (s : Bor (List ℕ)) (name typed : List ℕ) (same : same
   unfolding find_indexed
   indexed_either slots = simp either
 
-pub any_case : AnyCase
-any_case = record { walked = walked_either; indexed = λ mode s slots name typed same. indexed_either mode s name typed same slots }
+pub any_case : AnyCase find find_indexed
+any_case = record { walk = walked_either; index = λ mode s slots name typed same. indexed_either mode s name typed same slots }
 
 -- the first of those that pass a weaker test
 module _ (test weaker : ℕ → Bool) (passes : (at : ℕ) → test at ≡ true → weaker at ≡ true) where

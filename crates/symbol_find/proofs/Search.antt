@@ -64,6 +64,11 @@ module _ (mode : Mode) (s : Bor (List ℕ)) (name : List ℕ) where
   abbrev among : List ℕ → Result ℕ Refusal
   among places = ok_or (first_of (is_named mode s name) places) (if list_any (stands s.now) places then ZeroEntryLength else NameNotFound)
 
+  -- of the entry that is met at a place
+  pub named_at : (at size : ℕ) → (claim_at s.now at).size ≡ Some (Ok size) → is_named mode s name at ≡ has_name name (Some (symbol_of mode (part s at size)))
+  unfolding is_named step_at
+  named_at at size e = simp e
+
   -- where the walk stands no symbol has a name, since a claim of 0 is too short
   stood : (at : ℕ) → at < length s.now → stands s.now at ≡ true → (c : Claimed) → claim_at s.now at ≡ c → Claims s.now at c → is_named mode s name at ≡ false
   unfolding is_named step_at

@@ -1,6 +1,6 @@
 -- What finding means, in a mode: the name is that of a symbol which its entry gives when it is read by itself.
-use Rattle.std.specs.Prelude.{ℕ, ◌≤◌, ◌≡◌, true, false, List, ◌∷◌, ◌++◌, length, take, Ok, Err}
-use Rattle.std.specs.List.{list_any}
+use Rattle.std.specs.Prelude.{ℕ, ◌≤◌, ◌≡◌, true, false, List, ◌∷◌, ◌++◌, length, take, Result, Ok, Err, ok_or}
+use Rattle.std.specs.List.{find as first_of, list_any}
 use Rattle.std.specs.Borrow.{Bor}
 use Rattle.part.specs.Slice.{part}
 use Rattle.refusal.specs.Refusal.{limit}
@@ -30,20 +30,30 @@ pub record Finds (mode : Mode) (s : Bor (List ℕ)) (name places : List ℕ) (at
   pub has : HasName mode s name at
   pub first : list_any (is_named mode s name) before ≡ false
 
--- what is found is the first that has the name: of the steps of the walk, and through an index of the slots, whatever they hold
-pub record FoundIsFirst : Type 0 where
-  pub walked : (mode : Mode) (s : Bor (List ℕ)) (name : List ℕ) (at : ℕ) → find mode s name ≡ Ok at → Finds mode s name (steps s.now) at
-  pub indexed : (mode : Mode) (s : Bor (List ℕ)) (slots name : List ℕ) (at : ℕ) → find_indexed mode s slots name ≡ Ok at → Finds mode s name slots at
+-- what finding means, without an index and through one
+module _ (walked : Mode → Bor (List ℕ) → List ℕ → Result ℕ Refusal) (indexed : Mode → Bor (List ℕ) → List ℕ → List ℕ → Result ℕ Refusal) where
+  -- what is found is the first that has the name: of the steps of the walk, and through an index of the slots, whatever they hold
+  pub record FoundIsFirst : Type 0 where
+    pub walk : (mode : Mode) (s : Bor (List ℕ)) (name : List ℕ) (at : ℕ) → walked mode s name ≡ Ok at → Finds mode s name (steps s.now) at
+    pub index : (mode : Mode) (s : Bor (List ℕ)) (slots name : List ℕ) (at : ℕ) → indexed mode s slots name ≡ Ok at → Finds mode s name slots at
 
--- where an upload within the limit is refused, with 13 or with 10, no step of its walk has the name, and through an index no slot
-pub record RefusedIsNowhere : Type 0 where
-  pub walked : (mode : Mode) (s : Bor (List ℕ)) (name : List ℕ) (why : Refusal) → length s.now ≤ limit → find mode s name ≡ Err why → list_any (is_named mode s name) (steps s.now) ≡ false
-  pub indexed : (mode : Mode) (s : Bor (List ℕ)) (slots name : List ℕ) (why : Refusal) → length s.now ≤ limit → find_indexed mode s slots name ≡ Err why → list_any (is_named mode s name) slots ≡ false
+  -- where an upload within the limit is refused, with 13 or with 10, no step of its walk has the name, and through an index no slot
+  pub record RefusedIsNowhere : Type 0 where
+    pub walk : (mode : Mode) (s : Bor (List ℕ)) (name : List ℕ) (why : Refusal) → length s.now ≤ limit → walked mode s name ≡ Err why → list_any (is_named mode s name) (steps s.now) ≡ false
+    pub index : (mode : Mode) (s : Bor (List ℕ)) (slots name : List ℕ) (why : Refusal) → length s.now ≤ limit → indexed mode s slots name ≡ Err why → list_any (is_named mode s name) slots ≡ false
 
--- a name in any case is found as in any other, without an index and through any slots
-pub record AnyCase : Type 0 where
-  pub walked : (mode : Mode) (s : Bor (List ℕ)) (name typed : List ℕ) → same_name name typed ≡ true → find mode s typed ≡ find mode s name
-  pub indexed : (mode : Mode) (s : Bor (List ℕ)) (slots name typed : List ℕ) → same_name name typed ≡ true → find_indexed mode s slots typed ≡ find_indexed mode s slots name
+  -- a name in any case is found as in any other, without an index and through any slots
+  pub record AnyCase : Type 0 where
+    pub walk : (mode : Mode) (s : Bor (List ℕ)) (name typed : List ℕ) → same_name name typed ≡ true → walked mode s typed ≡ walked mode s name
+    pub index : (mode : Mode) (s : Bor (List ℕ)) (slots name typed : List ℕ) → same_name name typed ≡ true → indexed mode s slots typed ≡ indexed mode s slots name
+
+-- useless finding is not so: one that refuses every name, and one that answers a place unseen; through an index too, where the first slot is answered unseen as well
+pub record UselessShutOut : Type 0 where
+  pub refuses : (why : Refusal) (indexed : Mode → Bor (List ℕ) → List ℕ → List ℕ → Result ℕ Refusal) → RefusedIsNowhere (λ mode s name. Err why) indexed → ⊥
+  pub answers : (at : ℕ) (indexed : Mode → Bor (List ℕ) → List ℕ → List ℕ → Result ℕ Refusal) → FoundIsFirst (λ mode s name. Ok at) indexed → ⊥
+  pub refuses_slots : (why : Refusal) (walked : Mode → Bor (List ℕ) → List ℕ → Result ℕ Refusal) → RefusedIsNowhere walked (λ mode s slots name. Err why) → ⊥
+  pub answers_slots : (at : ℕ) (walked : Mode → Bor (List ℕ) → List ℕ → Result ℕ Refusal) → FoundIsFirst walked (λ mode s slots name. Ok at) → ⊥
+  pub answers_first : (why : Refusal) (walked : Mode → Bor (List ℕ) → List ℕ → Result ℕ Refusal) → FoundIsFirst walked (λ mode s slots name. ok_or (first_of (λ at. true) slots) why) → ⊥
 
 -- through an index that was built, of the symbols or of their heads, a name is found as without one
 pub record SameFind : Type 0 where

@@ -7,7 +7,7 @@ ghost use Rattle.symbol.specs.Head.{head_of};
 ghost use Rattle.symbol_find.specs.Looks.{looks_named};
 ghost use Rattle.symbol_find.specs.Unread.{unread_of, four, long, room, short, never_zero};
 ghost use Rattle.symbol_find.specs.Find.{has_name, is_named, find, find_indexed};
-ghost use Rattle.symbol_find.specs.Meaning.{FoundIsFirst, RefusedIsNowhere, AnyCase, SameFind};
+ghost use Rattle.symbol_find.specs.Meaning.{FoundIsFirst, RefusedIsNowhere, AnyCase, SameFind, UselessShutOut};
 ghost use Rattle.symbol_find.specs.Alike.{IndexedAlike};
 
 use refusal::{LIMIT, Mode, Refusal};
@@ -165,17 +165,17 @@ pub fn find_indexed(bytes: &[u8], mode: Mode, slots: &[u32], name: &[u8]) -> Res
 
 /// What is found is the first that has the name, of the steps of the walk or of the slots.
 pub fn found_is_first()
-    ensures { FoundIsFirst }
+    ensures { FoundIsFirst find find_indexed }
 {}
 
 /// Where an upload within the limit is refused, no step of its walk has the name; through an index, no slot.
 pub fn refused_is_nowhere()
-    ensures { RefusedIsNowhere }
+    ensures { RefusedIsNowhere find find_indexed }
 {}
 
 /// A name in any case is found as in any other.
 pub fn any_case()
-    ensures { AnyCase }
+    ensures { AnyCase find find_indexed }
 {}
 
 /// Through an index that was built a name is found as without one.
@@ -186,4 +186,9 @@ pub fn same_find()
 /// `index::build::<SymbolHead>` builds the index of the symbols.
 pub fn indexed_alike()
     ensures { IndexedAlike }
+{}
+
+/// Finding that refuses every name, or answers a place unseen, is not what these theorems allow.
+pub fn useless_shut_out()
+    ensures { UselessShutOut }
 {}
