@@ -45,6 +45,6 @@ module _ (mode : Mode) (left : ℕ) (e : Bor (List ℕ)) where
         unfolding type_with
         tail_refused why l = type_step mode left e ∙ simp (h, k, i, l)
 
-        pub is_read : (t : Tail) → tail_of mode f items.rest ≡ Ok t → type_at mode left e ≡ Ok (joined f a.0 (sub_items_of f a.1 items.rest.now) items.members t)
+        pub is_read : (t : Tail) → tail_of mode f items.rest ≡ Ok t → type_at mode left e ≡ Ok (joined f a.0 (sub_items_of f a.1) items.members t)
         unfolding type_with
         is_read t l = type_step mode left e ∙ simp (h, k, i, l)

@@ -32,7 +32,7 @@ pub record Accepted (mode : Mode) (item : ItemReader) (e : Bor (List ℕ)) (r : 
   pub arrays_are : arrays_of front ≡ Ok (arrays, first)
   pub items_are : items_from item first front.sub_item_count ≡ Ok items
   pub tail_is : tail_of mode front items.rest ≡ Ok tail
-  pub is : joined front arrays (sub_items_of front first items.rest.now) items.members tail ≡ r
+  pub is : joined front arrays (sub_items_of front first) items.members tail ≡ r
 
 pub accepted : (mode : Mode) (item : ItemReader) (e : Bor (List ℕ)) (r : AdsDataTypeInfo) → type_with mode item e ≡ Ok r → Accepted mode item e r
 unfolding type_with

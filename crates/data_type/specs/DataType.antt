@@ -63,10 +63,8 @@ arrays_of f =
     if ltb (length f.rest.now) (8 * f.array_count) then Err (EntryLengthMismatch (f.length - length f.rest.now + 8 * f.array_count) f.length)
     else Ok (record { bytes = part f.rest 0 (8 * f.array_count); count = f.array_count }, after f.rest (8 * f.array_count))
 
--- sub-items from the first on, with this behind them
-abbrev pub sub_items_of : Front → Bor (List ℕ) → List ℕ → SubItems
-sub_items_of f first rest =
-    record { bytes = part first 0 (length first.now - length rest); end = f.length - length rest; count = f.sub_item_count }
+abbrev pub sub_items_of : Front → Bor (List ℕ) → SubItems
+sub_items_of f first = record { bytes = first; count = f.sub_item_count }
 
 -- an entry's own bytes, by what its sub-items are read as
 unfoldable pub type_with : Mode → ItemReader → Bor (List ℕ) → Result AdsDataTypeInfo Refusal
@@ -74,7 +72,7 @@ type_with mode item e =
     and_then (front_of mode e) (λ f.
     and_then (arrays_of f) (λ a.
     and_then (items_from item a.1 f.sub_item_count) (λ items.
-    and_then (tail_of mode f items.rest) (λ t. Ok (joined f a.0 (sub_items_of f a.1 items.rest.now) items.members t)))))
+    and_then (tail_of mode f items.rest) (λ t. Ok (joined f a.0 (sub_items_of f a.1) items.members t)))))
 
 -- a sub-item at the deepest level is refused before anything of it is looked at
 abbrev pub too_deep : ItemReader

@@ -14,15 +14,15 @@ use refusal::{Mode, Refusal};
 use walk::{Entry, Walker};
 
 pub mod array;
+pub mod level;
+pub mod members;
 pub mod reader;
 
 /// The sub-items of an entry.
 #[derive(Clone, Copy, Debug)]
 pub struct SubItems<'a> {
-    /// They fill these bytes, one behind another.
+    /// They stand at the start of these bytes, one behind another; what is left of the entry.
     pub bytes: &'a [u8],
-    /// Where the bytes end, counted from the start of the entry.
-    pub end: usize,
     /// How many there are, without what they hold in turn.
     pub count: u16,
 }

@@ -2,7 +2,7 @@
 #![tactic(auto, unfolding(crate::specs::DataType::taken, crate::specs::DataType::arrays_of))]
 
 ghost use Rattle.std.specs.Prelude.{◌≡◌, ◌<◌, ◌^◌, IfOk};
-ghost use Rattle.data_type.specs.DataType.{taken, arrays_of, sub_items_of, item_at, items_from, type_at, SomeMembers, SomeItems};
+ghost use Rattle.data_type.specs.DataType.{taken, arrays_of, item_at, items_from, type_at, SomeMembers, SomeItems};
 
 use crate::array::ArrayInfos;
 use crate::{AdsDataTypeInfo, SubItems};
@@ -40,7 +40,7 @@ pub fn taken(bytes: &[u8]) -> Result<(&[u8], &[u8]), Refusal>
 
 /// The array records of an entry with this front, and the bytes behind them.
 #[inline(always)]
-fn read_arrays<'a>(front: &Front<'a>) -> Result<(ArrayInfos<'a>, &'a [u8]), Refusal>
+pub fn read_arrays<'a>(front: &Front<'a>) -> Result<(ArrayInfos<'a>, &'a [u8]), Refusal>
     requires { front.now.length < 2 ^ 63 }
     ensures { result ≡ arrays_of front.now }
 {
@@ -57,18 +57,6 @@ fn read_arrays<'a>(front: &Front<'a>) -> Result<(ArrayInfos<'a>, &'a [u8]), Refu
         count: front.array_count as usize,
     };
     Ok((arrays, &front.rest[needed..]))
-}
-
-/// The sub-items between two places of an entry with this front.
-#[inline(always)]
-fn sub_items<'a>(front: &Front<'_>, first: &'a [u8], rest: &[u8]) -> SubItems<'a>
-    ensures { result ≡ sub_items_of front.now first.entry rest.now }
-{
-    SubItems {
-        bytes: &first[..first.len().saturating_sub(rest.len())],
-        end: front.length.saturating_sub(rest.len()),
-        count: front.sub_item_count,
-    }
 }
 
 /// Sub-items that were read: the bytes behind them, and how many members they bring.
@@ -88,7 +76,10 @@ pub fn read_entry(own: &[u8], mode: Mode, left: usize) -> Result<AdsDataTypeInfo
     let front = Front::read(own, mode)?;
     let (arrays, first) = read_arrays(&front)?;
     let items = read_items(first, mode, left, front.sub_item_count)?;
-    let sub_items = sub_items(&front, first, items.rest);
+    let sub_items = SubItems {
+        bytes: first,
+        count: front.sub_item_count,
+    };
     let tail = Tail::read(&front, items.rest, mode)?;
     Ok(AdsDataTypeInfo::joined(&front, arrays, sub_items, items.members, tail))
 }

@@ -37,7 +37,7 @@ read_entry-returns-clause-value t c =
     let f = sym c.read.ensures ∙ c.in_ok-front.was in
     let a = sym c.read_arrays.ensures ∙ c.in_ok-arrays.was in
     let i = sym c.read_items.ensures.value ∙ c.in_ok-items.was in
-    simp (c.joined.ensures, c.sub_items-sub_items.ensures) (sym (is_read c.args.mode c.args.left c.args.own _ f _ a _ i _ (sym c.read-2.ensures ∙ c.in_ok-tail.was)))
+    simp c.joined.ensures (sym (is_read c.args.mode c.args.left c.args.own _ f _ a _ i _ (sym c.read-2.ensures ∙ c.in_ok-tail.was)))
 
 pub read_entry-returns-clause-few : goal.read_entry-returns-clause-few
 read_entry-returns-clause-few t c =

@@ -1,0 +1,193 @@
+//! The members of a data type: its sub-items and all that they hold, parents before children.
+#![tactic(auto)]
+
+ghost use Rattle.std.specs.Prelude.{◌≡◌, ◌≤◌, ◌*◌, ◌-◌, ◌++◌, take};
+ghost use Rattle.data_type.specs.Members.{root, below, place_of, item_in};
+
+use crate::AdsDataTypeInfo;
+use crate::level::Level;
+use crate::reader::{read_arrays, taken};
+use field::front::Front;
+use refusal::{Mode, Refusal};
+
+/// Where a member stands in a data type.
+#[derive(Clone, Copy, Debug)]
+pub struct Position {
+    /// The places of the entries from depth 2 down to the member, counted from the start of the data type's entry; behind them zeros.
+    pub path: [usize; 15],
+    /// The data type's own depth is 1; so the path has one place less.
+    pub depth: usize,
+    /// The sum of the offsets along the path: bytes from the start of a value of the data type.
+    pub offset: u64,
+}
+
+impl Position {
+    /// That of the data type itself.
+    #[inline(always)]
+    pub fn root() -> Position
+        ensures { result ≡ root }
+    {
+        Position {
+            path: [0; 15],
+            depth: 1,
+            offset: 0,
+        }
+    }
+
+    /// That of a sub-item at a place, with this offset in what stands here. At the deepest level it is this one.
+    #[tactic(auto, unfolding(crate::specs::Members::below))]
+    #[inline(always)]
+    pub fn below(self, place: usize, offset: u32) -> Position
+        requires { self.offset ≤ self.depth * 4294967296 }
+        ensures value { result ≡ below self place offset }
+        ensures small { result.offset ≤ result.depth * 4294967296 }
+    {
+        if self.depth >= 16 {
+            return self;
+        }
+        let mut path = self.path;
+        path[self.depth.saturating_sub(1)] = place;
+        Position {
+            path,
+            depth: self.depth + 1,
+            offset: self.offset + offset as u64,
+        }
+    }
+
+    /// The last place of the path: that of the member itself.
+    #[inline(always)]
+    pub fn place(&self) -> usize
+        ensures { result ≡ place_of self.now }
+    {
+        let last = self.depth.saturating_sub(2);
+        if last < 15 { self.path[last] } else { 0 }
+    }
+}
+
+/// A member of a data type.
+#[derive(Clone, Copy, Debug)]
+pub struct Member<'a> {
+    /// Where it stands.
+    pub position: Position,
+    /// The own bytes of its entry.
+    pub own: &'a [u8],
+}
+
+/// A sub-item, by its front and its array records alone.
+#[derive(Clone, Copy, Debug)]
+pub struct Item<'a> {
+    /// The own bytes of its entry.
+    pub own: &'a [u8],
+    /// Where it stands in a value of its parent, in bytes.
+    pub offset: u32,
+    /// What stands behind its array records: first its own sub-items.
+    pub first: &'a [u8],
+    /// How many these are.
+    pub count: u16,
+    /// What stands behind it.
+    pub behind: &'a [u8],
+}
+
+/// The sub-item at the start of some bytes of its parent.
+#[tactic(auto, using(crate::proofs::Entry::fits), unfolding(crate::specs::Members::item_in))]
+#[inline(always)]
+pub fn item_in(bytes: &[u8]) -> Result<Item<'_>, Refusal>
+    ensures { result ≡ item_in bytes.entry }
+{
+    let (own, behind) = taken(bytes)?;
+    let front = Front::read(own, Mode::Present)?;
+    let (_, first) = read_arrays(&front)?;
+    Ok(Item {
+        own,
+        offset: front.offset,
+        first,
+        count: front.sub_item_count,
+        behind,
+    })
+}
+
+/// The members of a data type, read one by one as they are asked for, parents before children.
+#[derive(Clone, Copy, Debug)]
+pub struct Members<'a> {
+    // What the sub-items of the data type fill.
+    bytes: &'a [u8],
+    // What is left of these, of those of one of them, and so on down.
+    levels: [Level; 15],
+    used: usize,
+}
+
+impl<'a> Members<'a> {
+    ghost use Rattle.data_type.specs.Level.{level_left};
+    ghost use Rattle.data_type.specs.Left.{stack_left, members_left};
+
+    // Lays a level on the first so many. There is nothing below the deepest.
+    #[tactic(auto, using(crate::proofs::Stack::pushed, crate::proofs::Stack::not_pushed))]
+    #[inline(always)]
+    fn push(&mut self, used: usize, held: Level)
+        requires { used ≤ 15 }
+        ensures { members_left self.new ≡ level_left (15 - used) self.old.bytes held ++ stack_left 15 self.old.bytes (take used self.old.levels) }
+    {
+        if used < 15 {
+            self.levels[used] = held;
+            self.used = used + 1;
+        } else {
+            self.used = used;
+        }
+    }
+}
+
+impl<'a> Iterator for Members<'a> {
+    ghost use Rattle.std.specs.Iterator.{YieldsFirst, item_count};
+    ghost use Rattle.data_type.specs.Left.{members_left};
+
+    type Item = Member<'a>;
+
+    ghost next_gives = { YieldsFirst members_left };
+
+    ghost remaining = { item_count members_left };
+
+    #[inline(always)]
+    fn next(&mut self) -> Option<Member<'a>> {
+        let mut used = self.used.min(15);
+        while used > 0 {
+            let top = used - 1;
+            let mut level = self.levels[top];
+            if let Some((member, held)) = level.step(self.bytes) {
+                self.levels[top] = level;
+                self.push(used, held);
+                return Some(member);
+            }
+            used = top;
+        }
+        self.used = 0;
+        None
+    }
+}
+
+impl<'a> AdsDataTypeInfo<'a> {
+    ghost use Rattle.data_type.specs.Members.{members_of, numbered};
+    ghost use Rattle.data_type.specs.Left.{members_left};
+
+    /// The members, parents before children.
+    pub fn members(&self) -> Members<'a>
+        ensures { members_left result ≡ members_of self.now }
+    {
+        let items = self.sub_items;
+        let first = Level::first(items.bytes, self.length, items.count);
+        Members {
+            bytes: items.bytes,
+            levels: [first; 15],
+            used: 1,
+        }
+    }
+
+    /// The member with a number, counted from 0; 14 where there is none.
+    pub fn member(&self, number: usize) -> Result<Member<'a>, Refusal>
+        ensures { result ≡ numbered self.now number }
+    {
+        self.members().nth(number).ok_or(Refusal::NoSuchNumber {
+            count: self.member_count,
+            asked: number,
+        })
+    }
+}
