@@ -1,5 +1,5 @@
 -- A refactor record, which tells a former name: packed 4, name length 2, name, end byte. A chain is records up to the first that none follows.
-use Rattle.std.specs.Prelude.{ℕ, zero, suc, ◌+◌, List, [], ◌∷◌, slice_get, ok_or, Result, Ok, Err, ltb, length, get_or, bit_and, if◌then◌else◌}
+use Rattle.std.specs.Prelude.{ℕ, zero, suc, ◌+◌, List, [], ◌∷◌, slice_get, ok_or, Option, Some, None, Result, Ok, Err, ltb, length, get_or, bit_and, if◌then◌else◌}
 use Rattle.std.specs.Borrow.{Bor}
 use Rattle.le.specs.Le.{le2, le4, has}
 use Rattle.part.specs.Slice.{part, after}
@@ -56,6 +56,13 @@ ends_from s at (suc left) = outcome (first_of s) (λ p.
 
 abbrev pub ends : Bor (List ℕ) → ℕ → List (ℕ × ℕ)
 ends s at = ends_from s at (length s.now)
+
+-- the end byte of one, and then the bytes and the place of the next, if another follows
+unfoldable pub turn : Bor (List ℕ) → ℕ → Result (Option (Bor (List ℕ) × ℕ)) Refusal
+turn s at = outcome (first_of s) (λ p.
+    let n : ℕ = 6 + length p.0.name.now in
+    and_then (ended ((at + n, get_or s.now n 0) ∷ [])) (λ _. Ok (if p.0.next_refactor_info then Some (p.1, at + n + 1) else None)))
+    (λ why. Ok None)
 
 abbrev pub numbered : List AdsRefactorInfo → ℕ → ℕ → Result AdsRefactorInfo Refusal
 numbered all count number = ok_or (slice_get all number) (NoSuchNumber count number)

@@ -4,7 +4,7 @@
 ghost use Rattle.std.specs.Prelude.{◌≡◌, ◌+◌, ◌<◌, ◌^◌, length};
 ghost use Rattle.std.specs.Iterator.{YieldsFirst, item_count};
 ghost use Rattle.refusal.specs.EndBytes.{ended};
-ghost use Rattle.refactor.specs.Refactor.{first_of, alone, infos_of, chain_alone, listed, ends, numbered};
+ghost use Rattle.refactor.specs.Refactor.{first_of, alone, infos_of, chain_alone, listed, turn, ends, numbered};
 
 mod block;
 pub mod theorems;
@@ -76,24 +76,38 @@ pub fn chain(bytes: &[u8]) -> Result<(RefactorInfos<'_>, &[u8]), Refusal>
     }
 }
 
+/// Refuses the end byte of the record at the start of some bytes, which begin at a place of an entry, unless it is 0.
+/// Gives the bytes of the record that follows, and their place.
+#[inline(always)]
+#[tactic(auto, using(crate::proofs::Turn::room), unfolding(crate::specs::Refactor::turn))]
+fn check_end(bytes: &[u8], place: usize) -> Result<Option<(&[u8], usize)>, Refusal>
+    requires { place + length bytes.now < 2 ^ 64 }
+    ensures { result ≡ turn bytes.entry place }
+{
+    let Ok((info, next)) = first(bytes) else {
+        return Ok(None)
+    };
+    let end = 6 + info.name.len();
+    refusal::check_end(place + end, bytes[end])?;
+    if !info.next_refactor_info {
+        return Ok(None);
+    }
+    Ok(Some((next, place + end + 1)))
+}
+
 /// Refuses the first end byte that is not 0 of the chain at the start of some bytes, which begin at a place of an entry.
 /// A chain that is refused at a later record has end bytes up to there.
-#[tactic(auto, using(crate::proofs::Turn::room, crate::proofs::Turn::ends_go_on, crate::proofs::Turn::ends_last, crate::proofs::Turn::ends_refused, refusal::proofs::EndBytes::ended_passed, refusal::proofs::EndBytes::ended_refused, refusal::proofs::EndBytes::ended_none))]
+#[tactic(auto, using(crate::proofs::Turn::goes_further, crate::proofs::Turn::ends_here, crate::proofs::Turn::is_bad))]
 pub fn check_ends(bytes: &[u8], place: usize) -> Result<(), Refusal>
     requires { place + length bytes.now < 2 ^ 64 }
     ensures { result ≡ ended (ends bytes.entry place) }
 {
     let mut rest = RefactorInfos { bytes, count: 0 };
     let mut at = place;
-    while let Ok((info, next)) = first(rest.bytes) {
-        let end = 6 + info.name.len();
-        refusal::check_end(at + end, rest.bytes[end])?;
-        if !info.next_refactor_info {
-            break;
-        }
-        at += end + 1;
+    while let Some((next, after)) = check_end(rest.bytes, at)? {
         rest.bytes = next;
         rest.count += 1;
+        at = after;
     }
     Ok(())
 }
