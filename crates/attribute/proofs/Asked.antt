@@ -1,12 +1,13 @@
 -- What an answer to a number or a name means: proved.
-use Rattle.std.proofs.Common.{◌≡◌, ℕ, suc, Bool, true, false, List, [], ◌∷◌, ◌++◌, length, Ok, Result, refl, sym, ap, ◌∙◌, subst, arith}
-use Rattle.std.specs.Prelude.{nat_eq, slice_get, Some}
+use Rattle.std.proofs.Common.{◌≡◌, ℕ, suc, Bool, true, false, List, [], ◌∷◌, ◌++◌, length, Ok, Result, refl, sym, ap, ap₂, ◌∙◌, subst, arith}
+use Rattle.std.specs.Prelude.{nat_eq, slice_get, find, ok_or, Option, Some, if◌then◌else◌}
 use Rattle.std.specs.Cmp.Lexicographic.{pointwise, same_text, other_text}
 use Rattle.std.proofs.lemmas.Option.{slice_get_past}
 use Rattle.refusal.specs.declared.Refusal.{Refusal}
+use Rattle.refusal.specs.declared.Refusal.TheVariants.{NameNotFound, NoSuchNumber}
 use Rattle.attribute.specs.declared.AdsAttribute.{AdsAttribute}
-use Rattle.attribute.specs.Attribute.{named}
-use Rattle.attribute.specs.Asked.{AttributesShown, NoneNamed, FirstNamed, found, nowhere, AttributesNamed, OneNamed}
+use Rattle.attribute.specs.Attribute.{listed, numbered, named}
+use Rattle.attribute.specs.Asked.{IsNumbered, AttributesShown, NoneNamed, FirstNamed, found, nowhere, AttributesNamed, OneNamed}
 use Rattle.attribute.proofs.Laws.{listed_again}
 use Rattle.attribute.proofs.Inside.{each_more}
 
@@ -14,13 +15,16 @@ at_number : (before behind : List AdsAttribute) (a : AdsAttribute) → slice_get
 at_number [] behind a = refl
 at_number (x ∷ before) behind a = at_number before behind a
 
+numbered_is : (all : List AdsAttribute) (number : ℕ) → IsNumbered all number (numbered all (length all) number)
+numbered_is all number = record {
+  shown = λ before behind a e l. ap₂ (λ (x : List AdsAttribute) (n : ℕ). ok_or (slice_get x n) (NoSuchNumber (length all) number)) e (sym l)
+      ∙ ap (λ (x : Option AdsAttribute). ok_or x (NoSuchNumber (length all) number)) (at_number before behind a);
+  past = λ h. ap (λ (x : Option AdsAttribute). ok_or x (NoSuchNumber (length all) number)) (slice_get_past all number h);
+}
+
 pub attributes_shown : AttributesShown
 attributes_shown s most number =
-    rw (listed_again s most)
-    (record {
-      shown = λ before behind a e l. rw (e, ← l, at_number before behind a) refl;
-      past = λ h. simp (slice_get_past _ number h);
-    })
+    subst (λ (x : List AdsAttribute). IsNumbered (listed s most) number (numbered x (length (listed s most)) number)) (sym (listed_again s most)) (numbered_is (listed s most) number)
 
 -- the first of some has the name, or the answer is that of the others
 none_later : (name : List ℕ) (a : AdsAttribute) (all : List AdsAttribute) → (a.name.now ≡ name → ⊥) → NoneNamed name all → NoneNamed name (a ∷ all)
@@ -30,9 +34,13 @@ later : (name : List ℕ) (a : AdsAttribute) (all : List AdsAttribute) (t : Resu
 later name a all t not (found before behind b e is has none) = found (a ∷ before) behind b (ap (λ l. a ∷ l) e) is has (none_later name a before not none)
 later name a all t not (nowhere is none) = nowhere is (none_later name a all not none)
 
+named_first : (name : List ℕ) (a : AdsAttribute) (all : List AdsAttribute) (b : Bool) → pointwise nat_eq a.name.now name ≡ b → named (a ∷ all) name ≡ (if b then Ok a else named all name)
+named_first name a all true e = ap (λ (t : Bool). ok_or (if t then Some a else find (λ x. pointwise nat_eq x.name.now name) all) NameNotFound) e
+named_first name a all false e = ap (λ (t : Bool). ok_or (if t then Some a else find (λ x. pointwise nat_eq x.name.now name) all) NameNotFound) e
+
 turn : (name : List ℕ) (a : AdsAttribute) (all : List AdsAttribute) (b : Bool) → pointwise nat_eq a.name.now name ≡ b → FirstNamed all name (named all name) → FirstNamed (a ∷ all) name (named (a ∷ all) name)
-turn name a all true e rest = found [] all a refl (simp e) (same_text _ _ (sym e)) (λ k d h. absurd (omega arith))
-turn name a all false e rest = later name a all (named (a ∷ all) name) (other_text _ _ (sym e)) (simp e rest)
+turn name a all true e rest = found [] all a refl (named_first name a all true e) (same_text _ _ (sym e)) (λ k d h. absurd (omega arith))
+turn name a all false e rest = later name a all (named (a ∷ all) name) (other_text _ _ (sym e)) (subst (FirstNamed all name) (sym (named_first name a all false e)) rest)
 
 pub attributes_named : AttributesNamed
 attributes_named [] name = nowhere refl (λ k d h. absurd (omega arith))

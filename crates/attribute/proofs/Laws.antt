@@ -1,5 +1,6 @@
 -- Laws of lists of attributes.
-use Rattle.std.proofs.Common.{◌≡◌, ℕ, zero, suc, ◌-◌, ◌<◌, ◌≤◌, List, [], ◌∷◌, length, Ok, Err, Result, arith, Bor, refl}
+use Rattle.std.proofs.Common.{◌≡◌, ℕ, zero, suc, ◌-◌, ◌<◌, ◌≤◌, false, List, [], ◌∷◌, length, Ok, Err, Result, arith, Bor, refl}
+use Rattle.std.specs.Prelude.{eqb}
 use Rattle.refusal.specs.declared.Refusal.{Refusal}
 use Rattle.refusal.specs.declared.Refusal.TheVariants.{TooShort}
 use Rattle.attribute.specs.declared.AdsAttribute.{AdsAttribute}
@@ -75,3 +76,6 @@ after_step s left p h k = grind arith
 pub stopped_step : (s : Bor (List ℕ)) (left : ℕ) (p : AdsAttribute × Bor (List ℕ)) → first_of s ≡ Ok p → 0 < left → 0 < length p.1.now → stopped s left ≡ stopped p.1 (left - 1)
 unfolding stopped
 stopped_step s left p h k m = grind arith
+
+pub some_left : (n : ℕ) → eqb n 0 ≡ false → 0 < n
+some_left n h = grind arith

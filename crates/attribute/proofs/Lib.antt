@@ -1,4 +1,5 @@
 pub mod Room
+pub mod Turn
 pub mod Laws
 pub mod Again
 pub mod Written

@@ -1,8 +1,8 @@
 -- An attribute that is read lies inside the bytes that it was read from, with its end bytes.
-use Rattle.std.proofs.Common.{◌≡◌, ℕ, ◌+◌, ◌-◌, ◌<◌, ◌≤◌, List, ◌∷◌, length, get_or, Ok, arith, Bor}
+use Rattle.std.proofs.Common.{◌≡◌, ℕ, ◌+◌, ◌≤◌, List, length, get_or, Ok, arith, Bor}
 use Rattle.std.proofs.lemmas.Grind.{common_steps}
 use Rattle.attribute.specs.declared.AdsAttribute.{AdsAttribute}
-use Rattle.attribute.specs.Attribute.{first_of, ends}
+use Rattle.attribute.specs.Attribute.{first_of}
 
 pub room : (s : Bor (List ℕ)) (p : AdsAttribute × Bor (List ℕ)) → first_of s ≡ Ok p → length s.now ≡ length p.0.name.now + length p.0.value.now + 4 + length p.1.now
 unfolding first_of
@@ -12,11 +12,3 @@ room s p h = grind (arith, common_steps)
 pub short : (s : Bor (List ℕ)) (p : AdsAttribute × Bor (List ℕ)) → first_of s ≡ Ok p → length s.now ≤ get_or s.now 0 0 + get_or s.now 1 0 + 4 + length p.1.now
 unfolding first_of
 short s p h = grind (arith, common_steps)
-
--- the end bytes of the first attribute, and then those of the others
-pub ends_step : (s : Bor (List ℕ)) (at left : ℕ) (p : AdsAttribute × Bor (List ℕ)) → first_of s ≡ Ok p → 0 < left
-    → ends s at left ≡ (at + (2 + length p.0.name.now), get_or s.now (2 + length p.0.name.now) 0)
-    ∷ (at + (2 + length p.0.name.now + 1 + length p.0.value.now), get_or s.now (2 + length p.0.name.now + 1 + length p.0.value.now) 0)
-    ∷ ends p.1 (at + (2 + length p.0.name.now + 1 + length p.0.value.now) + 1) (left - 1)
-unfolding ends
-ends_step s at left p h k = grind arith

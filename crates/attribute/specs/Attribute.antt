@@ -1,5 +1,5 @@
 -- An attribute: name length, value length (1 byte each), name, end byte, value, end byte.
-use Rattle.std.specs.Prelude.{ℕ, zero, suc, ◌+◌, List, [], ◌∷◌, ok_or, find, nat_eq, Option, Some, None, Result, Ok, Err, eqb, ltb, length, get_or, slice_get, if◌then◌else◌}
+use Rattle.std.specs.Prelude.{ℕ, zero, suc, ◌+◌, List, [], ◌∷◌, ◌++◌, ok_or, find, nat_eq, Option, Some, None, Result, Ok, Err, eqb, ltb, length, get_or, slice_get, if◌then◌else◌}
 use Rattle.std.specs.Cmp.Lexicographic.{pointwise}
 use Rattle.std.specs.Borrow.{Bor}
 use Rattle.part.specs.Slice.{part, after}
@@ -36,14 +36,25 @@ unfoldable pub stopped : Bor (List ℕ) → ℕ → Option Refusal
 stopped s zero = None
 stopped s (suc left) = outcome (first_of s) (λ p. if eqb (length p.1.now) 0 then None else stopped p.1 left) Some
 
--- their end bytes, with their places in an entry where the first of them begins at a place: of a name, then of its value
+-- the end bytes of one that begins at a place of an entry, with their places: of its name, then of its value
+abbrev pub ends_of : Bor (List ℕ) → ℕ → AdsAttribute → List (ℕ × ℕ)
+ends_of s at a =
+    let n : ℕ = 2 + length a.name.now in
+    let v : ℕ = n + 1 + length a.value.now in
+    (at + n, get_or s.now n 0) ∷ (at + v, get_or s.now v 0) ∷ []
+
+-- the place after it
+abbrev pub next_place : ℕ → AdsAttribute → ℕ
+next_place at a = at + (2 + length a.name.now + 1 + length a.value.now) + 1
+
+-- those of so many, where the first begins at a place
 unfoldable pub ends : Bor (List ℕ) → ℕ → ℕ → List (ℕ × ℕ)
 ends s at zero = []
-ends s at (suc left) = outcome (first_of s) (λ p.
-    let n : ℕ = 2 + length p.0.name.now in
-    let v : ℕ = n + 1 + length p.0.value.now in
-    (at + n, get_or s.now n 0) ∷ (at + v, get_or s.now v 0) ∷ ends p.1 (at + v + 1) left)
-    (λ why. [])
+ends s at (suc left) = outcome (first_of s) (λ p. ends_of s at p.0 ++ ends p.1 (next_place at p.0) left) (λ why. [])
+
+-- the end bytes of the first alone, and then the bytes and the place after it
+unfoldable pub turn : Bor (List ℕ) → ℕ → Result (Option (Bor (List ℕ) × ℕ)) Refusal
+turn s at = outcome (first_of s) (λ p. and_then (ended (ends_of s at p.0)) (λ _. Ok (Some (p.1, next_place at p.0)))) (λ why. Ok None)
 
 -- of some attributes the one with a number, counted from 0; and the first with a name
 abbrev pub numbered : List AdsAttribute → ℕ → ℕ → Result AdsAttribute Refusal

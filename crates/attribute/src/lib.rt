@@ -4,7 +4,7 @@
 ghost use Rattle.std.specs.Prelude.{◌≡◌, ◌+◌, ◌<◌, ◌^◌, length};
 ghost use Rattle.std.specs.Iterator.{YieldsFirst, item_count};
 ghost use Rattle.refusal.specs.EndBytes.{ended};
-ghost use Rattle.attribute.specs.Attribute.{first_of, listed, after_listed, stopped, ends, numbered, named, alone};
+ghost use Rattle.attribute.specs.Attribute.{first_of, listed, after_listed, stopped, turn, ends, numbered, named, alone};
 
 mod block;
 pub mod theorems;
@@ -53,6 +53,24 @@ pub fn first(bytes: &[u8]) -> Result<(AdsAttribute<'_>, &[u8]), Refusal>
         value: &bytes[name + 3..name + 3 + value],
     };
     Ok((attribute, &bytes[needed..]))
+}
+
+/// Refuses the end bytes of the attribute at the start of some bytes, which begin at a place of an entry, unless they are 0:
+/// its name's, then its value's. Gives the bytes after it, and their place; nothing where none is there.
+#[inline(always)]
+#[tactic(auto, using(crate::proofs::Room::room, refusal::proofs::EndBytes::ended_passed, refusal::proofs::EndBytes::ended_refused), unfolding(crate::specs::Attribute::turn))]
+fn check_two_ends(bytes: &[u8], place: usize) -> Result<Option<(&[u8], usize)>, Refusal>
+    requires { place + length bytes.now < 2 ^ 64 }
+    ensures { result ≡ turn bytes.entry place }
+{
+    let Ok((attribute, next)) = first(bytes) else {
+        return Ok(None)
+    };
+    let name_end = 2 + attribute.name.len();
+    let value_end = name_end + 1 + attribute.value.len();
+    refusal::check_end(place + name_end, bytes[name_end])?;
+    refusal::check_end(place + value_end, bytes[value_end])?;
+    Ok(Some((next, place + value_end + 1)))
 }
 
 impl<'a> AdsAttribute<'a> {
@@ -188,7 +206,7 @@ impl<'a> Attributes<'a> {
     }
 
     /// Refuses the first end byte that is not 0, in an entry where the first attribute begins at a place.
-    #[tactic(auto, using(crate::proofs::Room::room, crate::proofs::Room::ends_step, refusal::proofs::EndBytes::ended_passed, refusal::proofs::EndBytes::ended_refused, refusal::proofs::EndBytes::ended_none), unfolding(crate::specs::Attribute::ends))]
+    #[tactic(auto, using(crate::proofs::Turn::ends_here, crate::proofs::Turn::is_bad, crate::proofs::Turn::none_left))]
     pub fn check_ends(self, place: usize) -> Result<(), Refusal>
         requires { place + length self.bytes.now < 2 ^ 64 }
         ensures { result ≡ ended (ends self.entry.bytes place self.entry.count) }
@@ -196,16 +214,12 @@ impl<'a> Attributes<'a> {
         let mut rest = self;
         let mut at = place;
         while rest.count > 0 {
-            let Ok((attribute, next)) = first(rest.bytes) else {
+            let Some((next, after)) = check_two_ends(rest.bytes, at)? else {
                 break
             };
-            let name_end = 2 + attribute.name.len();
-            let value_end = name_end + 1 + attribute.value.len();
-            refusal::check_end(at + name_end, rest.bytes[name_end])?;
-            refusal::check_end(at + value_end, rest.bytes[value_end])?;
-            at += value_end + 1;
             rest.bytes = next;
             rest.count -= 1;
+            at = after;
         }
         Ok(())
     }
