@@ -1,5 +1,5 @@
 -- An attribute in the two modes: proved.
-use Rattle.std.proofs.Common.{◌≡◌, ℕ, ◌+◌, ◌≤◌, Bool, true, false, List, [], ◌∷◌, length, get_or, Ok, Err, Result, refl, sym, ap, ◌∙◌, arith, Bor}
+use Rattle.std.proofs.Common.{◌≡◌, ℕ, ◌+◌, ◌≤◌, Bool, true, false, List, [], ◌∷◌, length, get_or, Ok, Err, Result, refl, sym, ap, ap₂, ◌∙◌, arith, Bor}
 use lib.Dec.{ltb}
 use Rattle.refusal.specs.Refusal.{limit}
 use Rattle.refusal.specs.EndBytes.{ended}
@@ -32,8 +32,10 @@ module _ (s : Bor (List ℕ)) (there : n_of s + v_of s + 4 ≤ length s.now) whe
 
   zero_of : Ended s.now (Ok (here s).0) → Zero s
   zero_of e =
-      let z = rw (length_name s there, length_value s there) at (e (here s).0 refl) in
-      record { name = z.0; value = sym value_place ∙ z.1 }
+      let z = e (here s).0 refl in
+      let n = sym (length_name s there) in
+      let v = sym (length_value s there) in
+      record { name = ap (λ (k : ℕ). get_or s.now (2 + k) 0) n ∙ z.0; value = sym value_place ∙ ap₂ (λ (k m : ℕ). get_or s.now (k + 3 + m) 0) n v ∙ z.1 }
 
   ended_of : Zero s → Ended s.now (Ok (here s).0)
   ended_of z a e =
