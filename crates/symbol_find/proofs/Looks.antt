@@ -1,20 +1,28 @@
 -- An entry has a name exactly where the first look, its name and its symbol say so: proved.
-use Rattle.std.proofs.Common.{ℕ, ◌+◌, ◌≤◌, ◌<◌, ◌≡◌, refl, sym, ap, ◌∙◌, Bool, true, false, List, length, arith, Bor, Result, if◌then◌else◌}
-use Rattle.std.specs.Prelude.{ltb, eqb, is_ok, Some, Ok, Err}
-use borrow.Author.Tests.{le-ltb, lt-ltb, ltb-true, ltb-false, eqb-true, eqb-false}
+use Rattle.std.proofs.Common.{ℕ, ◌+◌, ◌-◌, ◌*◌, ◌≤◌, ◌<◌, ◌≡◌, refl, sym, ap, ◌∙◌, Bool, true, false, List, length, take, drop, get_or, ne_eqb, arith, Bor, Result, if◌then◌else◌}
+use Rattle.std.specs.Prelude.{ltb, eqb, is_ok, Option, Some, None, Ok, Err}
+use Rattle.std.specs.Option.{option_map}
+use lib.ListN.{length-take, length-drop}
+use Rattle.std.proofs.lemmas.List.{take_all}
+use borrow.Author.Tests.{le-leb, le-ltb, lt-ltb, ltb-true, ltb-false, eqb-true, eqb-false, eq-eqb}
 use Rattle.le.specs.Le.{le2, part}
-use Rattle.le.proofs.Laws.{length_part, not-both}
+use Rattle.le.proofs.Laws.{length_part, le2-part, part-part, not-both}
+use Rattle.le.proofs.Same.{same-so-far}
+use Rattle.part.specs.Slice as slice
+use Rattle.part.specs.Outcome.{and_then}
 use Rattle.refusal.specs.declared.Mode.{Mode}
 use Rattle.refusal.specs.declared.Refusal.{Refusal}
 use Rattle.names.specs.Names.{same_name}
-use Rattle.names.specs.Near.{ends_near}
-use Rattle.names.proofs.Laws.{other_length, ends-differ}
+use Rattle.names.specs.Near.{low, ends_near}
+use Rattle.names.proofs.Laws.{other_length, ends-differ, ends-none, ends_last, low_small, unless}
+use Rattle.entry.specs.Entry.{claim_at}
+use Rattle.walk.specs.Mapped.{map_ok}
+use Rattle.walk.specs.Step.{step_at}
 use Rattle.symbol.specs.declared.AdsSymbolInfo.{AdsSymbolInfo}
 use Rattle.symbol.specs.Symbol.{symbol_of, ended_symbol, with_strings}
-use Rattle.walk.specs.Mapped.{map_ok}
 use Rattle.symbol.specs.Head.{head, head_of}
-use Rattle.symbol_find.specs.Looks.{looks_named}
-use Rattle.symbol_find.specs.Find.{has_name}
+use Rattle.symbol_find.specs.Looks.{look_of, looks_named}
+use Rattle.symbol_find.specs.Find.{has_name, is_named}
 
 -- where the name of an accepted symbol stands
 record Stands (e : Bor (List ℕ)) (r : AdsSymbolInfo) : Type 0 where
@@ -36,10 +44,42 @@ pub looks_short : (e name : List ℕ) → length e < 30 + length name → looks_
 unfolding looks_named
 looks_short e name h = simp (lt-ltb (length e) (30 + length name) h)
 
--- by what was looked at
-pub looks_by : (e name : List ℕ) (told : ℕ) (near both : Bool) → 30 + length name ≤ length e → told ≡ le2 e 24 → near ≡ ends_near (part e 30 (length name)) name → both ≡ (if eqb told (length name) then near else false) → both ≡ looks_named e name
+pub looks_none : (e name : List ℕ) → 30 + length name ≤ length e → length name ≡ 0 → looks_named e name ≡ eqb (le2 e 24) 0
 unfolding looks_named
-looks_by e name told near both h p q r = r ∙ simp (p, q, le-ltb (length e) (30 + length name) h)
+looks_none e name h z = simp (le-ltb (length e) (30 + length name) h, ends-none e name 30 z) (same-so-far (eqb (le2 e 24) (length name)) ∙ ap (eqb (le2 e 24)) z)
+
+pub looks_longer : (e name : List ℕ) → 30 + length name ≤ length e → (le2 e 24 ≡ length name → ⊥) → looks_named e name ≡ false
+unfolding looks_named
+looks_longer e name h n = simp (le-ltb (length e) (30 + length name) h, ne_eqb (le2 e 24) (length name) n)
+
+pub looks_ending : (e name : List ℕ) (told : ℕ) (near : Bool) → 30 + length name ≤ length e → told ≡ le2 e 24 → told ≡ length name → near ≡ ends_near (part e 30 (length name)) name → near ≡ looks_named e name
+unfolding looks_named
+looks_ending e name told near h t l p = simp (p, le-ltb (length e) (30 + length name) h, eq-eqb (le2 e 24) (length name) (sym t ∙ l))
+
+-- two numbers in one
+both_by : (x n a b : ℕ) → a < 32 → b < 32 → (p q : Bool) → eqb x n ≡ p → eqb a b ≡ q → eqb (x * 32 + a) (n * 32 + b) ≡ (if p then q else false)
+both_by x n a b h k true true e f =
+    let same : x * 32 + a ≡ n * 32 + b = omega (arith, eqb-true x n e, eqb-true a b f) in
+    eq-eqb _ _ same
+both_by x n a b h k true false e f = ne_eqb (x * 32 + a) (n * 32 + b) (λ (s : x * 32 + a ≡ n * 32 + b). eqb-false a b f (omega (arith, eqb-true x n e, s)))
+both_by x n a b h k false q e f = ne_eqb (x * 32 + a) (n * 32 + b) (λ (s : x * 32 + a ≡ n * 32 + b). eqb-false x n e (omega (arith, s)))
+
+look_by : (x n a b : ℕ) → x < 65536 → (small : Bool) → ltb n 65536 ≡ small → eqb (x * 32 + low a) (if small then n * 32 + low b else 65536 * 32) ≡ (if eqb x n then eqb (low a) (low b) else false)
+look_by x n a b h true e = both_by x n (low a) (low b) (low_small a) (low_small b) (eqb x n) (eqb (low a) (low b)) refl refl
+look_by x n a b h false e =
+    let above : 65536 ≤ n = ltb-false n 65536 e in
+    let other : eqb x n ≡ false = ne_eqb x n (λ (s : x ≡ n). omega (arith, s)) in
+    simp other (ne_eqb (x * 32 + low a) (65536 * 32) (λ (s : x * 32 + low a ≡ 65536 * 32). omega (arith, low_small a, s)))
+
+looks_equal : (x n a b : ℕ) → x < 65536 → eqb (look_of x a) (look_of n b) ≡ (if eqb x n then eqb (low a) (low b) else false)
+unfolding look_of
+looks_equal x n a b h = simp (lt-ltb x 65536 h) (look_by x n a b h (ltb n 65536) refl)
+
+-- by what was looked at
+pub looks_by : (e name : List ℕ) (told last own asked : ℕ) → 30 + length name ≤ length e → told < 65536 → told ≡ le2 e 24 → last + 1 ≡ length name → own ≡ look_of told (get_or e (30 + last) 0) → asked ≡ look_of (length name) (get_or name last 0) → eqb own asked ≡ looks_named e name
+unfolding looks_named
+looks_by e name told last own asked h small t l p q =
+    simp (p, q, le-ltb (length e) (30 + length name) h, ends_last e name 30 last l) (looks_equal told (length name) (get_or e (30 + last) 0) (get_or name last 0) small ∙ simp t)
 
 pub looked_room : (e name : List ℕ) → looks_named e name ≡ true → 30 + length name ≤ length e
 unfolding looks_named
@@ -84,3 +124,34 @@ module _ (mode : Mode) (e : Bor (List ℕ)) (name : List ℕ) where
       by : (t : Result AdsSymbolInfo Refusal) → symbol_of mode e ≡ t → has_name name (Some t) ≡ is_ok (map_ok head t)
       by (Err why) f = refl
       by (Ok r) f = let w = stands_of mode e r f in simp w.name (carried e.now name w.strings ∙ simp (l, h))
+
+-- the bytes from a place on look so where the entry there does
+looks_more : (k : ℕ) (l name : List ℕ) → looks_named (take k l) name ≡ true → looks_named l name ≡ true
+unfolding looks_named part
+looks_more k l name h =
+    let r = looked_room (take k l) name h in
+    let m = length-take k l in
+    let u : 30 + length name ≤ k = omega (arith, r, m) in
+    let e = le2-part l 0 k 24 (omega arith) in
+    let p = part-part l 0 k 30 (length name) u in
+    simp (le-ltb (length l) (30 + length name) (omega (arith, r, m))) (simp (le-ltb (length (take k l)) (30 + length name) r, e, p) at h)
+
+module _ (mode : Mode) (s : Bor (List ℕ)) (name : List ℕ) (at : ℕ) where
+  pub looks_from : looks_named (take (length s.now - at) (drop at s.now)) name ≡ false → is_named mode s name at ≡ false
+  unfolding is_named step_at
+  looks_from k = by (claim_at s.now at).size
+    where
+      rest : take (length s.now - at) (drop at s.now) ≡ drop at s.now
+      rest = take_all (length s.now - at) (drop at s.now) (omega (arith, length-drop at s.now))
+
+      h : looks_named (drop at s.now) name ≡ false
+      h = simp rest at k
+
+      by : (c : Option (Result ℕ Refusal)) → has_name name (option_map (λ claim. and_then claim (λ size. symbol_of mode (slice.part s at size))) c) ≡ false
+      by None = refl
+      by (Some (Err why)) = refl
+      by (Some (Ok size)) = looks_otherwise mode (slice.part s at size) name (unless (looks_named (take size (drop at s.now)) name) (looks_named (drop at s.now) name) (looks_more size (drop at s.now) name) h)
+
+  pub named_beyond : length s.now < at → is_named mode s name at ≡ false
+  unfolding is_named step_at claim_at
+  named_beyond h = simp (le-leb (length s.now) at (omega arith))

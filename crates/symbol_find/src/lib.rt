@@ -4,7 +4,7 @@
 ghost use Rattle.std.specs.Prelude.{◌≡◌, Some, is_ok, length, true};
 ghost use Rattle.symbol.specs.Symbol.{symbol_of};
 ghost use Rattle.symbol.specs.Head.{head_of};
-ghost use Rattle.symbol_find.specs.Looks.{looks_named};
+ghost use Rattle.symbol_find.specs.Looks.{look_of, looks_named};
 ghost use Rattle.symbol_find.specs.Unread.{unread_of, four, long, room, short, never_zero};
 ghost use Rattle.symbol_find.specs.Find.{has_name, is_named, find, find_indexed};
 ghost use Rattle.symbol_find.specs.Meaning.{FoundIsFirst, RefusedIsNowhere, AnyCase, SameFind, UselessShutOut};
@@ -57,18 +57,50 @@ impl<'a> Entry<'a> for Unread<'a> {
     }
 }
 
-// A first look, which settles most entries: small, so that the compiler puts it into the loop. One test of both is guessed wrong less often than two.
+// What a first look compares, as one number: a length, and the low bits of a last byte, which both cases of a letter share. One test is guessed wrong less often than two.
 #[inline(always)]
-#[tactic(auto, using(crate::proofs::Looks::looks_short))]
-fn looks_named(own: &[u8], name: &[u8]) -> bool
+#[tactic(auto, unfolding(crate::specs::Looks::look_of))]
+fn look(length: usize, last: u8) -> usize
+    ensures { result ≡ look_of length last }
+{
+    if length < 65_536 {
+        return length * 32 + names::low(last) as usize;
+    }
+    65_536 * 32
+}
+
+// A first look at an entry, which settles most of them: small, so that the compiler puts it into the loop.
+#[inline(always)]
+#[tactic(auto, using(crate::proofs::Looks::looks_short, crate::proofs::Looks::looks_none))]
+fn looks_named_at_once(own: &[u8], name: &[u8]) -> bool
     ensures { result ≡ looks_named own.now name.now }
 {
     let length = name.len();
     if own.len() < 30 + length {
         return false;
     }
-    let tells_length = le::u16_at(own, 24) as usize == length;
-    le::both(tells_length, names::ends_near(own, 30, name))
+    let told = le::u16_at(own, 24) as usize;
+    if length == 0 {
+        return told == 0;
+    }
+    let last = length - 1;
+    look(told, own[30 + last]) == look(length, name[last])
+}
+
+// The same of the bytes from a place on, for a search from slot to slot: the last byte is mostly in another cache line than the length, and is fetched only where the length is right.
+#[inline(always)]
+#[tactic(auto, using(crate::proofs::Looks::looks_short, crate::proofs::Looks::looks_longer))]
+fn looks_named(from: &[u8], name: &[u8]) -> bool
+    ensures { result ≡ looks_named from.now name.now }
+{
+    let length = name.len();
+    if from.len() < 30 + length {
+        return false;
+    }
+    if le::u16_at(from, 24) as usize != length {
+        return false;
+    }
+    names::ends_near(from, 30, name)
 }
 
 // Whether an entry's own bytes give a symbol.
@@ -78,28 +110,19 @@ fn is_symbol(own: &[u8], mode: Mode) -> bool
     SymbolHead::read(own, mode).is_ok()
 }
 
-// The same of the whole name, and then of the rest of the entry: asked of few.
-#[tactic(auto, using(crate::proofs::Looks::looked_room, crate::proofs::Looks::named_is))]
-fn holds_name(own: &[u8], mode: Mode, name: &[u8]) -> bool
-    requires { looks_named own.now name.now ≡ true }
+// Whether an entry's own bytes give a symbol of that name. The rest of the entry is read only where the name stands in it.
+#[inline(always)]
+#[tactic(auto, using(crate::proofs::Looks::looked_room, crate::proofs::Looks::looks_otherwise, crate::proofs::Looks::named_is))]
+fn has_name(own: &[u8], mode: Mode, name: &[u8]) -> bool
     ensures { result ≡ has_name name.now (Some (symbol_of mode own.entry)) }
 {
+    if !looks_named_at_once(own, name) {
+        return false;
+    }
     if !names::same_name(own, 30, name) {
         return false;
     }
     is_symbol(own, mode)
-}
-
-// Whether an entry's own bytes give a symbol of that name.
-#[inline(always)]
-#[tactic(auto, using(crate::proofs::Looks::looks_otherwise))]
-fn has_name(own: &[u8], mode: Mode, name: &[u8]) -> bool
-    ensures { result ≡ has_name name.now (Some (symbol_of mode own.entry)) }
-{
-    if !looks_named(own, name) {
-        return false;
-    }
-    holds_name(own, mode, name)
 }
 
 /// Where the first accepted symbol of that name starts.
@@ -131,10 +154,16 @@ pub fn find(bytes: &[u8], mode: Mode, name: &[u8]) -> Result<usize, Refusal>
 
 // Whether the step from a place gives a symbol of that name.
 #[inline(always)]
-#[tactic(auto, using(entry::proofs::Claims::room_at), unfolding(crate::specs::Find::is_named, walk::specs::Step::step_at))]
+#[tactic(auto, using(entry::proofs::Claims::room_at, crate::proofs::Looks::looks_from, crate::proofs::Looks::named_beyond), unfolding(crate::specs::Find::is_named, walk::specs::Step::step_at))]
 fn is_named(bytes: &[u8], at: usize, mode: Mode, name: &[u8]) -> bool
     ensures { result ≡ is_named mode bytes.entry name.now at }
 {
+    if bytes.len() < at {
+        return false;
+    }
+    if !looks_named(&bytes[at..], name) {
+        return false;
+    }
     match entry::claim_at(bytes, at).size {
         Some(Ok(size)) => has_name(&bytes[at..at + size], mode, name),
         _ => false,
