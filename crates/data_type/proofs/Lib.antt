@@ -3,3 +3,7 @@ pub mod Entry
 pub mod Parts
 pub mod Steps
 pub mod Stack
+pub mod Inside
+pub mod Parsed
+pub mod Filling
+pub mod Listed

@@ -6,3 +6,4 @@ pub mod Kind
 pub mod Members
 pub mod Level
 pub mod Left
+pub mod List

@@ -15,6 +15,7 @@ use walk::{Entry, Walker};
 
 pub mod array;
 pub mod level;
+pub mod list;
 pub mod members;
 pub mod reader;
 

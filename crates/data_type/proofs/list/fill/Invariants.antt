@@ -1,0 +1,10 @@
+use Rattle.data_type.specs.Left.{members_left}
+use Rattle.data_type.proofs.Filling.{Going}
+use Rattle.data_type.proofs.list.fill.Given as goal
+
+abbrev pub invariant-loop-member : goal.invariant-loop-member
+invariant-loop-member l = record {
+  can : (goal.iterator-loop-member).can_next l.member-iterator;
+  ends : (goal.iterator-loop-member).is_finite l.member-iterator;
+  going : Going l.fn.slots l.slots l.at (members_left l.member-iterator) (members_left l.initial.member-iterator);
+}

@@ -1,0 +1,19 @@
+-- All members of a data type in lent slots, three a member.
+use Rattle.std.specs.Prelude.{ℕ, List, [], ◌∷◌, Result}
+use Rattle.std.specs.Borrow.{Bor}
+use Rattle.refusal.specs.declared.Mode.{Mode}
+use Rattle.refusal.specs.declared.Refusal.{Refusal}
+use Rattle.walk.specs.Mapped.{map_ok}
+use Rattle.walk.specs.Step.{parse_of}
+use Rattle.data_type.specs.declared.members.Member.{Member}
+use Rattle.data_type.specs.DataType.{type_of}
+use Rattle.data_type.specs.Members.{place_of, members_of}
+
+-- of each its place, its depth and its offset from the start
+unfoldable pub slots_of : List Member → List ℕ
+slots_of [] = []
+slots_of (m ∷ ms) = place_of m.position ∷ m.position.depth ∷ m.position.offset ∷ slots_of ms
+
+-- what is written of a data type that is read
+abbrev pub members_written : Mode → Bor (List ℕ) → Result (List ℕ) Refusal
+members_written mode s = map_ok (λ r. slots_of (members_of r)) (parse_of 42 (type_of mode) s)
