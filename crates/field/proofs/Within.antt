@@ -245,3 +245,9 @@ pub fields_within : FieldsWithin
 fields_within mode e r h =
     let a = accepted_is mode e r h in
     subst (λ (x : AdsFieldInfo). IsWithin e x) a.is (within e a.strings)
+
+-- the bytes of its attributes are the end of its entry
+pub list_place : (mode : Mode) (e : Bor (List ℕ)) (r : AdsFieldInfo) → field_of mode e ≡ Ok r → IsEndOf e r.attributes.bytes
+list_place mode e r h =
+    let a = accepted_is mode e r h in
+    subst (λ (x : AdsFieldInfo). IsEndOf e x.attributes.bytes) a.is (list_is e a.strings).place

@@ -2,3 +2,4 @@ pub mod Turn
 pub mod Chain
 pub mod Direct
 pub mod Single
+pub mod Fields

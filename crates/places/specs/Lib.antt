@@ -4,3 +4,5 @@ pub mod Entry
 pub mod Symbol
 pub mod Kind
 pub mod Alone
+pub mod Field
+pub mod FieldKind

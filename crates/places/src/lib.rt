@@ -3,6 +3,7 @@
 
 pub mod alone;
 pub mod of_entry;
+pub mod of_field;
 pub mod of_symbol;
 
 ghost use Rattle.std.specs.Prelude.{◌≡◌, ◌+◌, ◌<◌, ◌^◌, length};
