@@ -4,7 +4,8 @@
 ghost use Rattle.std.specs.Prelude.{◌≡◌, ◌+◌, ◌≤◌, length};
 ghost use Rattle.le.specs.Le.{has};
 ghost use Rattle.part.specs.Slice.{part, after};
-ghost use Rattle.symbol.specs.Symbol.{type_guid_flag, attributes_flag, extended_flags_flag, refactor_info_flag, guid_of, attributes_of, extended_of, refactor_infos_of, extended_word, IsWithin, with_strings, symbol_ended, symbol_of};
+ghost use Rattle.symbol.specs.Symbol.{type_guid_flag, attributes_flag, extended_flags_flag, refactor_info_flag, guid_of, attributes_of, extended_of, refactor_infos_of, extended_word, IsWithin, with_strings, refactor_ends, symbol_ended, symbol_of};
+ghost use Rattle.refusal.specs.EndBytes.{ended};
 ghost use Rattle.symbol.specs.Head.{head_of};
 ghost use Rattle.symbol.specs.Kind.{four, long, room, short, never_zero, head_long, head_room, head_short, head_never_zero};
 
@@ -160,6 +161,19 @@ fn has_refactor_infos(extended: Option<AdsSymbol2Flags>) -> bool
     }
 }
 
+// Of a chain that is flagged, the first end byte that is not 0 of the records that it meets, also where it is dropped.
+#[tactic(auto, using(refusal::proofs::EndBytes::ended_none))]
+fn check_chain_ends(own: &[u8], symbol: &AdsSymbolInfo<'_>) -> Result<(), Refusal>
+    requires { IsWithin own symbol.now }
+    ensures { result ≡ ended (refactor_ends own.entry symbol.now) }
+{
+    if !has_refactor_infos(symbol.extended_flags) {
+        return Ok(());
+    }
+    let chain = symbol.refactor_infos.bytes;
+    refactor::check_ends(chain, own.len() - chain.len())
+}
+
 /// Refuses the first end byte that is not 0 of a symbol that was read from these bytes.
 #[tactic(auto, using(refusal::proofs::EndBytes::ended_passed, refusal::proofs::EndBytes::ended_refused, refusal::proofs::EndBytes::ended_none), unfolding(crate::specs::Symbol::symbol_ended))]
 fn check_ends(own: &[u8], symbol: &AdsSymbolInfo<'_>) -> Result<(), Refusal>
@@ -174,11 +188,7 @@ fn check_ends(own: &[u8], symbol: &AdsSymbolInfo<'_>) -> Result<(), Refusal>
     refusal::check_end(comment, own[comment])?;
     let attributes = symbol.attributes;
     attributes.check_ends(own.len() - attributes.bytes.len())?;
-    if !has_refactor_infos(symbol.extended_flags) {
-        return Ok(());
-    }
-    let chain = symbol.refactor_infos.bytes;
-    refactor::check_ends(chain, own.len() - chain.len())
+    check_chain_ends(own, symbol)
 }
 
 impl<'a> Entry<'a> for AdsSymbolInfo<'a> {
