@@ -9,18 +9,31 @@ use refusal::{Mode, Refusal};
 /// The header's numbers and the strings of an entry, and the bytes behind them.
 #[derive(Clone, Copy, Debug)]
 pub struct Front<'a> {
+    /// The entry's length in bytes.
     pub length: usize,
+    /// The version of the entry's layout, as sent.
     pub version: u32,
+    /// The maker's hash of the entry.
     pub hash_value: u32,
+    /// The maker's hash of its type.
     pub type_hash_value: u32,
+    /// The size of a value, in bytes; a copy mask has as many.
     pub size: u32,
+    /// Where it stands in a value of the type that has it, in bytes.
     pub offset: u32,
+    /// The maker's number of its type.
     pub type_id: u32,
+    /// Which sections follow, and what the entry is.
     pub flags: AdsTypeFlags,
+    /// The name.
     pub name: &'a [u8],
+    /// The name of its type.
     pub type_name: &'a [u8],
+    /// The comment.
     pub comment: &'a [u8],
+    /// How many array records, of 8 bytes each, the header says that there are.
     pub array_count: u16,
+    /// How many sub-items it says that there are.
     pub sub_item_count: u16,
     /// What stands behind the strings.
     pub rest: &'a [u8],
@@ -79,6 +92,10 @@ fn check_ends(
 
 impl<'a> Front<'a> {
     /// Reads the front of an entry's own bytes.
+    ///
+    /// # Errors
+    ///
+    /// 2 for a header and 3 for strings that are not there; 16 for the first of their end bytes that is not 0, in the checked mode.
     #[tactic(auto, unfolding(crate::specs::Front::front_of))]
     #[inline(always)]
     pub fn read(own: &'a [u8], mode: Mode) -> Result<Front<'a>, Refusal>

@@ -20,21 +20,35 @@ pub mod tail;
 pub mod theorems;
 pub mod writer;
 
-/// A field of a structure, or an entry of a data type read as one.
+/// A field of a structure, or an entry of a data type read as one (docs/FORMAT.md, "Field entries"). Strings are Windows-1252,
+/// without their end bytes.
 #[derive(Clone, Copy, Debug)]
 pub struct AdsFieldInfo<'a> {
+    /// The entry's length in bytes.
     pub length: usize,
+    /// The version of the entry's layout, as sent.
     pub version: u32,
+    /// The maker's hash of the entry.
     pub hash_value: u32,
+    /// The maker's hash of its type.
     pub type_hash_value: u32,
+    /// The size of a value, in bytes.
     pub size: u32,
+    /// Where it stands in a value of the type that has it, in bytes.
     pub offset: u32,
+    /// The maker's number of its type.
     pub type_id: u32,
+    /// Which sections follow, and what the field is.
     pub flags: AdsTypeFlags,
+    /// The name.
     pub name: &'a [u8],
+    /// The name of its type.
     pub type_name: &'a [u8],
+    /// The comment.
     pub comment: &'a [u8],
+    /// The GUID of its type, if it is flagged and its bytes are there.
     pub guid: Option<[u8; 16]>,
+    /// The attributes. One that is refused refuses the field.
     pub attributes: Attributes<'a>,
 }
 
@@ -111,4 +125,5 @@ impl<'a> Entry<'a> for AdsFieldInfo<'a> {
     }
 }
 
+/// The walk over an upload of fields.
 pub type Fields<'a> = Walker<'a, AdsFieldInfo<'a>>;

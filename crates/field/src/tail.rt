@@ -12,7 +12,9 @@ use refusal::{Mode, Refusal};
 /// What stands behind the sub-items of an entry.
 #[derive(Clone, Copy, Debug)]
 pub struct Tail<'a> {
+    /// If it is flagged and its bytes are there.
     pub guid: Option<[u8; 16]>,
+    /// As many as are shown.
     pub attributes: Attributes<'a>,
 }
 
@@ -83,6 +85,10 @@ fn check_whole(stopped: Option<Refusal>) -> Result<(), Refusal>
 
 impl<'a> Tail<'a> {
     /// Reads the tail of an entry with this front, from the bytes behind its sub-items on.
+    ///
+    /// # Errors
+    ///
+    /// 16 for the first end byte of an attribute that is not 0, in the checked mode; then 1 or 2 of an attribute that is refused.
     #[tactic(auto, unfolding(crate::specs::Tail::tail_of))]
     #[inline(always)]
     pub fn read(front: &Front<'_>, rest: &'a [u8], mode: Mode) -> Result<Tail<'a>, Refusal>

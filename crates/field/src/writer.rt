@@ -12,19 +12,28 @@ use flags::type_flags::AdsTypeFlags;
 use refusal::Refusal;
 use writing::Block;
 
-/// A field to be written.
+/// A field to be written (docs/FORMAT.md, "Writing"). Strings are Windows-1252, without end bytes.
 #[derive(Clone, Copy, Debug)]
 pub struct NewField<'a> {
+    /// The version of the entry's layout.
     pub version: u32,
+    /// The maker's hash of the entry.
     pub hash_value: u32,
+    /// The maker's hash of its type.
     pub type_hash_value: u32,
-    /// A copy mask, where it is flagged, has as many bytes.
+    /// The size of a value, in bytes. A copy mask, where it is flagged, has as many.
     pub size: u32,
+    /// Where it stands in a value of the type that has it, in bytes.
     pub offset: u32,
+    /// The maker's number of its type.
     pub type_id: u32,
+    /// Which sections are written; methods are not.
     pub flags: AdsTypeFlags,
+    /// The name: at most 65,535 bytes, as the other strings.
     pub name: &'a [u8],
+    /// The name of its type.
     pub type_name: &'a [u8],
+    /// The comment.
     pub comment: &'a [u8],
     /// Written where it is flagged; 16 zeros for none.
     pub guid: Option<[u8; 16]>,
@@ -33,8 +42,12 @@ pub struct NewField<'a> {
 }
 
 impl NewField<'_> {
-    /// How many bytes the entry has, or why the field is refused: strings and a count that are too long (7), a block that is
-    /// not its count of good attributes (9), an entry that is too large (5).
+    /// How many bytes the entry has.
+    ///
+    /// # Errors
+    ///
+    /// 7 for strings and a count that are too long; 9 for a block that is not its count of good attributes; 5 for an entry that
+    /// is too large.
     pub fn wire_size(&self) -> Result<usize, Refusal>
         ensures { result ≡ map_ok length (field_written self.now) }
     {
@@ -44,8 +57,11 @@ impl NewField<'_> {
         Ok(size)
     }
 
-    /// Writes the entry at the start of a buffer, and tells how many bytes it has. It is refused as by `wire_size`, and then
-    /// if the buffer is too small (6); the buffer is then as it was.
+    /// Writes the entry at the start of a buffer, and tells how many bytes it has.
+    ///
+    /// # Errors
+    ///
+    /// Those of `wire_size`, then 6 if the buffer is too small. The buffer is then as it was.
     pub fn to_vec(&self, out: &mut [u8]) -> Result<usize, Refusal>
         ensures { Writes (field_written self.now) out.old out.new result }
     {

@@ -14,6 +14,7 @@ use walk::Entry;
 /// A field, and where its attributes begin.
 #[derive(Clone, Copy, Debug)]
 pub struct PlacedField<'a> {
+    /// The field.
     pub field: AdsFieldInfo<'a>,
     /// Bytes from the start of the entry. It may lie past the entry's end where no attribute is shown.
     pub attributes_at: usize,
