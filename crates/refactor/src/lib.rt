@@ -34,7 +34,7 @@ pub struct RefactorInfos<'a> {
     pub count: usize,
 }
 
-/// The record at the start of some bytes, and the bytes after it.
+/// The record at the start of some bytes, and the bytes after it; 2 where there are too few.
 pub fn first(bytes: &[u8]) -> Result<(AdsRefactorInfo<'_>, &[u8]), Refusal>
     ensures { result ≡ first_of bytes.entry }
 {
@@ -59,7 +59,7 @@ pub fn first(bytes: &[u8]) -> Result<(AdsRefactorInfo<'_>, &[u8]), Refusal>
     Ok((info, &bytes[needed..]))
 }
 
-/// The chain at the start of some bytes, and the bytes after it.
+/// The chain at the start of some bytes, and the bytes after it; the refusal of the first of its records that is refused.
 #[tactic(auto, using(crate::proofs::Turn::room, crate::proofs::Turn::goes_on, crate::proofs::Turn::is_last, crate::proofs::Turn::is_refused))]
 pub fn chain(bytes: &[u8]) -> Result<(RefactorInfos<'_>, &[u8]), Refusal>
     ensures { result ≡ infos_of bytes.entry }
@@ -182,7 +182,7 @@ impl<'a> RefactorInfos<'a> {
         chain(bytes)
     }
 
-    /// The record with a number, counted from 0.
+    /// The record with a number, counted from 0; 14 past the last.
     pub fn get(mut self, number: usize) -> Result<AdsRefactorInfo<'a>, Refusal>
         ensures { result ≡ numbered (listed self.entry.bytes self.entry.count) self.entry.count number }
     {
