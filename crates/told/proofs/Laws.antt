@@ -1,6 +1,5 @@
 -- One promise allows one status, one answer and one content of each buffer.
-use Rattle.std.proofs.Common.{ℕ, ◌≡◌, List, sym, ◌∙◌}
-use Rattle.told.specs.Told.{Tells, WritesTold, WritesBothTold}
+use Rattle.std.proofs.Common.{sym, ◌∙◌}
 use Rattle.told.specs.One.{OneTelling, OneWriting, OneWritingBoth}
 
 pub one_telling : OneTelling

@@ -1,5 +1,5 @@
 -- The same of what the older crates answer.
-use Rattle.std.specs.Prelude.{ℕ, ◌≡◌, Bool, List, [], ◌∷◌, length}
+use Rattle.std.specs.Prelude.{ℕ, ◌≡◌, List, [], ◌∷◌, length}
 use Rattle.refusal.specs.Refusal.{figures_of}
 use Rattle.refusal.specs.declared.Figures.{Figures}
 use Rattle.refusal.specs.declared.Written.{Written}
@@ -10,9 +10,7 @@ use Rattle.attr.specs.declared.AttributeAnswer.{AttributeAnswer}
 use Rattle.attr.specs.declared.AttributeAnswer.TheVariants as attribute
 use Rattle.old_field.specs.declared.AdsFieldInfo.{AdsFieldInfo}
 use Rattle.old_field.specs.Questions as fields
-use Rattle.field_walk.specs.declared.Step as field-walk
-use Rattle.field_walk.specs.declared.Step.TheVariants as field
-use Rattle.told.specs.Told.{Tells, done, finished}
+use Rattle.told.specs.Told.{Tells, done}
 use Rattle.told.specs.Slots.{bit}
 
 -- how much was written
@@ -28,11 +26,6 @@ pub record WrittenTold (w : Writing) (old new : List ℕ) (status : ℕ) (answer
 abbrev pub attributeTold : AttributeAnswer → Figures
 attributeTold (attribute.Record r) = done 0 0
 attributeTold (attribute.Refused why) = figures_of why
-
-abbrev pub fieldTold : field-walk.Step → Figures
-fieldTold field.Finished = finished
-fieldTold (field.Record info) = done 0 0
-fieldTold (field.Refused why) = figures_of why
 
 unfoldable pub fieldSlots : AdsFieldInfo → List ℕ
 fieldSlots r =
@@ -54,16 +47,6 @@ fieldSlots r =
     ∷ r.attributes.first
     ∷ r.attributes.count
     ∷ []
-
-abbrev pub fieldSlotsAfter : field-walk.Step → List ℕ → List ℕ
-fieldSlotsAfter field.Finished old = old
-fieldSlotsAfter (field.Record info) old = fieldSlots info
-fieldSlotsAfter (field.Refused why) old = old
-
-abbrev pub fieldGuidAfter : field-walk.Step → List ℕ → List ℕ → List ℕ
-fieldGuidAfter field.Finished new old = old
-fieldGuidAfter (field.Record info) new old = new
-fieldGuidAfter (field.Refused why) new old = old
 
 abbrev pub attributeSlotsAfter : AttributeAnswer → List ℕ → List ℕ
 attributeSlotsAfter (attribute.Record r) old = r.name ∷ r.name_len ∷ r.value ∷ r.value_len ∷ r.next ∷ []

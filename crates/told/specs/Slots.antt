@@ -3,6 +3,8 @@ use Rattle.std.specs.Prelude.{ℕ, ◌+◌, ◌-◌, Bool, cond, List, [], ◌�
 use Rattle.refusal.specs.declared.Refusal.{Refusal}
 use Rattle.symbol.specs.declared.AdsSymbolInfo.{AdsSymbolInfo}
 use Rattle.symbol.specs.Symbol.{extended_word}
+use Rattle.field.specs.declared.AdsFieldInfo.{AdsFieldInfo}
+use Rattle.places.specs.declared.of_field.PlacedField.{PlacedField}
 use Rattle.places.specs.declared.AttributePlaces.{AttributePlaces}
 use Rattle.places.specs.declared.RefactorPlaces.{RefactorPlaces}
 
@@ -52,6 +54,32 @@ guid_bytes (Some bytes) = bytes
 
 abbrev pub symbol_guid : AdsSymbolInfo → List ℕ
 symbol_guid r = guid_bytes r.guid
+
+-- likewise; the attributes' place may lie past the entry's end, where none is shown
+unfoldable pub field_slots : PlacedField → List ℕ
+field_slots p =
+    let r : AdsFieldInfo = p.field in
+    r.length
+    ∷ r.version
+    ∷ r.hash_value
+    ∷ r.type_hash_value
+    ∷ r.size
+    ∷ r.offset
+    ∷ r.type_id
+    ∷ r.flags.0
+    ∷ 42
+    ∷ length r.name.now
+    ∷ (43 + length r.name.now)
+    ∷ length r.type_name.now
+    ∷ (44 + length r.name.now + length r.type_name.now)
+    ∷ length r.comment.now
+    ∷ bit (is_some r.guid)
+    ∷ p.attributes_at
+    ∷ r.attributes.count
+    ∷ []
+
+abbrev pub field_guid : PlacedField → List ℕ
+field_guid p = guid_bytes p.field.guid
 
 abbrev pub attribute_slots : AttributePlaces → List ℕ
 attribute_slots a = a.name ∷ a.name_len ∷ a.value ∷ a.value_len ∷ a.next ∷ []

@@ -1,6 +1,7 @@
 //! Answers told in numbers: a status, two figures, and slots that the caller lends. What crosses to C is made here.
 #![tactic(auto)]
 
+pub mod fields;
 pub mod older;
 pub mod symbols;
 pub mod theorems;

@@ -1,12 +1,11 @@
 // The same of what the older crates answer.
 ghost use Rattle.std.specs.Prelude.{◌≡◌, ◌+◌};
-ghost use Rattle.field_walk.specs.Walk as «field-walks»;
 ghost use Rattle.told.specs.Told.{Tells};
-ghost use Rattle.told.specs.Older.{writtenTold, attributeTold, fieldTold, fieldSlots, fieldSlotsAfter, fieldGuidAfter, attributeSlotsAfter};
+ghost use Rattle.told.specs.Older.{writtenTold, attributeTold, fieldSlots, attributeSlotsAfter};
 
-use crate::{DONE, FINISHED, refused, tell};
+use crate::{DONE, refused, tell};
 use attr::AttributeAnswer;
-use old_field::{AdsFieldInfo, FieldAnswer, FieldRead};
+use old_field::AdsFieldInfo;
 use refusal::Written;
 
 pub fn written(w: Written, answer: &mut [u64; 2]) -> u32
@@ -82,69 +81,4 @@ pub fn field_slots(info: AdsFieldInfo) -> [u64; 17]
         attributes.first as u64,
         attributes.count as u64,
     ]
-}
-
-fn field(
-    step: field_walk::Step,
-    bytes: [u8; 16],
-    slots: &mut [u64; 17],
-    guid: &mut [u8; 16],
-    answer: &mut [u64; 2],
-) -> u32
-    ensures tells { Tells (fieldTold step) result answer.new }
-    ensures slots_after { slots.new ≡ fieldSlotsAfter step slots.old }
-    ensures guid_after { guid.new ≡ fieldGuidAfter step bytes guid.old }
-{
-    match step {
-        field_walk::Step::Finished => tell(FINISHED, 0, 0, answer),
-        field_walk::Step::Record(info) => {
-            *slots = field_slots(info);
-            *guid = bytes;
-            tell(DONE, 0, 0, answer)
-        }
-        field_walk::Step::Refused(why) => refused(why, answer),
-    }
-}
-
-pub fn field_read(
-    read: FieldRead,
-    slots: &mut [u64; 17],
-    guid: &mut [u8; 16],
-    answer: &mut [u64; 2],
-) -> u32
-    ensures tells { Tells (fieldTold («field-walks».stepIs read.answer)) result answer.new }
-    ensures slots_after { slots.new ≡ fieldSlotsAfter («field-walks».stepIs read.answer) slots.old }
-    ensures guid_after { guid.new ≡ fieldGuidAfter («field-walks».stepIs read.answer) read.guid guid.old }
-{
-    let bytes = read.guid;
-    let what = read.answer;
-    match what {
-        FieldAnswer::Record(info) => field(
-            field_walk::Step::Record(info),
-            bytes,
-            slots,
-            guid,
-            answer,
-        ),
-        FieldAnswer::Refused(why) => refused(why, answer),
-    }
-}
-
-pub fn field_step(
-    done: field_walk::Stepped,
-    cursor: &mut usize,
-    slots: &mut [u64; 17],
-    guid: &mut [u8; 16],
-    answer: &mut [u64; 2],
-) -> u32
-    ensures tells { Tells (fieldTold done.step) result answer.new }
-    ensures cursor_after { cursor.new ≡ done.cursor.at }
-    ensures slots_after { slots.new ≡ fieldSlotsAfter done.step slots.old }
-    ensures guid_after { guid.new ≡ fieldGuidAfter done.step done.guid guid.old }
-{
-    let next = done.cursor;
-    *cursor = next.at;
-    let bytes = done.guid;
-    let step = done.step;
-    field(step, bytes, slots, guid, answer)
 }

@@ -6,7 +6,6 @@ mod types;
 
 ghost use Rattle.std.specs.Prelude.{◌≡◌, Ok};
 ghost use Rattle.part.specs.Outcome.{and_then};
-ghost use Rattle.refusal.specs.Ends.{presentMode};
 ghost use Rattle.refusal.specs.declared.Mode.TheVariants.{Present};
 ghost use Rattle.flags.specs.Flags.{symbol_flags_of, symbol2_flags_of, type_flags_of};
 ghost use Rattle.attribute.specs.Writing.{attribute_writing};
@@ -16,9 +15,6 @@ ghost use Rattle.walk.specs.Mapped.{map_ok};
 ghost use Rattle.walk.specs.Step.{parse_of, step_at};
 ghost use Rattle.symbol.specs.Symbol.{symbol_of};
 ghost use Rattle.symbol.specs.Writing.{symbol_written};
-ghost use Rattle.old_field.specs.Field.{fieldRead};
-ghost use Rattle.old_field.specs.Questions.{fieldAttribute, fieldAttributeNamed};
-ghost use Rattle.field_walk.specs.Walk as fields;
 ghost use Rattle.field.specs.Writing.{field_written};
 ghost use Rattle.index.specs.Index.{indexing};
 ghost use Rattle.symbol_find.specs.Find.{find, find_indexed};
@@ -26,13 +22,14 @@ ghost use Rattle.room.specs.Room.{room_for};
 ghost use Rattle.salvage.specs.Salvage.{salvaging};
 ghost use Rattle.text.specs.Text.{decoding, encoding};
 ghost use Rattle.places.specs.Alone.{attribute_alone, refactor_alone, chain_read, chain_record};
+ghost use Rattle.places.specs.Field.{placed_of, field_attribute, field_attribute_named};
 ghost use Rattle.places.specs.Symbol.{symbol_attribute, symbol_attribute_named, symbol_refactor_info};
 ghost use Rattle.told.specs.Told.{Tells, WritesTold, WritesBothTold, number_told, numbers_told, record_told, step_told, end_told};
-ghost use Rattle.told.specs.Slots.{slots_after, step_after, symbol_slots, symbol_guid, attribute_slots, refactor_slots};
-ghost use Rattle.told.specs.Older.{attributeTold, fieldTold, fieldSlotsAfter, fieldGuidAfter, attributeSlotsAfter};
+ghost use Rattle.told.specs.Slots.{slots_after, step_after, symbol_slots, symbol_guid, field_slots, field_guid, attribute_slots, refactor_slots};
 ghost use Rattle.vindaskot.specs.Lent.{lent_guid, new_symbol, new_field};
 
 use attribute::AdsAttribute;
+use field::AdsFieldInfo;
 use field::writer::NewField;
 use flags::index_group::IndexGroup;
 use flags::index_offset::IndexOffset;
@@ -140,16 +137,11 @@ pub extern "C" fn vindaskot_field_read(
     guid: &mut [u8; 16],
     answer: &mut [u64; 2],
 ) -> u32
-    ensures tells { Tells (fieldTold (fields.stepIs (fieldRead presentMode bytes.now).answer)) result answer.new }
-    ensures slots_after { slots.new ≡ fieldSlotsAfter (fields.stepIs (fieldRead presentMode bytes.now).answer) slots.old }
-    ensures guid_after { guid.new ≡ fieldGuidAfter (fields.stepIs (fieldRead presentMode bytes.now).answer) (fieldRead presentMode bytes.now).guid guid.old }
+    ensures tells { Tells (record_told (parse_of 42 (placed_of Present) bytes.entry)) result answer.new }
+    ensures slots_after { slots.new ≡ slots_after field_slots (parse_of 42 (placed_of Present) bytes.entry) slots.old }
+    ensures guid_after { guid.new ≡ slots_after field_guid (parse_of 42 (placed_of Present) bytes.entry) guid.old }
 {
-    told::older::field_read(
-        field_info::try_from_slice(bytes, refusal::PRESENT),
-        slots,
-        guid,
-        answer,
-    )
+    told::fields::read(bytes, Mode::Present, slots, guid, answer)
 }
 
 #[unsafe(no_mangle)]
@@ -160,19 +152,12 @@ pub extern "C" fn vindaskot_field_step(
     guid: &mut [u8; 16],
     answer: &mut [u64; 2],
 ) -> u32
-    ensures tells { Tells (fieldTold (fields.fieldStep presentMode bytes.now cursor.old).step) result answer.new }
-    ensures cursor_after { cursor.new ≡ (fields.fieldStep presentMode bytes.now cursor.old).cursor.at }
-    ensures slots_after { slots.new ≡ fieldSlotsAfter (fields.fieldStep presentMode bytes.now cursor.old).step slots.old }
-    ensures guid_after { guid.new ≡ fieldGuidAfter (fields.fieldStep presentMode bytes.now cursor.old).step (fields.fieldStep presentMode bytes.now cursor.old).guid guid.old }
+    ensures tells { Tells (step_told (step_at (placed_of Present) bytes.entry cursor.old).answer) result answer.new }
+    ensures cursor_after { cursor.new ≡ (step_at (placed_of Present) bytes.entry cursor.old).cursor.at }
+    ensures slots_after { slots.new ≡ step_after field_slots (step_at (placed_of Present) bytes.entry cursor.old).answer slots.old }
+    ensures guid_after { guid.new ≡ step_after field_guid (step_at (placed_of Present) bytes.entry cursor.old).answer guid.old }
 {
-    let from = field_walk::Cursor { at: *cursor };
-    told::older::field_step(
-        from.step(bytes, refusal::PRESENT),
-        cursor,
-        slots,
-        guid,
-        answer,
-    )
+    told::fields::step(bytes, Mode::Present, cursor, slots, guid, answer)
 }
 
 #[unsafe(no_mangle)]
@@ -182,11 +167,11 @@ pub extern "C" fn vindaskot_field_attribute(
     slots: &mut [u64; 5],
     answer: &mut [u64; 2],
 ) -> u32
-    ensures tells { Tells (attributeTold (fieldAttribute presentMode bytes.now number)) result answer.new }
-    ensures slots_after { slots.new ≡ attributeSlotsAfter (fieldAttribute presentMode bytes.now number) slots.old }
+    ensures tells { Tells (record_told (field_attribute Present bytes.entry number)) result answer.new }
+    ensures slots_after { slots.new ≡ slots_after attribute_slots (field_attribute Present bytes.entry number) slots.old }
 {
-    told::older::attribute(
-        field_info::attribute(bytes, refusal::PRESENT, number),
+    told::attribute(
+        places::of_entry::entry_attribute::<AdsFieldInfo>(bytes, Mode::Present, number),
         slots,
         answer,
     )
@@ -199,11 +184,11 @@ pub extern "C" fn vindaskot_field_attribute_named(
     slots: &mut [u64; 5],
     answer: &mut [u64; 2],
 ) -> u32
-    ensures tells { Tells (attributeTold (fieldAttributeNamed presentMode bytes.now name.now)) result answer.new }
-    ensures slots_after { slots.new ≡ attributeSlotsAfter (fieldAttributeNamed presentMode bytes.now name.now) slots.old }
+    ensures tells { Tells (record_told (field_attribute_named Present bytes.entry name.now)) result answer.new }
+    ensures slots_after { slots.new ≡ slots_after attribute_slots (field_attribute_named Present bytes.entry name.now) slots.old }
 {
-    told::older::attribute(
-        field_info::attribute_named(bytes, refusal::PRESENT, name),
+    told::attribute(
+        places::of_entry::entry_attribute_named::<AdsFieldInfo>(bytes, Mode::Present, name),
         slots,
         answer,
     )

@@ -3,18 +3,16 @@
 ghost use Rattle.std.specs.Prelude.{◌≡◌};
 ghost use Rattle.walk.specs.Step.{parse_of, step_at};
 ghost use Rattle.symbol.specs.Symbol.{symbol_of};
-ghost use Rattle.old_field.specs.Field.{fieldRead};
-ghost use Rattle.old_field.specs.Questions.{fieldAttribute, fieldAttributeNamed};
-ghost use Rattle.field_walk.specs.Walk as fields;
 ghost use Rattle.index.specs.Index.{indexing};
 ghost use Rattle.symbol_find.specs.Find.{find, find_indexed};
 ghost use Rattle.salvage.specs.Salvage.{salvaging};
 ghost use Rattle.places.specs.Alone.{attribute_alone, refactor_alone, chain_read, chain_record};
+ghost use Rattle.places.specs.Field.{placed_of, field_attribute, field_attribute_named};
 ghost use Rattle.places.specs.Symbol.{symbol_attribute, symbol_attribute_named, symbol_refactor_info};
 ghost use Rattle.told.specs.Told.{Tells, WritesTold, WritesBothTold, mode_of, number_told, numbers_told, record_told, step_told};
-ghost use Rattle.told.specs.Slots.{slots_after, step_after, symbol_slots, symbol_guid, attribute_slots, refactor_slots};
-ghost use Rattle.told.specs.Older.{attributeTold, fieldTold, fieldSlotsAfter, fieldGuidAfter, attributeSlotsAfter};
+ghost use Rattle.told.specs.Slots.{slots_after, step_after, symbol_slots, symbol_guid, field_slots, field_guid, attribute_slots, refactor_slots};
 
+use field::AdsFieldInfo;
 use symbol::{AdsSymbolInfo, SymbolHead};
 use told::mode;
 
@@ -112,16 +110,11 @@ pub extern "C" fn vindaskot_field_read_in(
     guid: &mut [u8; 16],
     answer: &mut [u64; 2],
 ) -> u32
-    ensures tells { Tells (fieldTold (fields.stepIs (fieldRead checked bytes.now).answer)) result answer.new }
-    ensures slots_after { slots.new ≡ fieldSlotsAfter (fields.stepIs (fieldRead checked bytes.now).answer) slots.old }
-    ensures guid_after { guid.new ≡ fieldGuidAfter (fields.stepIs (fieldRead checked bytes.now).answer) (fieldRead checked bytes.now).guid guid.old }
+    ensures tells { Tells (record_told (parse_of 42 (placed_of (mode_of checked)) bytes.entry)) result answer.new }
+    ensures slots_after { slots.new ≡ slots_after field_slots (parse_of 42 (placed_of (mode_of checked)) bytes.entry) slots.old }
+    ensures guid_after { guid.new ≡ slots_after field_guid (parse_of 42 (placed_of (mode_of checked)) bytes.entry) guid.old }
 {
-    told::older::field_read(
-        field_info::try_from_slice(bytes, checked),
-        slots,
-        guid,
-        answer,
-    )
+    told::fields::read(bytes, mode(checked), slots, guid, answer)
 }
 
 #[unsafe(no_mangle)]
@@ -133,13 +126,12 @@ pub extern "C" fn vindaskot_field_step_in(
     guid: &mut [u8; 16],
     answer: &mut [u64; 2],
 ) -> u32
-    ensures tells { Tells (fieldTold (fields.fieldStep checked bytes.now cursor.old).step) result answer.new }
-    ensures cursor_after { cursor.new ≡ (fields.fieldStep checked bytes.now cursor.old).cursor.at }
-    ensures slots_after { slots.new ≡ fieldSlotsAfter (fields.fieldStep checked bytes.now cursor.old).step slots.old }
-    ensures guid_after { guid.new ≡ fieldGuidAfter (fields.fieldStep checked bytes.now cursor.old).step (fields.fieldStep checked bytes.now cursor.old).guid guid.old }
+    ensures tells { Tells (step_told (step_at (placed_of (mode_of checked)) bytes.entry cursor.old).answer) result answer.new }
+    ensures cursor_after { cursor.new ≡ (step_at (placed_of (mode_of checked)) bytes.entry cursor.old).cursor.at }
+    ensures slots_after { slots.new ≡ step_after field_slots (step_at (placed_of (mode_of checked)) bytes.entry cursor.old).answer slots.old }
+    ensures guid_after { guid.new ≡ step_after field_guid (step_at (placed_of (mode_of checked)) bytes.entry cursor.old).answer guid.old }
 {
-    let from = field_walk::Cursor { at: *cursor };
-    told::older::field_step(from.step(bytes, checked), cursor, slots, guid, answer)
+    told::fields::step(bytes, mode(checked), cursor, slots, guid, answer)
 }
 
 #[unsafe(no_mangle)]
@@ -150,10 +142,14 @@ pub extern "C" fn vindaskot_field_attribute_in(
     slots: &mut [u64; 5],
     answer: &mut [u64; 2],
 ) -> u32
-    ensures tells { Tells (attributeTold (fieldAttribute checked bytes.now number)) result answer.new }
-    ensures slots_after { slots.new ≡ attributeSlotsAfter (fieldAttribute checked bytes.now number) slots.old }
+    ensures tells { Tells (record_told (field_attribute (mode_of checked) bytes.entry number)) result answer.new }
+    ensures slots_after { slots.new ≡ slots_after attribute_slots (field_attribute (mode_of checked) bytes.entry number) slots.old }
 {
-    told::older::attribute(field_info::attribute(bytes, checked, number), slots, answer)
+    told::attribute(
+        places::of_entry::entry_attribute::<AdsFieldInfo>(bytes, mode(checked), number),
+        slots,
+        answer,
+    )
 }
 
 #[unsafe(no_mangle)]
@@ -164,11 +160,11 @@ pub extern "C" fn vindaskot_field_attribute_named_in(
     slots: &mut [u64; 5],
     answer: &mut [u64; 2],
 ) -> u32
-    ensures tells { Tells (attributeTold (fieldAttributeNamed checked bytes.now name.now)) result answer.new }
-    ensures slots_after { slots.new ≡ attributeSlotsAfter (fieldAttributeNamed checked bytes.now name.now) slots.old }
+    ensures tells { Tells (record_told (field_attribute_named (mode_of checked) bytes.entry name.now)) result answer.new }
+    ensures slots_after { slots.new ≡ slots_after attribute_slots (field_attribute_named (mode_of checked) bytes.entry name.now) slots.old }
 {
-    told::older::attribute(
-        field_info::attribute_named(bytes, checked, name),
+    told::attribute(
+        places::of_entry::entry_attribute_named::<AdsFieldInfo>(bytes, mode(checked), name),
         slots,
         answer,
     )
