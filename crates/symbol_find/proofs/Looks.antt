@@ -3,8 +3,8 @@ use Rattle.std.proofs.Common.{ℕ, ◌+◌, ◌-◌, ◌*◌, ◌≤◌, ◌<◌
 use Rattle.std.specs.Prelude.{ltb, eqb, is_ok, Option, Some, None, Ok, Err}
 use Rattle.std.specs.Option.{option_map}
 use lib.ListN.{length-take, length-drop}
-use Rattle.std.proofs.lemmas.List.{take_all}
-use borrow.Author.Tests.{le-leb, le-ltb, lt-ltb, ltb-true, ltb-false, eqb-true, eqb-false, eq-eqb}
+use lib.Seq.{drop-drop, get_or-drop}
+use borrow.Author.Tests.{le-ltb, lt-ltb, ltb-true, ltb-false, eqb-true, eqb-false, eq-eqb}
 use Rattle.le.specs.Le.{le2, part}
 use Rattle.le.proofs.Laws.{length_part, le2-part, part-part, not-both}
 use Rattle.le.proofs.Same.{same-so-far}
@@ -47,14 +47,6 @@ looks_short e name h = simp (lt-ltb (length e) (30 + length name) h)
 pub looks_none : (e name : List ℕ) → 30 + length name ≤ length e → length name ≡ 0 → looks_named e name ≡ eqb (le2 e 24) 0
 unfolding looks_named
 looks_none e name h z = simp (le-ltb (length e) (30 + length name) h, ends-none e name 30 z) (same-so-far (eqb (le2 e 24) (length name)) ∙ ap (eqb (le2 e 24)) z)
-
-pub looks_longer : (e name : List ℕ) → 30 + length name ≤ length e → (le2 e 24 ≡ length name → ⊥) → looks_named e name ≡ false
-unfolding looks_named
-looks_longer e name h n = simp (le-ltb (length e) (30 + length name) h, ne_eqb (le2 e 24) (length name) n)
-
-pub looks_ending : (e name : List ℕ) (told : ℕ) (near : Bool) → 30 + length name ≤ length e → told ≡ le2 e 24 → told ≡ length name → near ≡ ends_near (part e 30 (length name)) name → near ≡ looks_named e name
-unfolding looks_named
-looks_ending e name told near h t l p = simp (p, le-ltb (length e) (30 + length name) h, eq-eqb (le2 e 24) (length name) (sym t ∙ l))
 
 -- two numbers in one
 both_by : (x n a b : ℕ) → a < 32 → b < 32 → (p q : Bool) → eqb x n ≡ p → eqb a b ≡ q → eqb (x * 32 + a) (n * 32 + b) ≡ (if p then q else false)
@@ -136,22 +128,57 @@ looks_more k l name h =
     let p = part-part l 0 k 30 (length name) u in
     simp (le-ltb (length l) (30 + length name) (omega (arith, r, m))) (simp (le-ltb (length (take k l)) (30 + length name) r, e, p) at h)
 
+-- the bytes of an upload from a place on
+module _ (s name : List ℕ) (at : ℕ) where
+  le2_from : le2 (drop at s) 24 ≡ le2 s (at + 24)
+  unfolding le2
+  le2_from =
+      let second : at + 25 ≡ at + 24 + 1 = omega arith in
+      simp (get_or-drop at s 24 0, get_or-drop at s 25 0) (ap (λ (k : ℕ). get_or s (at + 24) 0 + get_or s k 0 * 256) second)
+
+  part_from : part (drop at s) 30 (length name) ≡ part s (at + 30) (length name)
+  unfolding part
+  part_from = ap (take (length name)) (drop-drop 30 at s)
+
+  pub few_from : length s - at < 30 + length name → looks_named (drop at s) name ≡ false
+  few_from h = looks_short (drop at s) name (omega (arith, length-drop at s))
+
+  pub longer_from : 30 + length name ≤ length s - at → (le2 s (at + 24) ≡ length name → ⊥) → looks_named (drop at s) name ≡ false
+  unfolding looks_named
+  longer_from h n = simp (le-ltb (length (drop at s)) (30 + length name) (omega (arith, length-drop at s)), le2_from, ne_eqb (le2 s (at + 24)) (length name) n)
+
+  pub ending_from : (told : ℕ) (near : Bool) → 30 + length name ≤ length s - at → told ≡ le2 s (at + 24) → told ≡ length name → near ≡ ends_near (part s (at + 30) (length name)) name → near ≡ looks_named (drop at s) name
+  unfolding looks_named
+  ending_from told near h t l p = simp (p, le-ltb (length (drop at s)) (30 + length name) (omega (arith, length-drop at s)), le2_from, part_from, eq-eqb (le2 s (at + 24)) (length name) (sym t ∙ l))
+
+  pub looked_from : looks_named (drop at s) name ≡ true → at + 30 + length name ≤ length s
+  looked_from h = omega (arith, looked_room (drop at s) name h, length-drop at s)
+
 module _ (mode : Mode) (s : Bor (List ℕ)) (name : List ℕ) (at : ℕ) where
-  pub looks_from : looks_named (take (length s.now - at) (drop at s.now)) name ≡ false → is_named mode s name at ≡ false
+  own_from : looks_named (drop at s.now) name ≡ false → (size : ℕ) → has_name name (Some (symbol_of mode (slice.part s at size))) ≡ false
+  own_from h size = looks_otherwise mode (slice.part s at size) name (unless (looks_named (take size (drop at s.now)) name) (looks_named (drop at s.now) name) (looks_more size (drop at s.now) name) h)
+
+  own_named : same_name (part s.now (at + 30) (length name)) name ≡ false → (size : ℕ) (b : Bool) → looks_named (take size (drop at s.now)) name ≡ b → has_name name (Some (symbol_of mode (slice.part s at size))) ≡ false
+  unfolding part
+  own_named h size false e = looks_otherwise mode (slice.part s at size) name e
+  own_named h size true e =
+      let r = looked_room (take size (drop at s.now)) name e in
+      let u : 30 + length name ≤ size = omega (arith, r, length-take size (drop at s.now)) in
+      let p = part-part (drop at s.now) 0 size 30 (length name) u ∙ part_from s.now name at in
+      named_otherwise mode (slice.part s at size) name e (ap (λ (l : List ℕ). same_name l name) p ∙ h)
+
+  -- at a place where an entry that is met has not the name, the step gives no symbol of the name
+  unnamed : ((size : ℕ) → has_name name (Some (symbol_of mode (slice.part s at size))) ≡ false) → is_named mode s name at ≡ false
   unfolding is_named step_at
-  looks_from k = by (claim_at s.now at).size
+  unnamed own = by (claim_at s.now at).size
     where
-      rest : take (length s.now - at) (drop at s.now) ≡ drop at s.now
-      rest = take_all (length s.now - at) (drop at s.now) (omega (arith, length-drop at s.now))
-
-      h : looks_named (drop at s.now) name ≡ false
-      h = simp rest at k
-
       by : (c : Option (Result ℕ Refusal)) → has_name name (option_map (λ claim. and_then claim (λ size. symbol_of mode (slice.part s at size))) c) ≡ false
       by None = refl
       by (Some (Err why)) = refl
-      by (Some (Ok size)) = looks_otherwise mode (slice.part s at size) name (unless (looks_named (take size (drop at s.now)) name) (looks_named (drop at s.now) name) (looks_more size (drop at s.now) name) h)
+      by (Some (Ok size)) = own size
 
-  pub named_beyond : length s.now < at → is_named mode s name at ≡ false
-  unfolding is_named step_at claim_at
-  named_beyond h = simp (le-leb (length s.now) at (omega arith))
+  pub looks_from : looks_named (drop at s.now) name ≡ false → is_named mode s name at ≡ false
+  looks_from h = unnamed (own_from h)
+
+  pub named_from : same_name (part s.now (at + 30) (length name)) name ≡ false → is_named mode s name at ≡ false
+  named_from h = unnamed (λ size. own_named h size (looks_named (take size (drop at s.now)) name) refl)

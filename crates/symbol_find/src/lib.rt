@@ -1,7 +1,7 @@
 //! Finding a symbol by its name, without an index and through one (docs/FORMAT.md, "Finding").
 #![tactic(auto)]
 
-ghost use Rattle.std.specs.Prelude.{◌≡◌, Some, is_ok, length, true};
+ghost use Rattle.std.specs.Prelude.{◌≡◌, Some, drop, is_ok, length, true};
 ghost use Rattle.symbol.specs.Symbol.{symbol_of};
 ghost use Rattle.symbol.specs.Head.{head_of};
 ghost use Rattle.symbol_find.specs.Looks.{look_of, looks_named};
@@ -89,18 +89,18 @@ fn looks_named_at_once(own: &[u8], name: &[u8]) -> bool
 
 // The same of the bytes from a place on, for a search from slot to slot: the last byte is mostly in another cache line than the length, and is fetched only where the length is right.
 #[inline(always)]
-#[tactic(auto, using(crate::proofs::Looks::looks_short, crate::proofs::Looks::looks_longer))]
-fn looks_named(from: &[u8], name: &[u8]) -> bool
-    ensures { result ≡ looks_named from.now name.now }
+#[tactic(auto, using(crate::proofs::Looks::few_from, crate::proofs::Looks::longer_from))]
+fn looks_named(bytes: &[u8], at: usize, name: &[u8]) -> bool
+    ensures { result ≡ looks_named (drop at bytes.now) name.now }
 {
     let length = name.len();
-    if from.len() < 30 + length {
+    if le::room(bytes.len(), at) < 30 + length {
         return false;
     }
-    if le::u16_at(from, 24) as usize != length {
+    if le::u16_at(bytes, at + 24) as usize != length {
         return false;
     }
-    names::ends_near(from, 30, name)
+    names::ends_near(bytes, at + 30, name)
 }
 
 // Whether an entry's own bytes give a symbol.
@@ -152,16 +152,16 @@ pub fn find(bytes: &[u8], mode: Mode, name: &[u8]) -> Result<usize, Refusal>
     Err(Refusal::NameNotFound)
 }
 
-// Whether the step from a place gives a symbol of that name.
+// Whether the step from a place gives a symbol of that name. The claim, which mostly stands in another cache line than the name, is read last.
 #[inline(always)]
-#[tactic(auto, using(entry::proofs::Claims::room_at, crate::proofs::Looks::looks_from, crate::proofs::Looks::named_beyond), unfolding(crate::specs::Find::is_named, walk::specs::Step::step_at))]
+#[tactic(auto, using(entry::proofs::Claims::room_at, crate::proofs::Looks::looked_from), unfolding(crate::specs::Find::is_named, walk::specs::Step::step_at))]
 fn is_named(bytes: &[u8], at: usize, mode: Mode, name: &[u8]) -> bool
     ensures { result ≡ is_named mode bytes.entry name.now at }
 {
-    if bytes.len() < at {
+    if !looks_named(bytes, at, name) {
         return false;
     }
-    if !looks_named(&bytes[at..], name) {
+    if !names::same_name(bytes, at + 30, name) {
         return false;
     }
     match entry::claim_at(bytes, at).size {

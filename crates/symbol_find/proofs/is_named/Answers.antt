@@ -3,7 +3,7 @@ use Rattle.std.specs.Prelude.{Some}
 use Rattle.part.specs.Slice.{part}
 use Rattle.symbol.specs.Symbol.{symbol_of}
 use Rattle.symbol_find.specs.Find.{has_name}
-use Rattle.symbol_find.proofs.Looks.{looks_from}
+use Rattle.symbol_find.proofs.Looks.{looks_from, named_from}
 use Rattle.symbol_find.proofs.Search.{named_at}
 use Rattle.symbol_find.proofs.is_named.Goals as goal
 
@@ -16,3 +16,6 @@ returns-in-Some-Ok c =
 
 pub returns-then-not-looks_named : goal.returns-then-not-looks_named
 returns-then-not-looks_named c = sym (looks_from c.args.mode c.args.bytes c.args.name.now c.args.at (sym c.looks_named.ensures ∙ c.if-not-looks_named.true))
+
+pub returns-then-not-same_name : goal.returns-then-not-same_name
+returns-then-not-same_name c = sym (named_from c.args.mode c.args.bytes c.args.name.now c.args.at (sym c.same_name.ensures ∙ c.if-not-same_name.true))

@@ -1,5 +1,8 @@
-use Rattle.symbol_find.proofs.Looks.{looks_ending}
+use Rattle.std.proofs.Common.{◌+◌, ◌-◌, ◌≤◌, length, arith}
+use Rattle.symbol_find.proofs.Looks.{ending_from}
 use Rattle.symbol_find.proofs.looks_named.Goals as goal
 
 pub returns : goal.returns
-returns c = looks_ending c.args.from.now c.args.name.now c.u16_at.result _ c.if-from-length.false c.u16_at.ensures c.if-u16_at-length.false c.ends_near.ensures
+returns c =
+    let room : 30 + length c.args.name.now ≤ length c.args.bytes.now - c.args.at = omega (arith, c.if-room-length.false, c.room.ensures) in
+    ending_from c.args.bytes.now c.args.name.now c.args.at c.u16_at.result _ room c.u16_at.ensures c.if-u16_at-length.false c.ends_near.ensures
