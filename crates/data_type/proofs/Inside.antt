@@ -104,7 +104,7 @@ module _ (mode : Mode) (left : ℕ) (s : Bor (List ℕ)) (n : ℕ) (items : Item
 module _ (mode : Mode) (P : Position → ℕ → Bor (List ℕ) → ℕ → Items → List Member → Type 0)
     (none : (above : Position) (end : ℕ) (s : Bor (List ℕ)) → P above end s 0 (record { rest = s; members = 0 }) [])
     (more : (left : ℕ) (s : Bor (List ℕ)) (n : ℕ) (items : Items) (t : Turn mode left s n items) (above : Position) (end : ℕ) (inner : Items) (held rest : List Member)
-    → above.depth + left ≡ 16 → inner.members ≡ t.info.member_count
+    → above.depth + left ≡ 16 → inner.members ≡ t.info.member_count → items_from (item_at mode t.deeper) t.info.sub_items.bytes t.info.sub_items.count ≡ Ok inner
     → P (here mode left s n items t above end) (end - length s.now + length t.own.now) t.info.sub_items.bytes t.info.sub_items.count inner held
     → P above end t.behind n t.more rest
     → P above end s (suc n) items (record { position = here mode left s n items t above end; own = t.own } ∷ (held ++ rest))) where
@@ -124,7 +124,7 @@ module _ (mode : Mode) (P : Position → ℕ → Bor (List ℕ) → ℕ → Item
       let p : Position = here mode left s n items t above end in
       let inner = each t.deeper t.some p (end - length s.now + length t.own.now) t.info.sub_items.count t.info.sub_items.bytes o.items (below_deeper above (end - length s.now) t.info.offset left t.deeper t.some h) o.read in
       let rest = items_all left each n above end t.behind t.more h t.rest in
-      let m = more left s n items t above end o.items (members_below t.deeper p (end - length s.now + length t.own.now) t.info.sub_items.bytes t.info.sub_items.count) (members_below left above end t.behind n) h (sym o.count) inner rest in
+      let m = more left s n items t above end o.items (members_below t.deeper p (end - length s.now + length t.own.now) t.info.sub_items.bytes t.info.sub_items.count) (members_below left above end t.behind n) h (sym o.count) o.read inner rest in
       subst (P above end s (suc n) items) (sym (brings_at left t.deeper t.some s n items t above end)) m
     where
       brings_at : (left k : ℕ) → left ≡ suc k → (s : Bor (List ℕ)) (n : ℕ) (items : Items) (t : Turn mode left s n items) (above : Position) (end : ℕ) → members_below left above end s (suc n)
@@ -143,7 +143,7 @@ pub counted : (mode : Mode) (e : Bor (List ℕ)) (r : AdsDataTypeInfo) → type_
 counted mode e r h =
     let o = holds mode 15 e r h in
     all_of mode (λ above end s n items ms. length ms ≡ items.members) (λ above end s. refl)
-    (λ left s n items t above end inner held rest d c p q.
+    (λ left s n items t above end inner held rest d c o p q.
     let l = length-append held rest in
     let i : 1 + t.info.member_count + t.more.members ≡ items.members = ap (λ (x : Items). x.members) t.is in
     omega arith)

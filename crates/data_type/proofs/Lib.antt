@@ -7,3 +7,8 @@ pub mod Inside
 pub mod Parsed
 pub mod Filling
 pub mod Listed
+pub mod More
+pub mod AsField
+pub mod Alike
+pub mod Numbers
+pub mod Stands

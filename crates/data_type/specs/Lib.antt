@@ -7,3 +7,5 @@ pub mod Members
 pub mod Level
 pub mod Left
 pub mod List
+pub mod Theorems
+pub mod Stand

@@ -18,6 +18,7 @@ pub mod level;
 pub mod list;
 pub mod members;
 pub mod reader;
+pub mod theorems;
 
 /// The sub-items of an entry.
 #[derive(Clone, Copy, Debug)]

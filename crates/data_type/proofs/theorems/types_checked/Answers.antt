@@ -1,0 +1,5 @@
+use Rattle.data_type.proofs.Alike.{types_checked}
+use Rattle.data_type.proofs.theorems.types_checked.Goals as goal
+
+pub returns : goal.returns
+returns c = types_checked

@@ -1,0 +1,65 @@
+-- What is read as a data type, beside the field reader, by its bytes, and in the two modes.
+use Rattle.std.specs.Prelude.{ℕ, ◌+◌, ◌*◌, ◌<◌, ◌≤◌, ◌≡◌, List, Result, Ok, Err}
+use Rattle.std.specs.Borrow.{Bor}
+use Rattle.le.specs.Le.{le2, le4}
+use Rattle.refusal.specs.declared.Mode.{Mode}
+use Rattle.refusal.specs.declared.Mode.TheVariants.{Present, Checked}
+use Rattle.refusal.specs.declared.Refusal.{Refusal}
+use Rattle.refusal.specs.declared.Refusal.TheVariants.{NoSuchNumber, EndByte}
+use Rattle.walk.specs.Step.{parse_of}
+use Rattle.field.specs.declared.AdsFieldInfo.{AdsFieldInfo}
+use Rattle.field.specs.Field.{field_of}
+use Rattle.data_type.specs.declared.AdsDataTypeInfo.{AdsDataTypeInfo}
+use Rattle.data_type.specs.declared.array.AdsArrayInfo.{AdsArrayInfo}
+use Rattle.data_type.specs.Array.{numbered}
+use Rattle.data_type.specs.DataType.{type_of}
+
+-- what a field's record says of a data type
+abbrev pub as_field : AdsDataTypeInfo → AdsFieldInfo
+as_field r =
+    record {
+      length = r.length;
+      version = r.version;
+      hash_value = r.hash_value;
+      type_hash_value = r.type_hash_value;
+      size = r.size;
+      offset = r.offset;
+      type_id = r.type_id;
+      flags = r.flags;
+      name = r.name;
+      type_name = r.type_name;
+      comment = r.comment;
+      guid = r.guid;
+      attributes = r.attributes;
+    }
+
+-- what this reader accepts the field reader accepts, with the same record: both take the same bytes for array records, sub-items and tail
+abbrev pub TypesAsFields : Type 0
+TypesAsFields = (mode : Mode) (s : Bor (List ℕ)) (r : AdsDataTypeInfo) → parse_of 42 (type_of mode) s ≡ Ok r → parse_of 42 (field_of mode) s ≡ Ok (as_field r)
+
+-- where the strings end
+abbrev pub strings_end : List ℕ → ℕ
+strings_end s = 45 + le2 s 32 + le2 s 34 + le2 s 36
+
+abbrev pub array_at : List ℕ → ℕ → AdsArrayInfo
+array_at s at = record { lower_bound = le4 s at; elements = le4 s (at + 4) }
+
+-- the array records stand behind the strings, 8 bytes each: a number below their count in the header is answered by what stands there, and one past it is 14
+pub record IsArrays (s : List ℕ) (r : AdsDataTypeInfo) : Type 0 where
+  pub told : (k : ℕ) → k < le2 s 38 → numbered r.arrays k ≡ Ok (array_at s (strings_end s + 8 * k))
+  pub past : (k : ℕ) → le2 s 38 ≤ k → numbered r.arrays k ≡ Err (NoSuchNumber (le2 s 38) k)
+
+abbrev pub ArraysMeant : Type 0
+ArraysMeant = (mode : Mode) (s : Bor (List ℕ)) (r : AdsDataTypeInfo) → parse_of 42 (type_of mode) s ≡ Ok r → IsArrays s.now r
+
+-- docs/FORMAT.md, "Modes": what the checked mode reads the present mode reads alike, and what the present mode reads the checked mode reads alike or refuses
+-- by an end byte that is not 0
+abbrev pub TypesPresent : Type 0
+TypesPresent = (s : Bor (List ℕ)) (r : AdsDataTypeInfo) → parse_of 42 (type_of Checked) s ≡ Ok r → parse_of 42 (type_of Present) s ≡ Ok r
+
+pub data IsAlike {R : Type 0} (t : Result R Refusal) (r : R) : Type 0 where
+  same : t ≡ Ok r → IsAlike t r
+  ended : (place byte : ℕ) → (byte ≡ 0 → ⊥) → t ≡ Err (EndByte place byte) → IsAlike t r
+
+abbrev pub TypesChecked : Type 0
+TypesChecked = (s : Bor (List ℕ)) (r : AdsDataTypeInfo) → parse_of 42 (type_of Present) s ≡ Ok r → IsAlike (parse_of 42 (type_of Checked) s) r

@@ -1,0 +1,31 @@
+//! What the members of a data type are, by its bytes. There is nothing to run: each theorem is the contract of a function that does
+//! nothing, so that none goes unnoticed if its proof does.
+#![tactic(auto)]
+
+ghost use Rattle.data_type.specs.Stand.{TypesStand};
+ghost use Rattle.data_type.specs.Theorems.{TypesAsFields, ArraysMeant, TypesPresent, TypesChecked};
+
+/// Exactly what stands in the bytes as the layout says is read as a data type, as it stands.
+pub fn types_stand()
+    ensures { TypesStand }
+{}
+
+/// What is read as a data type is read as a field, with the same record.
+pub fn types_as_fields()
+    ensures { TypesAsFields }
+{}
+
+/// An array record by its number is what stands behind the strings, 8 bytes each; past their count it is 14.
+pub fn arrays_meant()
+    ensures { ArraysMeant }
+{}
+
+/// What the checked mode reads the present mode reads alike.
+pub fn types_present()
+    ensures { TypesPresent }
+{}
+
+/// What the present mode reads the checked mode reads alike, or refuses by an end byte that is not 0.
+pub fn types_checked()
+    ensures { TypesChecked }
+{}
