@@ -1,0 +1,4 @@
+pub mod Told
+pub mod Plain
+pub mod Kind
+pub mod Theorems
