@@ -3,3 +3,4 @@ pub mod Chain
 pub mod Direct
 pub mod Single
 pub mod Fields
+pub mod Types

@@ -6,3 +6,5 @@ pub mod Kind
 pub mod Alone
 pub mod Field
 pub mod FieldKind
+pub mod DataTypes
+pub mod DataTypesKind

@@ -5,6 +5,7 @@ pub mod alone;
 pub mod of_entry;
 pub mod of_field;
 pub mod of_symbol;
+pub mod of_type;
 
 ghost use Rattle.std.specs.Prelude.{◌≡◌, ◌+◌, ◌<◌, ◌^◌, length};
 ghost use Rattle.places.specs.Counted.{attribute_at, refactor_at};

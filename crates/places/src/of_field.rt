@@ -111,7 +111,7 @@ fn attributes_at(own: &[u8]) -> usize
 
 // Where the attributes of an entry begin, if so many bytes are left from the first of them on: only where none are, lengths are skipped again.
 #[inline(always)]
-fn attributes_before_end(own: &[u8], left: usize) -> usize
+pub(crate) fn attributes_before_end(own: &[u8], left: usize) -> usize
     requires { 42 ≤ length own.now }
     ensures { result ≡ attributes_before_end own.now left }
 {
