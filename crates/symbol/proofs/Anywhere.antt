@@ -23,10 +23,10 @@ use Rattle.symbol.specs.Told.{told_of, SymbolsAnywhere}
 use Rattle.symbol.specs.Symbol.{type_guid_flag, attributes_flag, extended_flags_flag, refactor_info_flag, guid_of, attributes_of, extended_of, extended_word, refactor_infos_of, with_strings, symbol_ended, ended_symbol, symbol_of}
 
 -- the same bytes at another place
-abbrev moved : ℕ × ℕ → Bor (List ℕ) → Bor (List ℕ)
+abbrev pub moved : ℕ × ℕ → Bor (List ℕ) → Bor (List ℕ)
 moved m s = record { ref_ptr = m; now = s.now }
 
-abbrev on : ℕ × ℕ → ℕ → ℕ × ℕ
+abbrev pub on : ℕ × ℕ → ℕ → ℕ × ℕ
 on m k = (m.0, m.1 + k)
 
 -- two answers of a reader: the same refusal, or values and the bytes after them, as many further on
@@ -158,7 +158,7 @@ infos_moved m s false = (m, m, refl)
 abbrev here : Bor (List ℕ) → Bor (List ℕ)
 here s = moved (0, 0) s
 
-abbrev still : AdsSymbolInfo → AdsSymbolInfo
+abbrev pub still : AdsSymbolInfo → AdsSymbolInfo
 still r = record {
   length = r.length;
   index_group = r.index_group;
@@ -214,7 +214,7 @@ read_by mode m e n t k why other true c = refl
 read_by mode m e n t k why other false true = refl
 read_by mode m e n t k why other false false = ended_still mode m e _ _ (strings_still m e n t k)
 
-read_still : (mode : Mode) (m : ℕ × ℕ) (e : Bor (List ℕ)) → map_ok still (symbol_of mode (moved m e)) ≡ map_ok still (symbol_of mode e)
+pub read_still : (mode : Mode) (m : ℕ × ℕ) (e : Bor (List ℕ)) → map_ok still (symbol_of mode (moved m e)) ≡ map_ok still (symbol_of mode e)
 unfolding symbol_of
 read_still mode m e =
     let n : ℕ = le2 e.now 24 in
