@@ -12,3 +12,6 @@ pub mod AsField
 pub mod Alike
 pub mod Numbers
 pub mod Stands
+pub mod Each
+pub mod Laid
+pub mod Meant

@@ -88,13 +88,13 @@ module _ (mode : Mode) where
       let b = below_depth p (end - length s.now) info.offset (omega arith) in
       item_reads (left - 1) left p end n s rest more held info (omega arith) h k (reads x (left - 1) (omega arith)) (reads y left l)
 
-record Took (s own behind : Bor (List ℕ)) : Type 0 where
-  least : 42 ≤ le4 s.now 0
-  room : le4 s.now 0 ≤ length s.now
-  own_is : own ≡ part s 0 (le4 s.now 0)
-  behind_is : behind ≡ after s (le4 s.now 0)
+pub record Took (s own behind : Bor (List ℕ)) : Type 0 where
+  pub least : 42 ≤ le4 s.now 0
+  pub room : le4 s.now 0 ≤ length s.now
+  pub own_is : own ≡ part s 0 (le4 s.now 0)
+  pub behind_is : behind ≡ after s (le4 s.now 0)
 
-took : (s own behind : Bor (List ℕ)) → taken s ≡ Ok (own, behind) → Took s own behind
+pub took : (s own behind : Bor (List ℕ)) → taken s ≡ Ok (own, behind) → Took s own behind
 unfolding taken
 took s own behind h = record { least = grind arith; room = grind arith; own_is = grind arith; behind_is = grind arith }
 

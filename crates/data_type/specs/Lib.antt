@@ -9,3 +9,4 @@ pub mod Left
 pub mod List
 pub mod Theorems
 pub mod Stand
+pub mod Meaning

@@ -1,7 +1,8 @@
 //! Array records: a dimension of an array each.
-ghost use Rattle.std.specs.Prelude.{◌≡◌};
+ghost use Rattle.std.specs.Prelude.{◌≡◌, ◌≤◌, length};
 ghost use Rattle.std.specs.Iterator.{YieldsFirst, item_count};
-ghost use Rattle.data_type.specs.Array.{listed, numbered};
+ghost use Rattle.part.specs.Slice.{after};
+ghost use Rattle.data_type.specs.Array.{first_of, listed, numbered};
 
 use refusal::Refusal;
 
@@ -23,6 +24,27 @@ pub struct ArrayInfos<'a> {
     pub count: usize,
 }
 
+/// The array record at the start of some bytes.
+#[inline(always)]
+fn first(bytes: &[u8]) -> AdsArrayInfo
+    requires { 8 ≤ length bytes.now }
+    ensures { result ≡ first_of bytes.now }
+{
+    AdsArrayInfo {
+        lower_bound: le::u32_at(bytes, 0),
+        elements: le::u32_at(bytes, 4),
+    }
+}
+
+/// What stands behind it.
+#[inline(always)]
+fn behind(bytes: &[u8]) -> &[u8]
+    requires { 8 ≤ length bytes.now }
+    ensures { result ≡ after bytes.entry 8 }
+{
+    &bytes[8..]
+}
+
 impl Iterator for ArrayInfos<'_> {
     type Item = AdsArrayInfo;
 
@@ -39,11 +61,8 @@ impl Iterator for ArrayInfos<'_> {
             self.count = 0;
             return None;
         }
-        let array = AdsArrayInfo {
-            lower_bound: le::u32_at(self.bytes, 0),
-            elements: le::u32_at(self.bytes, 4),
-        };
-        self.bytes = &self.bytes[8..];
+        let array = first(self.bytes);
+        self.bytes = behind(self.bytes);
         self.count -= 1;
         Some(array)
     }

@@ -1,7 +1,7 @@
 //! An entry is read through its list of sub-items, and each sub-item as an entry, with a level less below it.
 #![tactic(auto, unfolding(crate::specs::DataType::taken, crate::specs::DataType::arrays_of))]
 
-ghost use Rattle.std.specs.Prelude.{◌≡◌, ◌<◌, ◌^◌, IfOk};
+ghost use Rattle.std.specs.Prelude.{◌≡◌, ◌*◌, ◌<◌, ◌^◌, IfOk};
 ghost use Rattle.data_type.specs.DataType.{taken, arrays_of, item_at, items_from, type_at, SomeMembers, SomeItems};
 
 use crate::array::ArrayInfos;
@@ -38,13 +38,21 @@ pub fn taken(bytes: &[u8]) -> Result<(&[u8], &[u8]), Refusal>
     Ok((&bytes[..claim], &bytes[claim..]))
 }
 
+/// How many bytes the array records of an entry with this front fill.
+#[inline(always)]
+fn arrays_length(front: &Front<'_>) -> usize
+    ensures { result ≡ 8 * front.now.array_count }
+{
+    8 * front.array_count as usize
+}
+
 /// The array records of an entry with this front, and the bytes behind them.
 #[inline(always)]
 pub fn read_arrays<'a>(front: &Front<'a>) -> Result<(ArrayInfos<'a>, &'a [u8]), Refusal>
     requires { front.now.length < 2 ^ 63 }
     ensures { result ≡ arrays_of front.now }
 {
-    let needed = 8 * front.array_count as usize;
+    let needed = arrays_length(front);
     let available = front.rest.len();
     if available < needed {
         return Err(Refusal::EntryLengthMismatch {
@@ -97,7 +105,8 @@ fn read_items(first: &[u8], mode: Mode, left: usize, count: u16) -> Result<Items
     let mut todo = count;
     while 0 < todo {
         todo -= 1;
-        if left == 0 {
+        let deepest = left == 0;
+        if deepest {
             return Err(Refusal::TooDeep);
         }
         let (own, behind) = taken(done.rest)?;

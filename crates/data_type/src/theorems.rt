@@ -3,11 +3,17 @@
 #![tactic(auto)]
 
 ghost use Rattle.data_type.specs.Stand.{TypesStand};
+ghost use Rattle.data_type.specs.Meaning.{TypesMeant};
 ghost use Rattle.data_type.specs.Theorems.{TypesAsFields, ArraysMeant, TypesPresent, TypesChecked};
 
 /// Exactly what stands in the bytes as the layout says is read as a data type, as it stands.
 pub fn types_stand()
     ensures { TypesStand }
+{}
+
+/// The members of a data type that is read are the entries within its bytes, and all ways to ask for them tell the same.
+pub fn types_meant()
+    ensures { TypesMeant }
 {}
 
 /// What is read as a data type is read as a field, with the same record.

@@ -46,28 +46,28 @@ read_entry-returns-clause-few t c =
     let j = ap (λ (x : AdsDataTypeInfo). x.member_count) c.joined.ensures in
     omega (arith, f.rest, a, j, c.in_ok-items.ensures.few)
 
-pub read_items-returns-then-left-eq0-clause-value : goal.read_items-returns-then-left-eq0-clause-value
-read_items-returns-then-left-eq0-clause-value t c =
-    let d = turns.item_deep c.args.mode c.loop-todo.done.rest c.args.left c.if-left-eq0.true in
+pub read_items-returns-then-deepest-clause-value : goal.read_items-returns-then-deepest-clause-value
+read_items-returns-then-deepest-clause-value t c =
+    let d = turns.item_deep c.args.mode c.loop-todo.done.rest c.args.left c.if-deepest.true in
     sym (turns.items_refused (item_at c.args.mode c.args.left) c.loop-todo.done.members c.loop-todo.done.rest c.loop-todo.todo _ c.loop-todo-test.true d) ∙ c.loop-todo.invariant.told
 
 pub read_items-returns-in_err-own-clause-value : goal.read_items-returns-in_err-own-clause-value
 read_items-returns-in_err-own-clause-value t c =
     let e : c.from_residual.result ≡ Err c.in_err-own.field-0.0 = search rules in
-    let d = turns.item_untaken c.args.mode c.loop-todo.done.rest c.args.left c.in_err-own.field-0.0 c.if-left-eq0.false (sym c.taken.ensures ∙ c.in_err-own.was) in
+    let d = turns.item_untaken c.args.mode c.loop-todo.done.rest c.args.left c.in_err-own.field-0.0 c.if-deepest.false (sym c.taken.ensures ∙ c.in_err-own.was) in
     simp e (sym (turns.items_refused (item_at c.args.mode c.args.left) c.loop-todo.done.members c.loop-todo.done.rest c.loop-todo.todo _ c.loop-todo-test.true d) ∙ c.loop-todo.invariant.told)
 
 pub read_items-returns-in_err-item-clause-value : goal.read_items-returns-in_err-item-clause-value
 read_items-returns-in_err-item-clause-value t c =
     let e : c.from_residual-in_err-item.result ≡ Err c.in_err-item.field-0.0 = search rules in
     let k = sym c.taken.ensures ∙ c.in_ok-own.was in
-    let d = turns.item_unread c.args.mode c.loop-todo.done.rest c.args.left c.in_ok-own.own c.in_ok-own.behind c.in_err-item.field-0.0 c.if-left-eq0.false k (sym c.read_entry.ensures.value ∙ c.in_err-item.was) in
+    let d = turns.item_unread c.args.mode c.loop-todo.done.rest c.args.left c.in_ok-own.own c.in_ok-own.behind c.in_err-item.field-0.0 c.if-deepest.false k (sym c.read_entry.ensures.value ∙ c.in_err-item.was) in
     simp e (sym (turns.items_refused (item_at c.args.mode c.args.left) c.loop-todo.done.members c.loop-todo.done.rest c.loop-todo.todo _ c.loop-todo-test.true d) ∙ c.loop-todo.invariant.told)
 
 pub read_items-loop-todo-preserved : goal.read_items-loop-todo-preserved
 read_items-loop-todo-preserved t c =
     let k = sym c.taken.ensures ∙ c.in_ok-own.was in
-    let d = turns.item_read c.args.mode c.loop-todo.done.rest c.args.left c.in_ok-own.own c.in_ok-own.behind c.in_ok-item.item c.if-left-eq0.false k (sym c.read_entry.ensures.value ∙ c.in_ok-item.was) in
+    let d = turns.item_read c.args.mode c.loop-todo.done.rest c.args.left c.in_ok-own.own c.in_ok-own.behind c.in_ok-item.item c.if-deepest.false k (sym c.read_entry.ensures.value ∙ c.in_ok-item.was) in
     let l = turns.taken_fits c.loop-todo.done.rest c.in_ok-own.own c.in_ok-own.behind k in
     record {
       told = sym (turns.items_step (item_at c.args.mode c.args.left) c.loop-todo.done.members c.loop-todo.done.rest c.loop-todo.todo c.in_ok-item.item c.in_ok-own.behind c.loop-todo-test.true d) ∙ c.loop-todo.invariant.told;
