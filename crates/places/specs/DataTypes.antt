@@ -7,9 +7,15 @@ use Rattle.walk.specs.Mapped.{map_ok}
 use Rattle.data_type.specs.declared.AdsDataTypeInfo.{AdsDataTypeInfo}
 use Rattle.data_type.specs.DataType.{type_of}
 use Rattle.places.specs.declared.AttributePlaces.{AttributePlaces}
+use Rattle.data_type.specs.Theorems.{as_field}
+use Rattle.places.specs.declared.of_field.PlacedField.{PlacedField}
 use Rattle.places.specs.declared.of_type.PlacedType.{PlacedType}
 use Rattle.places.specs.Field.{attributes_at}
 use Rattle.places.specs.Entry.{entry_attribute, entry_attribute_named}
+
+-- what it has as a field has it
+abbrev pub field_of_type : PlacedType → PlacedField
+field_of_type p = record { field = as_field p.data_type; attributes_at = p.attributes_at }
 
 -- a data type with that place
 abbrev pub placed : Bor (List ℕ) → AdsDataTypeInfo → PlacedType

@@ -1,7 +1,6 @@
 //! Where a data type's attributes begin.
 ghost use Rattle.std.specs.Prelude.{◌≡◌, ◌≤◌, length};
-ghost use Rattle.data_type.specs.Theorems.{as_field};
-ghost use Rattle.places.specs.DataTypes.{placed_of};
+ghost use Rattle.places.specs.DataTypes.{field_of_type, placed_of};
 ghost use Rattle.places.specs.DataTypesKind.{attributes_at_end, four, long, room, short, never_zero};
 
 use crate::of_entry::Attributed;
@@ -24,8 +23,7 @@ impl<'a> PlacedType<'a> {
     /// What it has as a field has it.
     #[inline(always)]
     pub fn as_field(&self) -> PlacedField<'a>
-        ensures field { result.field ≡ as_field self.now.data_type }
-        ensures attributes_at { result.attributes_at ≡ self.now.attributes_at }
+        ensures { result ≡ field_of_type self.now }
     {
         let own = &self.data_type;
         PlacedField {

@@ -30,10 +30,10 @@ module _ {R : Type 0} (read : Bor (List ℕ) → Result R Refusal) (Holds : R �
   by_size own None r h = cc
   by_size own (Some c) r h = by_claim own c r (cc)
 
-  of_parsed : (header : ℕ) (s : Bor (List ℕ)) (r : R) → parse_of header read s ≡ Ok r → Holds r
+  pub of_parsed : (header : ℕ) (s : Bor (List ℕ)) (r : R) → parse_of header read s ≡ Ok r → Holds r
   of_parsed header s r h = by_claim (λ size. part s 0 size) (claim_of header s.now) r h
 
-  of_stepped : (s : Bor (List ℕ)) (at : ℕ) (r : R) → (step_at read s at).answer ≡ Some (Ok r) → Holds r
+  pub of_stepped : (s : Bor (List ℕ)) (at : ℕ) (r : R) → (step_at read s at).answer ≡ Some (Ok r) → Holds r
   unfolding step_at
   of_stepped s at r h = by_size (λ size. part s at size) (claim_at s.now at).size r h
 

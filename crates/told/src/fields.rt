@@ -11,9 +11,10 @@ use places::of_field::PlacedField;
 use refusal::Mode;
 use walk::Cursor;
 
+/// The slots of a field.
 #[inline(always)]
 #[tactic(auto, unfolding(crate::specs::Slots::field_slots))]
-fn field_slots(placed: &PlacedField<'_>) -> [u64; 17]
+pub fn field_slots(placed: &PlacedField<'_>) -> [u64; 17]
     requires { IsFieldShown placed.now.field }
     ensures { result ≡ field_slots placed.now }
 {

@@ -1,2 +1,3 @@
-pub mod Told
+pub mod Asked
 pub mod Slots
+pub mod Shown

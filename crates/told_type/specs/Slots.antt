@@ -1,44 +1,34 @@
--- What the slots of a data type hold, in order, and what lent slots, GUID bytes and path hold after a call: as they were unless there is a record.
-use Rattle.std.specs.Prelude.{ℕ, List, [], ◌∷◌, ◌++◌}
-use Rattle.old_data_type.specs.declared.AdsDataTypeInfo.{AdsDataTypeInfo}
-use Rattle.old_data_type.specs.Questions.{arraysAt}
-use Rattle.data_type_info.specs.declared.ArrayAnswer.{ArrayAnswer}
-use Rattle.data_type_info.specs.declared.ArrayAnswer.TheVariants as array
-use Rattle.member_info.specs.declared.MemberAnswer.{MemberAnswer}
-use Rattle.member_info.specs.declared.MemberAnswer.TheVariants as member
-use Rattle.data_type_walk.specs.declared.Step.{Step}
-use Rattle.data_type_walk.specs.declared.Step.TheVariants as step
-use Rattle.told.specs.Older.{fieldSlots}
+-- What the slots of a data type hold, in order, and those of an array record and of a member's path.
+use Rattle.std.specs.Prelude.{ℕ, ◌+◌, List, [], ◌∷◌, ◌++◌, length}
+use Rattle.data_type.specs.declared.AdsDataTypeInfo.{AdsDataTypeInfo}
+use Rattle.data_type.specs.declared.array.AdsArrayInfo.{AdsArrayInfo}
+use Rattle.places.specs.declared.of_type.PlacedType.{PlacedType}
+use Rattle.places.specs.DataTypes.{field_of_type}
+use Rattle.told.specs.Slots.{field_slots, guid_bytes}
+use Rattle.told_type.specs.declared.PlacedMember.{PlacedMember}
+
+-- where the strings end, and the array records begin
+abbrev pub arrays_at : AdsDataTypeInfo → ℕ
+arrays_at r = 45 + length r.name.now + length r.type_name.now + length r.comment.now
 
 -- those of a field, and what a data type has besides
-unfoldable pub typeSlots : AdsDataTypeInfo → List ℕ
-typeSlots r = fieldSlots r.field ++ (arraysAt r ∷ r.array_count ∷ r.sub_item_count ∷ r.members ∷ [])
+unfoldable pub type_slots : PlacedType → List ℕ
+type_slots p =
+    field_slots (field_of_type p)
+    ++ (arrays_at p.data_type ∷ p.data_type.arrays.count ∷ p.data_type.sub_items.count ∷ p.data_type.member_count ∷ [])
 
--- the slots after a read or a step, which held `old`
-abbrev pub typeSlotsAfter : Step → List ℕ → List ℕ
-typeSlotsAfter step.Finished old = old
-typeSlotsAfter (step.Record info) old = typeSlots info
-typeSlotsAfter (step.Refused why) old = old
+abbrev pub type_guid : PlacedType → List ℕ
+type_guid p = guid_bytes p.data_type.guid
 
--- the lent GUID bytes, which held `old`, where the record's are `new`
-abbrev pub typeGuidAfter : Step → List ℕ → List ℕ → List ℕ
-typeGuidAfter step.Finished new old = old
-typeGuidAfter (step.Record info) new old = new
-typeGuidAfter (step.Refused why) new old = old
-
-abbrev pub arraySlotsAfter : ArrayAnswer → List ℕ → List ℕ
-arraySlotsAfter (array.Record r) old = r.lower_bound ∷ r.elements ∷ []
-arraySlotsAfter (array.Refused why) old = old
+abbrev pub array_slots : AdsArrayInfo → List ℕ
+array_slots a = a.lower_bound ∷ a.elements ∷ []
 
 -- of a member: the slots of its record, its GUID bytes, and its depth, its offset from the root's start and its path
-abbrev pub memberSlotsAfter : MemberAnswer → List ℕ → List ℕ
-memberSlotsAfter (member.Record m) old = typeSlots m.info
-memberSlotsAfter (member.Refused why) old = old
+abbrev pub member_slots : PlacedMember → List ℕ
+member_slots m = type_slots m.placed
 
-abbrev pub memberGuidAfter : MemberAnswer → List ℕ → List ℕ → List ℕ
-memberGuidAfter (member.Record m) new old = new
-memberGuidAfter (member.Refused why) new old = old
+abbrev pub member_guid : PlacedMember → List ℕ
+member_guid m = type_guid m.placed
 
-abbrev pub memberPathAfter : MemberAnswer → List ℕ → List ℕ → List ℕ
-memberPathAfter (member.Record m) path old = m.depth ∷ m.offset ∷ path
-memberPathAfter (member.Refused why) path old = old
+abbrev pub path_slots : PlacedMember → List ℕ
+path_slots m = m.position.depth ∷ m.position.offset ∷ m.position.path

@@ -1,24 +1,38 @@
-// Answers about data types, told in numbers: what crosses to C is made here, over what crate told has.
-#![tactic(auto, unfolding(crate::specs::Slots::typeSlots, told::specs::Older::fieldSlots))]
+//! Data types, told in numbers: what crosses to C is made here, over what crate told has.
+#![tactic(auto)]
 
 ghost use Rattle.std.specs.Prelude.{◌≡◌, ◌∷◌};
-ghost use Rattle.data_type_walk.specs.Walk.{stepIs};
-ghost use Rattle.told.specs.Told.{Tells};
-ghost use Rattle.told_type.specs.Told.{typeTold, arrayTold, memberTold};
-ghost use Rattle.told_type.specs.Slots.{typeSlots, typeSlotsAfter, typeGuidAfter, arraySlotsAfter, memberSlotsAfter, memberGuidAfter, memberPathAfter};
+ghost use Rattle.walk.specs.Step.{parse_of, step_at};
+ghost use Rattle.places.specs.DataTypes.{placed_of};
+ghost use Rattle.told.specs.Told.{Tells, done, record_told, step_told};
+ghost use Rattle.told.specs.Slots.{slots_after, step_after};
+ghost use Rattle.told_type.specs.Asked.{type_array, type_member};
+ghost use Rattle.told_type.specs.Slots.{type_slots, type_guid, array_slots, member_slots, member_guid, path_slots};
+ghost use Rattle.told_type.specs.Shown.{IsTypeShown};
 
-use data_type_info::ArrayAnswer;
-use data_type_walk::{Step, Stepped};
-use member_info::{MemberAnswer, MemberRead};
-use old_data_type::{AdsDataTypeInfo, TypeAnswer, TypeRead};
+use data_type::AdsDataTypeInfo;
+use data_type::array::AdsArrayInfo;
+use data_type::members::Position;
+use places::of_type::PlacedType;
+use refusal::{Mode, Refusal};
+use walk::{Cursor, Entry};
 
-fn type_slots(info: AdsDataTypeInfo) -> [u64; 21]
-    ensures { result ≡ typeSlots info }
+/// A member of a data type, with what its own bytes are read as.
+#[derive(Clone, Copy, Debug)]
+pub struct PlacedMember<'a> {
+    /// Where it stands in the data type.
+    pub position: Position,
+    /// What it is.
+    pub placed: PlacedType<'a>,
+}
+
+#[inline(always)]
+fn type_slots(placed: &PlacedType<'_>) -> [u64; 21]
+    requires { IsTypeShown placed.now }
+    ensures { result ≡ type_slots placed.now }
 {
-    let field = info.field;
-    let comment = field.comment_len;
-    let strings = told::older::third_at(45, field.name_len, field.type_name_len);
-    let f = told::older::field_slots(field);
+    let own = &placed.data_type;
+    let f = told::fields::field_slots(&placed.as_field());
     [
         f[0],
         f[1],
@@ -37,87 +51,115 @@ fn type_slots(info: AdsDataTypeInfo) -> [u64; 21]
         f[14],
         f[15],
         f[16],
-        strings + (comment as u64),
-        info.array_count as u64,
-        info.sub_item_count as u64,
-        info.members as u64,
+        (45 + own.name.len() + own.type_name.len() + own.comment.len()) as u64,
+        own.arrays.count as u64,
+        own.sub_items.count as u64,
+        own.member_count as u64,
     ]
 }
 
-// The slots and the GUID's bytes are told where there is a record.
-fn type_told(
-    step: Step,
-    bytes: [u8; 16],
+// A data type, told. Put into its callers, as a symbol is.
+#[inline(always)]
+fn data_type(
+    placed: &PlacedType<'_>,
     slots: &mut [u64; 21],
     guid: &mut [u8; 16],
     answer: &mut [u64; 2],
 ) -> u32
-    ensures tells { Tells (typeTold step) result answer.new }
-    ensures slots_after { slots.new ≡ typeSlotsAfter step slots.old }
-    ensures guid_after { guid.new ≡ typeGuidAfter step bytes guid.old }
+    requires { IsTypeShown placed.now }
+    ensures tells { Tells (done 0 0) result answer.new }
+    ensures slots_after { slots.new ≡ type_slots placed.now }
+    ensures guid_after { guid.new ≡ type_guid placed.now }
 {
-    match step {
-        Step::Finished => told::tell(told::FINISHED, 0, 0, answer),
-        Step::Record(info) => {
-            *slots = type_slots(info);
-            *guid = bytes;
-            told::tell(told::DONE, 0, 0, answer)
-        }
-        Step::Refused(why) => told::refused(why, answer),
-    }
+    *slots = type_slots(placed);
+    *guid = placed.data_type.guid.unwrap_or([0; 16]);
+    told::tell(told::DONE, 0, 0, answer)
 }
 
-pub fn type_read(
-    read: TypeRead,
+/// The data type at the start of some bytes.
+#[tactic(auto, using(crate::proofs::Shown::parsed_shown))]
+pub fn read(
+    bytes: &[u8],
+    mode: Mode,
     slots: &mut [u64; 21],
     guid: &mut [u8; 16],
     answer: &mut [u64; 2],
 ) -> u32
-    ensures tells { Tells (typeTold (stepIs read.answer)) result answer.new }
-    ensures slots_after { slots.new ≡ typeSlotsAfter (stepIs read.answer) slots.old }
-    ensures guid_after { guid.new ≡ typeGuidAfter (stepIs read.answer) read.guid guid.old }
+    ensures tells { Tells (record_told (parse_of 42 (placed_of mode) bytes.entry)) result answer.new }
+    ensures slots_after { slots.new ≡ slots_after type_slots (parse_of 42 (placed_of mode) bytes.entry) slots.old }
+    ensures guid_after { guid.new ≡ slots_after type_guid (parse_of 42 (placed_of mode) bytes.entry) guid.old }
 {
-    let bytes = read.guid;
-    let what = read.answer;
-    match what {
-        TypeAnswer::Record(info) => type_told(Step::Record(info), bytes, slots, guid, answer),
-        TypeAnswer::Refused(why) => told::refused(why, answer),
+    match walk::parse::<PlacedType>(bytes, mode) {
+        Ok(found) => data_type(&found, slots, guid, answer),
+        Err(why) => told::refused(why, answer),
     }
 }
 
-pub fn type_step(
-    done: Stepped,
+/// A step of the walk over data types.
+#[tactic(auto, using(crate::proofs::Shown::stepped_shown))]
+pub fn step(
+    bytes: &[u8],
+    mode: Mode,
     cursor: &mut usize,
     slots: &mut [u64; 21],
     guid: &mut [u8; 16],
     answer: &mut [u64; 2],
 ) -> u32
-    ensures tells { Tells (typeTold done.step) result answer.new }
-    ensures cursor_after { cursor.new ≡ done.cursor.at }
-    ensures slots_after { slots.new ≡ typeSlotsAfter done.step slots.old }
-    ensures guid_after { guid.new ≡ typeGuidAfter done.step done.guid guid.old }
+    ensures tells { Tells (step_told (step_at (placed_of mode) bytes.entry cursor.old).answer) result answer.new }
+    ensures cursor_after { cursor.new ≡ (step_at (placed_of mode) bytes.entry cursor.old).cursor.at }
+    ensures slots_after { slots.new ≡ step_after type_slots (step_at (placed_of mode) bytes.entry cursor.old).answer slots.old }
+    ensures guid_after { guid.new ≡ step_after type_guid (step_at (placed_of mode) bytes.entry cursor.old).answer guid.old }
 {
-    let next = done.cursor;
-    *cursor = next.at;
-    let bytes = done.guid;
-    let step = done.step;
-    type_told(step, bytes, slots, guid, answer)
-}
-
-pub fn array(a: ArrayAnswer, slots: &mut [u64; 2], answer: &mut [u64; 2]) -> u32
-    ensures tells { Tells (arrayTold a) result answer.new }
-    ensures slots_after { slots.new ≡ arraySlotsAfter a slots.old }
-{
-    match a {
-        ArrayAnswer::Record(r) => {
-            *slots = [r.lower_bound as u64, r.elements as u64];
-            told::tell(told::DONE, 0, 0, answer)
-        }
-        ArrayAnswer::Refused(why) => told::refused(why, answer),
+    let from = Cursor { at: *cursor };
+    let stepped = from.step::<PlacedType>(bytes, mode);
+    *cursor = stepped.cursor.at;
+    match stepped.answer {
+        None => told::tell(told::FINISHED, 0, 0, answer),
+        Some(Ok(found)) => data_type(&found, slots, guid, answer),
+        Some(Err(why)) => told::refused(why, answer),
     }
 }
 
-fn path_slots(depth: usize, offset: u64, path: [u32; 15]) -> [u64; 17]
+fn find_array(bytes: &[u8], mode: Mode, number: usize) -> Result<AdsArrayInfo, Refusal>
+    ensures { result ≡ type_array mode bytes.entry number }
+{
+    let found = walk::parse::<AdsDataTypeInfo>(bytes, mode)?;
+    found.arrays.get(number)
+}
+
+/// The array record with a number, counted from 0, of the data type at the start of some bytes.
+pub fn array(
+    bytes: &[u8],
+    mode: Mode,
+    number: usize,
+    slots: &mut [u64; 2],
+    answer: &mut [u64; 2],
+) -> u32
+    ensures tells { Tells (record_told (type_array mode bytes.entry number)) result answer.new }
+    ensures slots_after { slots.new ≡ slots_after array_slots (type_array mode bytes.entry number) slots.old }
+{
+    match find_array(bytes, mode, number) {
+        Ok(found) => {
+            *slots = [found.lower_bound as u64, found.elements as u64];
+            told::tell(told::DONE, 0, 0, answer)
+        }
+        Err(why) => told::refused(why, answer),
+    }
+}
+
+fn find_member(bytes: &[u8], mode: Mode, number: usize) -> Result<PlacedMember<'_>, Refusal>
+    ensures { result ≡ type_member mode bytes.entry number }
+{
+    let root = walk::parse::<AdsDataTypeInfo>(bytes, mode)?;
+    let member = root.member(number)?;
+    let placed = PlacedType::read(member.own, mode)?;
+    Ok(PlacedMember {
+        position: member.position,
+        placed,
+    })
+}
+
+fn path_slots(depth: usize, offset: u64, path: [usize; 15]) -> [u64; 17]
     ensures { result ≡ depth ∷ offset ∷ path }
 {
     [
@@ -141,28 +183,28 @@ fn path_slots(depth: usize, offset: u64, path: [u32; 15]) -> [u64; 17]
     ]
 }
 
+/// The member with a number, counted from 0, of the data type at the start of some bytes.
+#[tactic(auto, using(crate::proofs::Shown::member_shown))]
 pub fn member(
-    read: MemberRead,
+    bytes: &[u8],
+    mode: Mode,
+    number: usize,
     slots: &mut [u64; 21],
     guid: &mut [u8; 16],
     path: &mut [u64; 17],
     answer: &mut [u64; 2],
 ) -> u32
-    ensures tells { Tells (memberTold read.answer) result answer.new }
-    ensures slots_after { slots.new ≡ memberSlotsAfter read.answer slots.old }
-    ensures guid_after { guid.new ≡ memberGuidAfter read.answer read.guid guid.old }
-    ensures path_after { path.new ≡ memberPathAfter read.answer read.path path.old }
+    ensures tells { Tells (record_told (type_member mode bytes.entry number)) result answer.new }
+    ensures slots_after { slots.new ≡ slots_after member_slots (type_member mode bytes.entry number) slots.old }
+    ensures guid_after { guid.new ≡ slots_after member_guid (type_member mode bytes.entry number) guid.old }
+    ensures path_after { path.new ≡ slots_after path_slots (type_member mode bytes.entry number) path.old }
 {
-    let bytes = read.guid;
-    let places = read.path;
-    let what = read.answer;
-    match what {
-        MemberAnswer::Record(m) => {
-            *slots = type_slots(m.info);
-            *guid = bytes;
-            *path = path_slots(m.depth, m.offset, places);
-            told::tell(told::DONE, 0, 0, answer)
+    match find_member(bytes, mode, number) {
+        Ok(found) => {
+            let position = found.position;
+            *path = path_slots(position.depth, position.offset, position.path);
+            data_type(&found.placed, slots, guid, answer)
         }
-        MemberAnswer::Refused(why) => told::refused(why, answer),
+        Err(why) => told::refused(why, answer),
     }
 }
