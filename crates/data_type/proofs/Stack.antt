@@ -5,8 +5,11 @@ use Rattle.std.proofs.Math.Seq.{take-suc, take-suc-set}
 use Rattle.data_type.specs.declared.level.Level.{Level}
 use Rattle.data_type.specs.declared.members.Member.{Member}
 use Rattle.data_type.specs.Members.{members_below}
-use Rattle.data_type.specs.Level.{level_left, Gives}
+use Rattle.data_type.specs.Level.{cut, level_left, Gives}
+use Rattle.std.specs.Prelude.{true, eqb}
+use borrow.Author.Tests.{eqb-true}
 use Rattle.data_type.specs.Left.{stack_left}
+use Rattle.data_type.proofs.Steps.{none_left}
 
 pub left_last : (s : Bor (List ℕ)) (n : ℕ) (ls : List Level) (l : Level) → stack_left n s (ls ++ (l ∷ [])) ≡ level_left (n - length ls) s l ++ stack_left n s ls
 unfolding stack_left
@@ -60,3 +63,6 @@ module _ (s : Bor (List ℕ)) (ls : List Level) (used : ℕ) (d new : Level) (so
       ∙ ap (λ (ms : List Member). ms ++ stack_left 15 s (take (used - 1) ls)) (g (15 - used))
       ∙ ap (λ (ms : List Member). m ∷ ms) (append_assoc (level_left (15 - used) s held) (level_left (suc (15 - used)) s new) (stack_left 15 s (take (used - 1) ls))
       ∙ ap (λ (ms : List Member). level_left (15 - used) s held ++ ms) (sym (changed s ls used new some there room)))
+
+pub empty_not_pushed : (s : Bor (List ℕ)) (ls : List Level) (used : ℕ) (l : Level) → eqb l.count 0 ≡ true → level_left (15 - used) s l ++ stack_left 15 s (take used ls) ≡ stack_left 15 s (take used ls)
+empty_not_pushed s ls used l h = simp (none_left l.above l.end (cut s l.at l.stop) (15 - used) l.count (eqb-true l.count 0 h))

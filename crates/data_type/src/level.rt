@@ -1,7 +1,7 @@
 //! What is left to give of the members of one entry.
 #![tactic(auto)]
 
-ghost use Rattle.std.specs.Prelude.{ℕ, ◌≡◌, ◌≤◌, ◌*◌};
+ghost use Rattle.std.specs.Prelude.{ℕ, ◌≡◌, ◌≤◌, ◌*◌, eqb};
 
 use crate::members::{Member, Position, item_in};
 
@@ -37,6 +37,14 @@ impl Level {
             end,
             count,
         }
+    }
+
+    /// Whether no sub-item is left.
+    #[inline(always)]
+    pub fn is_empty(&self) -> bool
+        ensures { result ≡ eqb self.now.count 0 }
+    {
+        self.count == 0
     }
 
     /// The next member, and what it holds in turn.

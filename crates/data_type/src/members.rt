@@ -121,13 +121,13 @@ impl<'a> Members<'a> {
     ghost use Rattle.data_type.specs.Left.{stack_left, members_left};
 
     // Lays a level on the first so many. There is nothing below the deepest.
-    #[tactic(auto, using(crate::proofs::Stack::pushed, crate::proofs::Stack::not_pushed))]
+    #[tactic(auto, using(crate::proofs::Stack::pushed, crate::proofs::Stack::not_pushed, crate::proofs::Stack::empty_not_pushed))]
     #[inline(always)]
     fn push(&mut self, used: usize, held: Level)
         requires { used ≤ 15 }
         ensures { members_left self.new ≡ level_left (15 - used) self.old.bytes held ++ stack_left 15 self.old.bytes (take used self.old.levels) }
     {
-        if used < 15 {
+        if used < 15 && !held.is_empty() {
             self.levels[used] = held;
             self.used = used + 1;
         } else {
@@ -151,9 +151,8 @@ impl<'a> Iterator for Members<'a> {
         let mut used = self.used.min(15);
         while used > 0 {
             let top = used - 1;
-            let mut level = self.levels[top];
-            if let Some((member, held)) = level.step(self.bytes) {
-                self.levels[top] = level;
+            let bytes = self.bytes;
+            if let Some((member, held)) = self.levels[top].step(bytes) {
                 self.push(used, held);
                 return Some(member);
             }

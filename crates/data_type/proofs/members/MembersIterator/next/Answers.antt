@@ -1,4 +1,5 @@
-use Rattle.std.proofs.Common.{◌≡◌, ◌<◌, ◌∷◌, List, ℕ, length, take, refl, sym, ap, ◌∙◌, arith, rules}
+use Rattle.std.proofs.Common.{◌≡◌, ◌-◌, ◌<◌, ◌∷◌, List, ℕ, length, take, refl, sym, ap, ◌∙◌, arith, rules}
+use Rattle.std.proofs.lemmas.List.{take-set}
 use Rattle.data_type.specs.declared.members.Member.{Member}
 use Rattle.data_type.specs.Left.{stack_left, members_left}
 use Rattle.data_type.proofs.Stack.{step_none, step_some}
@@ -18,7 +19,7 @@ returns-in-Some-clause-goes c =
 
 pub loop-used-preserved : goal.loop-used-preserved
 loop-used-preserved c = record {
-  left = step_none c.loop-used.self.bytes c.loop-used.self.levels c.loop-used.used c.index-self-top.result c.step.new.self c.loop-used-test.true (omega arith) c.loop-used.invariant.room c.in_default.ensures ∙ c.loop-used.invariant.left;
+  left = ap (stack_left 15 c.loop-used.self.bytes) (take-set c.loop-used.self.levels (c.loop-used.used - 1) _) ∙ step_none c.loop-used.self.bytes c.loop-used.self.levels c.loop-used.used c.index-self-top.result c.step.new.self c.loop-used-test.true (omega arith) c.loop-used.invariant.room c.in_default.ensures ∙ c.loop-used.invariant.left;
   room = omega (arith, c.loop-used.invariant.room);
 }
 
