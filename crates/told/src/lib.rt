@@ -2,7 +2,6 @@
 #![tactic(auto)]
 
 pub mod fields;
-pub mod older;
 pub mod symbols;
 pub mod theorems;
 

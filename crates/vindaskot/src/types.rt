@@ -1,15 +1,15 @@
 // The calls about whole data types. Each takes the mode: there is none that leaves it out.
 ghost use Rattle.std.specs.Prelude.{◌≡◌};
-ghost use Rattle.old_data_type.specs.DataType.{typeRead, read_of};
-ghost use Rattle.old_data_type.specs.Questions.{typeAttribute, typeAttributeNamed};
-ghost use Rattle.data_type_info.specs.Arrays.{typeArray};
-ghost use Rattle.member_info.specs.Member.{memberOf};
-ghost use Rattle.member_list.specs.Slots.{membersWriting};
-ghost use Rattle.data_type_walk.specs.Walk.{stepIs, typeStep};
-ghost use Rattle.told.specs.Told.{Tells};
-ghost use Rattle.told.specs.Older.{WrittenTold, attributeTold, attributeSlotsAfter};
-ghost use Rattle.told_type.specs.Told.{typeTold, arrayTold, memberTold};
-ghost use Rattle.told_type.specs.Slots.{typeSlotsAfter, typeGuidAfter, arraySlotsAfter, memberSlotsAfter, memberGuidAfter, memberPathAfter};
+ghost use Rattle.walk.specs.Step.{parse_of, step_at};
+ghost use Rattle.data_type.specs.List.{members_written};
+ghost use Rattle.places.specs.DataTypes.{placed_of, type_attribute, type_attribute_named};
+ghost use Rattle.told.specs.Told.{Tells, WritesTold, mode_of, record_told, step_told};
+ghost use Rattle.told.specs.Slots.{slots_after, step_after, attribute_slots};
+ghost use Rattle.told_type.specs.Asked.{type_array, type_member};
+ghost use Rattle.told_type.specs.Slots.{type_slots, type_guid, array_slots, member_slots, member_guid, path_slots};
+
+use data_type::AdsDataTypeInfo;
+use told::mode;
 
 #[unsafe(no_mangle)]
 pub extern "C" fn vindaskot_type_read_in(
@@ -19,16 +19,11 @@ pub extern "C" fn vindaskot_type_read_in(
     guid: &mut [u8; 16],
     answer: &mut [u64; 2],
 ) -> u32
-    ensures tells { Tells (typeTold (stepIs (read_of (typeRead checked bytes.now)).answer)) result answer.new }
-    ensures slots_after { slots.new ≡ typeSlotsAfter (stepIs (read_of (typeRead checked bytes.now)).answer) slots.old }
-    ensures guid_after { guid.new ≡ typeGuidAfter (stepIs (read_of (typeRead checked bytes.now)).answer) (read_of (typeRead checked bytes.now)).guid guid.old }
+    ensures tells { Tells (record_told (parse_of 42 (placed_of (mode_of checked)) bytes.entry)) result answer.new }
+    ensures slots_after { slots.new ≡ slots_after type_slots (parse_of 42 (placed_of (mode_of checked)) bytes.entry) slots.old }
+    ensures guid_after { guid.new ≡ slots_after type_guid (parse_of 42 (placed_of (mode_of checked)) bytes.entry) guid.old }
 {
-    told_type::type_read(
-        data_type_info::try_from_slice(bytes, checked),
-        slots,
-        guid,
-        answer,
-    )
+    told_type::read(bytes, mode(checked), slots, guid, answer)
 }
 
 #[unsafe(no_mangle)]
@@ -40,13 +35,12 @@ pub extern "C" fn vindaskot_type_step_in(
     guid: &mut [u8; 16],
     answer: &mut [u64; 2],
 ) -> u32
-    ensures tells { Tells (typeTold (typeStep checked bytes.now cursor.old).step) result answer.new }
-    ensures cursor_after { cursor.new ≡ (typeStep checked bytes.now cursor.old).cursor.at }
-    ensures slots_after { slots.new ≡ typeSlotsAfter (typeStep checked bytes.now cursor.old).step slots.old }
-    ensures guid_after { guid.new ≡ typeGuidAfter (typeStep checked bytes.now cursor.old).step (typeStep checked bytes.now cursor.old).guid guid.old }
+    ensures tells { Tells (step_told (step_at (placed_of (mode_of checked)) bytes.entry cursor.old).answer) result answer.new }
+    ensures cursor_after { cursor.new ≡ (step_at (placed_of (mode_of checked)) bytes.entry cursor.old).cursor.at }
+    ensures slots_after { slots.new ≡ step_after type_slots (step_at (placed_of (mode_of checked)) bytes.entry cursor.old).answer slots.old }
+    ensures guid_after { guid.new ≡ step_after type_guid (step_at (placed_of (mode_of checked)) bytes.entry cursor.old).answer guid.old }
 {
-    let from = data_type_walk::Cursor { at: *cursor };
-    told_type::type_step(from.step(bytes, checked), cursor, slots, guid, answer)
+    told_type::step(bytes, mode(checked), cursor, slots, guid, answer)
 }
 
 #[unsafe(no_mangle)]
@@ -57,10 +51,10 @@ pub extern "C" fn vindaskot_type_array_in(
     slots: &mut [u64; 2],
     answer: &mut [u64; 2],
 ) -> u32
-    ensures tells { Tells (arrayTold (typeArray checked bytes.now number)) result answer.new }
-    ensures slots_after { slots.new ≡ arraySlotsAfter (typeArray checked bytes.now number) slots.old }
+    ensures tells { Tells (record_told (type_array (mode_of checked) bytes.entry number)) result answer.new }
+    ensures slots_after { slots.new ≡ slots_after array_slots (type_array (mode_of checked) bytes.entry number) slots.old }
 {
-    told_type::array(data_type_info::array(bytes, checked, number), slots, answer)
+    told_type::array(bytes, mode(checked), number, slots, answer)
 }
 
 #[unsafe(no_mangle)]
@@ -71,11 +65,11 @@ pub extern "C" fn vindaskot_type_attribute_in(
     slots: &mut [u64; 5],
     answer: &mut [u64; 2],
 ) -> u32
-    ensures tells { Tells (attributeTold (typeAttribute checked bytes.now number)) result answer.new }
-    ensures slots_after { slots.new ≡ attributeSlotsAfter (typeAttribute checked bytes.now number) slots.old }
+    ensures tells { Tells (record_told (type_attribute (mode_of checked) bytes.entry number)) result answer.new }
+    ensures slots_after { slots.new ≡ slots_after attribute_slots (type_attribute (mode_of checked) bytes.entry number) slots.old }
 {
-    told::older::attribute(
-        data_type_info::attribute(bytes, checked, number),
+    told::attribute(
+        places::of_entry::entry_attribute::<AdsDataTypeInfo>(bytes, mode(checked), number),
         slots,
         answer,
     )
@@ -89,11 +83,11 @@ pub extern "C" fn vindaskot_type_attribute_named_in(
     slots: &mut [u64; 5],
     answer: &mut [u64; 2],
 ) -> u32
-    ensures tells { Tells (attributeTold (typeAttributeNamed checked bytes.now name.now)) result answer.new }
-    ensures slots_after { slots.new ≡ attributeSlotsAfter (typeAttributeNamed checked bytes.now name.now) slots.old }
+    ensures tells { Tells (record_told (type_attribute_named (mode_of checked) bytes.entry name.now)) result answer.new }
+    ensures slots_after { slots.new ≡ slots_after attribute_slots (type_attribute_named (mode_of checked) bytes.entry name.now) slots.old }
 {
-    told::older::attribute(
-        data_type_info::attribute_named(bytes, checked, name),
+    told::attribute(
+        places::of_entry::entry_attribute_named::<AdsDataTypeInfo>(bytes, mode(checked), name),
         slots,
         answer,
     )
@@ -109,18 +103,12 @@ pub extern "C" fn vindaskot_type_member_in(
     path: &mut [u64; 17],
     answer: &mut [u64; 2],
 ) -> u32
-    ensures tells { Tells (memberTold (memberOf checked bytes.now number).answer) result answer.new }
-    ensures slots_after { slots.new ≡ memberSlotsAfter (memberOf checked bytes.now number).answer slots.old }
-    ensures guid_after { guid.new ≡ memberGuidAfter (memberOf checked bytes.now number).answer (memberOf checked bytes.now number).guid guid.old }
-    ensures path_after { path.new ≡ memberPathAfter (memberOf checked bytes.now number).answer (memberOf checked bytes.now number).path path.old }
+    ensures tells { Tells (record_told (type_member (mode_of checked) bytes.entry number)) result answer.new }
+    ensures slots_after { slots.new ≡ slots_after member_slots (type_member (mode_of checked) bytes.entry number) slots.old }
+    ensures guid_after { guid.new ≡ slots_after member_guid (type_member (mode_of checked) bytes.entry number) guid.old }
+    ensures path_after { path.new ≡ slots_after path_slots (type_member (mode_of checked) bytes.entry number) path.old }
 {
-    told_type::member(
-        member_info::member(bytes, checked, number),
-        slots,
-        guid,
-        path,
-        answer,
-    )
+    told_type::member(bytes, mode(checked), number, slots, guid, path, answer)
 }
 
 #[unsafe(no_mangle)]
@@ -130,7 +118,7 @@ pub extern "C" fn vindaskot_type_members_in(
     slots: &mut [u64],
     answer: &mut [u64; 2],
 ) -> u32
-    ensures { WrittenTold (membersWriting checked bytes.now) slots.old slots.new result answer.new }
+    ensures { WritesTold (members_written (mode_of checked) bytes.entry) slots.old slots.new result answer.new }
 {
-    told::older::written(member_list::list(bytes, checked, slots), answer)
+    told::number(data_type::list::list(bytes, mode(checked), slots), answer)
 }

@@ -1,3 +1,0 @@
-pub mod Plain
-pub mod Same
-pub mod Demand3

@@ -1,3 +1,0 @@
-pub mod Told
-pub mod Plain
-pub mod Demand3

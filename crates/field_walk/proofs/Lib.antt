@@ -1,2 +1,0 @@
-pub mod Kind
-pub mod Whole

@@ -1,8 +1,0 @@
-use Rattle.std.proofs.Common.{arith}
-use Rattle.le.proofs.Laws.{same_bytes, wrote_none}
-use Rattle.field_writer.specs.Writing.{mask_of}
-use Rattle.field_writer.proofs.put_mask.Goals as goal
-
-pub returns : goal.returns
-unfolding mask_of
-returns c = same_bytes (simp c.if-here.false) (wrote_none (omega arith))

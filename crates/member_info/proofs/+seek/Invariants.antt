@@ -1,4 +1,0 @@
-use Rattle.member_info.proofs.+seek.Given as goal
-
-abbrev pub decreases-seek : goal.decreases-seek
-decreases-seek l = l.left

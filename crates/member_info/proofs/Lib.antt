@@ -1,3 +1,0 @@
-pub mod Down
-pub mod Ways
-pub mod Root

@@ -1,6 +1,0 @@
-use Rattle.std.proofs.Common.{refl}
-use Rattle.le.proofs.Laws.{put_three, wrote}
-use Rattle.member_list.proofs.put_member.Goals as goal
-
-pub returns : goal.returns
-returns c = wrote (put_three _ _ _ _ _ c.requires) refl c.requires

@@ -1,6 +1,0 @@
-pub mod Accepted
-pub mod Bounds
-pub mod Laws
-pub mod Items
-pub mod Direct
-pub mod More

@@ -1,4 +1,0 @@
-pub mod DataType
-pub mod Told
-pub mod Questions
-pub mod Members

@@ -1,5 +1,0 @@
-pub mod Laws
-pub mod Inside
-pub mod Named
-pub mod Modes
-pub mod Front

@@ -1,5 +1,0 @@
-pub mod Field
-pub mod Questions
-pub mod Inside
-pub mod Named
-pub mod Modes

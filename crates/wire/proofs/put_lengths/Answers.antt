@@ -1,7 +1,0 @@
-use Rattle.le.proofs.Laws.{after}
-use Rattle.wire.specs.Wire.{lengthsOf}
-use Rattle.wire.proofs.put_lengths.Goals as goal
-
-pub returns : goal.returns
-unfolding lengthsOf
-returns c = after c.put_u16-a.ensures (after c.put_u16-b.ensures c.put_u16.ensures)
