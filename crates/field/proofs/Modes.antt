@@ -9,6 +9,8 @@ use Rattle.le.specs.Le.{le2, has}
 use Rattle.part.specs.Slice.{after}
 use Rattle.part.specs.Outcome.{and_then}
 use Rattle.refusal.specs.EndBytes.{ended, in_mode}
+use Rattle.refusal.specs.EndsMeant.{AllZero, FirstNot}
+use Rattle.refusal.proofs.EndsMeant.{zero_passes, passed_zero, first_refused}
 use Rattle.refusal.specs.declared.Mode.{Mode}
 use Rattle.refusal.specs.declared.Mode.TheVariants.{Present, Checked}
 use Rattle.refusal.specs.declared.Refusal.{Refusal}
@@ -21,32 +23,8 @@ use Rattle.field.specs.declared.front.Front.{Front}
 use Rattle.field.specs.Front.{with_strings, string_ends, front_of}
 use Rattle.field.specs.Tail.{type_guid_flag, guid_of, sections_of, complete, attribute_ends, tail_of}
 use Rattle.field.specs.Field.{joined, behind_items, field_of}
-use Rattle.field.specs.Modes.{front_by_header, HasStrings, end_bytes, end_bytes_of, IsByteOf, AllZero, IsOfModes, FieldsModes}
+use Rattle.field.specs.Modes.{front_by_header, HasStrings, end_bytes, end_bytes_of, IsByteOf, IsOfModes, FieldsModes}
 use Rattle.field.proofs.Within.{IsEndOf, length_end, end_after, end_after_at, tail_at, accepted_is, record_is, name_long, type_long, comment_long, list_is}
-
--- end bytes that are all 0, and the first that is not
-abbrev is_zero : ℕ × ℕ → Type 0
-is_zero b = b.1 ≡ 0
-
-zero_passes : (bytes : List (ℕ × ℕ)) → AllZero bytes → ended bytes ≡ Ok tt
-unfolding ended
-zero_passes [] z = refl
-zero_passes (b ∷ bytes) z = simp (All-head is_zero b bytes z) (zero_passes bytes (All-tail is_zero b bytes z))
-
-passed_by : (b : ℕ × ℕ) (bytes : List (ℕ × ℕ)) → (ended bytes ≡ Ok tt → AllZero bytes) → (t : Bool) → eqb b.1 0 ≡ t
-    → ◌≡◌ {A = Result Unit Refusal} (if t then ended bytes else Err (EndByte b.0 b.1)) (Ok tt) → AllZero (b ∷ bytes)
-passed_by b bytes on true t h = All-cons is_zero b bytes (eqb-true b.1 0 t) (on h)
-passed_by b bytes on false t h = cc
-
-passed_zero : (bytes : List (ℕ × ℕ)) → ended bytes ≡ Ok tt → AllZero bytes
-unfolding ended
-passed_zero [] h = All-nil is_zero
-passed_zero (b ∷ bytes) h = passed_by b bytes (passed_zero bytes) (eqb b.1 0) refl h
-
-first_refused : (before after : List (ℕ × ℕ)) (b : ℕ × ℕ) → AllZero before → (b.1 ≡ 0 → ⊥) → ended (before ++ (b ∷ after)) ≡ Err (EndByte b.0 b.1)
-unfolding ended
-first_refused [] after b z n = simp (ne_eqb b.1 0 n)
-first_refused (x ∷ before) after b z n = simp (All-head is_zero x before z) (first_refused before after b (All-tail is_zero x before z) n)
 
 both_by : (x : ℕ × ℕ) (xs ys : List (ℕ × ℕ)) → ended (xs ++ ys) ≡ and_then (ended xs) (λ _. ended ys) → (t : Bool) → eqb x.1 0 ≡ t
     → ended (x ∷ (xs ++ ys)) ≡ and_then (ended (x ∷ xs)) (λ _. ended ys)
@@ -191,7 +169,7 @@ module _ (e : Bor (List ℕ)) where
             (read_is Present a ∙ p.1.1, passed_zero (end_bytes e) (bytes_are ∙ simp (p.0, p.1.0)));
         agree = λ z. agree_by z (ltb (length e.now) 42) refl (ltb (length e.now) (45 + n + t + k)) refl;
         first = λ h b i.
-            let refused : and_then strings_of (λ _. attributes_of) ≡ Err (EndByte b.0 b.1) = sym bytes_are ∙ ap ended i.among ∙ first_refused i.before i.after b i.zero i.not in
+            let refused : and_then strings_of (λ _. attributes_of) ≡ Err (EndByte b.0 b.1) = sym bytes_are ∙ ap ended i.among ∙ first_refused i.before i.behind b i.zero i.not in
             read_is Checked h ∙ one_refused strings_of attributes_of (and_then list_whole (λ _. Ok (record_is e h))) (EndByte b.0 b.1) refused;
       }
 

@@ -3,6 +3,7 @@ use Rattle.std.specs.Prelude.{ℕ, ◌+◌, ◌<◌, ◌≤◌, ◌≡◌, List,
 use Rattle.std.specs.List.{All}
 use Rattle.std.specs.Borrow.{Bor}
 use Rattle.le.specs.Le.{le2, has}
+use Rattle.refusal.specs.EndsMeant.{AllZero, FirstNot}
 use Rattle.refusal.specs.declared.Mode.{Mode}
 use Rattle.refusal.specs.declared.Mode.TheVariants.{Present, Checked}
 use Rattle.refusal.specs.declared.Refusal.TheVariants.{EndByte}
@@ -37,17 +38,6 @@ pub record IsByteOf (e : Bor (List ℕ)) (b : ℕ × ℕ) : Type 0 where
   pub there : b.0 < length e.now
   pub is : get_or e.now b.0 0 ≡ b.1
 
-abbrev pub AllZero : List (ℕ × ℕ) → Type 0
-AllZero = All (λ b. b.1 ≡ 0)
-
--- of some end bytes the first that is not 0
-pub record IsFirstNotZero (bytes : List (ℕ × ℕ)) (b : ℕ × ℕ) : Type 0 where
-  pub before : List (ℕ × ℕ)
-  pub after : List (ℕ × ℕ)
-  pub among : bytes ≡ before ++ (b ∷ after)
-  pub zero : AllZero before
-  pub not : b.1 ≡ 0 → ⊥
-
 -- the checked mode accepts only what has end bytes of 0, as the present mode does. They agree where all end bytes are 0; an entry that has room for its strings
 -- is else refused by the first that is not
 pub record IsOfModes (e : Bor (List ℕ)) : Type 0 where
@@ -55,7 +45,7 @@ pub record IsOfModes (e : Bor (List ℕ)) : Type 0 where
   pub told : (mode : Mode) (r : AdsFieldInfo) → field_of mode e ≡ Ok r → end_bytes e ≡ end_bytes_of e r
   pub accepted : (r : AdsFieldInfo) → field_of Checked e ≡ Ok r → (field_of Present e ≡ Ok r) × AllZero (end_bytes e)
   pub agree : AllZero (end_bytes e) → field_of Checked e ≡ field_of Present e
-  pub first : HasStrings e → (b : ℕ × ℕ) → IsFirstNotZero (end_bytes e) b → field_of Checked e ≡ Err (EndByte b.0 b.1)
+  pub first : HasStrings e → (b : ℕ × ℕ) → FirstNot (end_bytes e) b → field_of Checked e ≡ Err (EndByte b.0 b.1)
 
 abbrev pub FieldsModes : Type 0
 FieldsModes = (e : Bor (List ℕ)) → IsOfModes e

@@ -1,60 +1,52 @@
--- The look at end bytes passes exactly where all are 0, and else the first that is not 0 is refused: proved.
-use Rattle.std.specs.Prelude.{if◌then◌else◌}
-use Prim.Native.Nat.{ℕ}
-use native.Mathlib.Omega.{arith}
-use mathlib.Core.Path.{◌≡◌, refl, ap, ◌∙◌}
-use mathlib.Core.Bool.{Bool, true, false}
-use mathlib.Core.List.{List, [], ◌∷◌, ◌++◌}
-use lib.Dec.{eqb}
-use lib.ListN.{get_or}
+-- What the look at end bytes means: proved.
+use Rattle.std.proofs.Common.{ℕ, ◌≡◌, refl, sym, ap, ◌∙◌, Bool, true, false, List, [], ◌∷◌, ◌++◌, Ok, Err, Result}
+use Rattle.std.specs.Prelude.{eqb, if◌then◌else◌}
+use Rattle.std.proofs.lemmas.List.Elements.{All-nil, All-cons, All-head, All-tail}
 use borrow.Author.Tests.{eqb-true, eqb-false, ne_eqb}
 use Rattle.refusal.specs.declared.Refusal.{Refusal}
 use Rattle.refusal.specs.declared.Refusal.TheVariants.{EndByte}
-use Rattle.refusal.specs.declared.Checked.TheVariants.{Passed, Refused}
-use Rattle.refusal.specs.Ends.{endsMet}
-use Rattle.refusal.specs.EndsMeant.{AllZero, none, more, FirstNot, EndsMeant}
-use Rattle.refusal.proofs.Ends.{ends-after}
+use Rattle.refusal.specs.EndBytes.{ended}
+use Rattle.refusal.specs.EndsMeant.{AllZero, FirstNot, EndsMeant}
 
-pub zero-passes : {s ends : List ℕ} → AllZero s ends → endsMet s ends ≡ Passed
-unfolding endsMet
-zero-passes none = refl
-zero-passes (more z rest) = simp z (zero-passes rest)
+abbrev is_zero : ℕ × ℕ → Type 0
+is_zero b = b.1 ≡ 0
 
-pub passed-zero : (s ends : List ℕ) → endsMet s ends ≡ Passed → AllZero s ends
-unfolding endsMet
-passed-zero s [] h = none
-passed-zero s (at ∷ ends) h = turn (passed-zero s ends) (eqb (get_or s at 0) 0) refl h
-  where
-    turn : (endsMet s ends ≡ Passed → AllZero s ends) → (b : Bool) → eqb (get_or s at 0) 0 ≡ b → (if b then endsMet s ends else Refused (EndByte at (get_or s at 0))) ≡ Passed → AllZero s (at ∷ ends)
-    turn on true e k = more (eqb-true (get_or s at 0) 0 e) (on k)
-    turn on false e k = absurd (let z : ◌≡◌ {A = ℕ} 0 1 = cc in omega arith)
+pub zero_passes : (ends : List (ℕ × ℕ)) → AllZero ends → ended ends ≡ Ok tt
+unfolding ended
+zero_passes [] z = refl
+zero_passes (b ∷ ends) z = simp (All-head is_zero b ends z) (zero_passes ends (All-tail is_zero b ends z))
 
-first-refuses : (s ends : List ℕ) (at : ℕ) → FirstNot s ends at → endsMet s ends ≡ Refused (EndByte at (get_or s at 0))
-unfolding endsMet
-first-refuses s ends at f =
-    ap (endsMet s) f.among ∙ ends-after s f.before (at ∷ f.after) (zero-passes f.zero) ∙ simp (ne_eqb (get_or s at 0) 0 f.not)
+passed_by : (b : ℕ × ℕ) (ends : List (ℕ × ℕ)) → (ended ends ≡ Ok tt → AllZero ends) → (t : Bool) → eqb b.1 0 ≡ t
+    → ◌≡◌ {A = Result Unit Refusal} (if t then ended ends else Err (EndByte b.0 b.1)) (Ok tt) → AllZero (b ∷ ends)
+passed_by b ends on true t h = All-cons is_zero b ends (eqb-true b.1 0 t) (on h)
+passed_by b ends on false t h = cc
 
-refused-first : (s ends : List ℕ) (why : Refusal) → endsMet s ends ≡ Refused why → (at : ℕ) × (FirstNot s ends at × (why ≡ EndByte at (get_or s at 0)))
-unfolding endsMet
-refused-first s [] why h = absurd (let z : ◌≡◌ {A = ℕ} 0 1 = cc in omega arith)
-refused-first s (at ∷ ends) why h = turn (refused-first s ends why) (eqb (get_or s at 0) 0) refl h
-  where
-    turn : (endsMet s ends ≡ Refused why → (k : ℕ) × (FirstNot s ends k × (why ≡ EndByte k (get_or s k 0)))) → (b : Bool) → eqb (get_or s at 0) 0 ≡ b → (if b then endsMet s ends else Refused (EndByte at (get_or s at 0))) ≡ Refused why
-        → (k : ℕ) × (FirstNot s (at ∷ ends) k × (why ≡ EndByte k (get_or s k 0)))
-    turn on true e k =
-        let r = on k in
-        let f = r.1.0 in
-        (r.0, (record { before = at ∷ f.before; after = f.after; among = ap (λ (l : List ℕ). at ∷ l) f.among; zero = more (eqb-true (get_or s at 0) 0 e) f.zero; not = f.not }, r.1.1))
-    turn on false e k = (at, (record { before = []; after = ends; among = refl; zero = none; not = eqb-false (get_or s at 0) 0 e }, cc))
+pub passed_zero : (ends : List (ℕ × ℕ)) → ended ends ≡ Ok tt → AllZero ends
+unfolding ended
+passed_zero [] h = All-nil is_zero
+passed_zero (b ∷ ends) h = passed_by b ends (passed_zero ends) (eqb b.1 0) refl h
 
-pub ends-meant : EndsMeant
-ends-meant s ends = record { passes = zero-passes; passed = passed-zero s ends; refuses = first-refuses s ends; refused = refused-first s ends }
+pub first_refused : (before after : List (ℕ × ℕ)) (b : ℕ × ℕ) → AllZero before → (b.1 ≡ 0 → ⊥) → ended (before ++ (b ∷ after)) ≡ Err (EndByte b.0 b.1)
+unfolding ended
+first_refused [] after b z n = simp (ne_eqb b.1 0 n)
+first_refused (x ∷ before) after b z n = simp (All-head is_zero x before z) (first_refused before after b (All-tail is_zero x before z) n)
 
--- those of two lists, one after another
-pub zero-both : (s xs ys : List ℕ) → AllZero s (xs ++ ys) → AllZero s xs × AllZero s ys
-zero-both s [] ys z = (none, z)
-zero-both s (at ∷ xs) ys (more h z) = let r = zero-both s xs ys z in (more h r.0, r.1)
+-- what is refused was met first
+abbrev Refused : List (ℕ × ℕ) → Refusal → Type 0
+Refused ends why = (e : ℕ × ℕ) × (FirstNot ends e × (why ≡ EndByte e.0 e.1))
 
-pub both_zero : (s xs ys : List ℕ) → AllZero s xs → AllZero s ys → AllZero s (xs ++ ys)
-both_zero s [] ys none y = y
-both_zero s (at ∷ xs) ys (more h x) y = more h (both_zero s xs ys x y)
+refused_by : (b : ℕ × ℕ) (ends : List (ℕ × ℕ)) (why : Refusal) → (ended ends ≡ Err why → Refused ends why) → (t : Bool) → eqb b.1 0 ≡ t
+    → ◌≡◌ {A = Result Unit Refusal} (if t then ended ends else Err (EndByte b.0 b.1)) (Err why) → Refused (b ∷ ends) why
+refused_by b ends why on true t h =
+    let r = on h in
+    let f = r.1.0 in
+    (r.0, (record { before = b ∷ f.before; behind = f.behind; among = ap (λ (l : List (ℕ × ℕ)). b ∷ l) f.among; zero = All-cons is_zero b f.before (eqb-true b.1 0 t) f.zero; not = f.not }, r.1.1))
+refused_by b ends why on false t h = (b, (record { before = []; behind = ends; among = refl; zero = All-nil is_zero; not = eqb-false b.1 0 t }, cc))
+
+refused_first : (ends : List (ℕ × ℕ)) (why : Refusal) → ended ends ≡ Err why → Refused ends why
+unfolding ended
+refused_first [] why h = cc
+refused_first (b ∷ ends) why h = refused_by b ends why (refused_first ends why) (eqb b.1 0) refl h
+
+pub ends_meant : EndsMeant
+ends_meant ends = record { passes = zero_passes ends; passed = passed_zero ends; refuses = λ e f. ap ended f.among ∙ first_refused f.before f.behind e f.zero f.not; refused = refused_first ends }

@@ -1,7 +1,4 @@
 pub mod Refusal
-pub mod Writing
-pub mod Asked
-pub mod Ends
-pub mod EndsMeant
 pub mod EndBytes
+pub mod EndsMeant
 pub mod Text

@@ -1,12 +1,11 @@
-//! The numbered refusals (docs/FORMAT.md, "Refusals"), and what a writer answers. After the Rust's error.rs.
-#![tactic(auto, unfolding(crate::specs::EndBytes::ended, crate::specs::Ends::endsMet, crate::specs::Writing::exactly))]
+//! The numbered refusals (docs/FORMAT.md, "Refusals") and the two modes of a reader. After the Rust's error.rs.
+#![tactic(auto, unfolding(crate::specs::EndBytes::ended))]
 
-ghost use Rattle.std.specs.Prelude.{◌≡◌, ◌∷◌, [], ◌+◌, Some};
+ghost use Rattle.std.specs.Prelude.{◌≡◌, ◌∷◌, [], Some};
 ghost use Rattle.refusal.specs.Refusal.{figures_of, numbered};
 ghost use Rattle.refusal.specs.Text.{text_of};
-ghost use Rattle.refusal.specs.Writing.{exactly};
 ghost use Rattle.refusal.specs.EndBytes.{ended};
-ghost use Rattle.refusal.specs.Ends.{endsMet};
+ghost use Rattle.refusal.specs.EndsMeant.{EndsMeant};
 
 use std::error::Error;
 use std::fmt;
@@ -16,12 +15,6 @@ pub const LIMIT: usize = 16777216;
 
 /// The levels of a data type entry, the root's among them.
 pub const DEEPEST: usize = 16;
-
-/// The present mode of the older readers, in which no end byte is looked at.
-pub const PRESENT: bool = false;
-
-/// Their checked mode, in which one that is not 0 refuses.
-pub const CHECKED: bool = true;
 
 /// Whether an end byte that is not 0 refuses.
 #[derive(Clone, Copy, Debug, PartialEq, Eq)]
@@ -78,27 +71,6 @@ pub struct Figures {
     pub expected: usize,
     /// What was there.
     pub got: usize,
-}
-
-/// Whether something is as it is wanted.
-#[derive(Drop)]
-pub enum Checked {
-    Passed,
-    Refused(Refusal),
-}
-
-/// Good records at the start of a block, and the place after them.
-#[derive(Drop)]
-pub struct Counted {
-    pub good: usize,
-    pub next: usize,
-}
-
-/// What an older writer answers: how many bytes it wrote from place 0, or why it wrote none.
-#[derive(Drop)]
-pub enum Written {
-    Done(usize),
-    Refused(Refusal),
 }
 
 impl Refusal {
@@ -200,20 +172,6 @@ fn numbered(number: u32, expected: usize, got: usize) -> Figures
     }
 }
 
-// Whether a block of so many bytes is exactly its count of good records.
-pub fn check_exact(count: usize, found: Counted, length: usize) -> Checked
-    ensures { result ≡ exactly count found length }
-{
-    let good = found.good;
-    let next = found.next;
-    if good == count {
-        if next == length {
-            return Checked::Passed;
-        }
-    }
-    Checked::Refused(Refusal::BadBlock { count, good })
-}
-
 /// Refuses the byte that ends a string, at a place of an entry, unless it is 0.
 #[inline(always)]
 pub fn check_end(place: usize, byte: u8) -> Result<(), Refusal>
@@ -225,32 +183,9 @@ pub fn check_end(place: usize, byte: u8) -> Result<(), Refusal>
     Ok(())
 }
 
-// The end byte so far behind a place, which refuses unless it is 0.
-pub fn check_end_at(s: &[u8], at: usize, n: usize) -> Checked
-    ensures { result ≡ endsMet s.now ((at + n) ∷ []) }
-{
-    if s.len() <= at {
-        return Checked::Passed;
-    }
-    if s.len() - at <= n {
-        return Checked::Passed;
-    }
-    let byte = s[at + n];
-    if byte == 0 {
-        return Checked::Passed;
-    }
-    Checked::Refused(Refusal::EndByte {
-        place: at + n,
-        byte,
-    })
-}
+// The theorem, as the contract of a function that does nothing.
 
-// The same of two strings, by their places and lengths, in this order.
-pub fn check_two_ends(s: &[u8], first: usize, n: usize, second: usize, v: usize) -> Checked
-    ensures { result ≡ endsMet s.now ((first + n) ∷ (second + v) ∷ []) }
-{
-    match check_end_at(s, first, n) {
-        Checked::Passed => check_end_at(s, second, v),
-        Checked::Refused(why) => Checked::Refused(why),
-    }
-}
+/// The look at end bytes passes exactly where all are 0, and else it refuses the first that is not.
+pub fn ends_meant()
+    ensures { EndsMeant }
+{}
