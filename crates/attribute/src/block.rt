@@ -12,7 +12,7 @@ fn good(bytes: &[u8]) -> Result<&[u8], Refusal>
     ensures small { IfOk result (λ next. length bytes.now ≤ length next.now + 514) }
 {
     let (_, next) = first(bytes)?;
-    Attributes { bytes, count: 1 }.check_ends(0)?;
+    Attributes { bytes, count: 1 }.ends_from(0)?;
     Ok(next)
 }
 

@@ -1,7 +1,7 @@
 //! Attributes: a name and a value each, as parts of the bytes that they were read from.
 #![tactic(auto, unfolding(crate::specs::Attribute::first_of, crate::specs::Attribute::listed, crate::specs::Attribute::after_listed))]
 
-ghost use Rattle.std.specs.Prelude.{◌≡◌, ◌+◌, ◌<◌, ◌^◌, length};
+ghost use Rattle.std.specs.Prelude.{◌≡◌, ◌+◌, ◌<◌, ◌^◌, length, ◌-◌};
 ghost use Rattle.std.specs.Iterator.{YieldsFirst, item_count};
 ghost use Rattle.refusal.specs.EndBytes.{ended};
 ghost use Rattle.attribute.specs.Attribute.{first_of, listed, after_listed, stopped, turn, ends, numbered, named, alone};
@@ -88,7 +88,7 @@ impl<'a> AdsAttribute<'a> {
         }
         let (attribute, _) = first(bytes)?;
         if mode == Mode::Checked {
-            Attributes { bytes, count: 1 }.check_ends(0)?;
+            Attributes { bytes, count: 1 }.ends_from(0)?;
         }
         Ok(attribute)
     }
@@ -205,9 +205,20 @@ impl<'a> Attributes<'a> {
             .ok_or(Refusal::NameNotFound)
     }
 
-    /// Refuses the first end byte that is not 0, in an entry where the first attribute begins at a place.
+    /// Refuses the first end byte that is not 0 of attributes whose bytes are the last of an entry of so many bytes.
+    ///
+    /// # Errors
+    ///
+    /// 16, with the byte's place in the entry.
+    pub fn check_ends(self, whole: usize) -> Result<(), Refusal>
+        ensures { result ≡ ended (ends self.entry.bytes (whole - length self.entry.bytes.now) self.entry.count) }
+    {
+        self.ends_from(whole.saturating_sub(self.bytes.len()))
+    }
+
+    // The first attribute begins at a place.
     #[tactic(auto, using(crate::proofs::Turn::ends_here, crate::proofs::Turn::is_bad, crate::proofs::Turn::none_left))]
-    pub fn check_ends(self, place: usize) -> Result<(), Refusal>
+    fn ends_from(self, place: usize) -> Result<(), Refusal>
         requires { place + length self.bytes.now < 2 ^ 64 }
         ensures { result ≡ ended (ends self.entry.bytes place self.entry.count) }
     {

@@ -69,7 +69,7 @@ fn check_ends(attributes: Attributes<'_>, length: usize, mode: Mode) -> Result<(
     if mode == Mode::Present {
         return Ok(());
     }
-    attributes.check_ends(length.saturating_sub(attributes.bytes.len()))
+    attributes.check_ends(length)
 }
 
 /// Refuses a list that ended before its count, by the attribute that was refused.

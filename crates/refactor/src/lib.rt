@@ -1,7 +1,7 @@
 //! Refactor records, which tell the info names of a symbol, and chains of them.
 #![tactic(auto, unfolding(crate::specs::Refactor::first_of, crate::specs::Refactor::listed, le::specs::Le::le2, le::specs::Le::le4))]
 
-ghost use Rattle.std.specs.Prelude.{◌≡◌, ◌+◌, ◌<◌, ◌^◌, length};
+ghost use Rattle.std.specs.Prelude.{◌≡◌, ◌+◌, ◌<◌, ◌^◌, length, ◌-◌};
 ghost use Rattle.std.specs.Iterator.{YieldsFirst, item_count};
 ghost use Rattle.refusal.specs.EndBytes.{ended};
 ghost use Rattle.refactor.specs.Refactor.{first_of, alone, infos_of, chain_alone, listed, turn, ends, numbered};
@@ -95,10 +95,21 @@ fn check_end(bytes: &[u8], place: usize) -> Result<Option<(&[u8], usize)>, Refus
     Ok(Some((next, place + end + 1)))
 }
 
-/// Refuses the first end byte that is not 0 of the chain at the start of some bytes, which begin at a place of an entry.
-/// A chain that is refused at a later record has end bytes up to there.
+/// Refuses the first end byte that is not 0 of the chain at the start of some bytes, which are the last of an entry of so many
+/// bytes. A chain that is refused at a later record has end bytes up to there.
+///
+/// # Errors
+///
+/// 16, with the byte's place in the entry.
+pub fn check_ends(bytes: &[u8], whole: usize) -> Result<(), Refusal>
+    ensures { result ≡ ended (ends bytes.entry (whole - length bytes.now)) }
+{
+    ends_from(bytes, whole.saturating_sub(bytes.len()))
+}
+
+// The chain begins at a place.
 #[tactic(auto, using(crate::proofs::Turn::goes_further, crate::proofs::Turn::ends_here, crate::proofs::Turn::is_bad))]
-pub fn check_ends(bytes: &[u8], place: usize) -> Result<(), Refusal>
+fn ends_from(bytes: &[u8], place: usize) -> Result<(), Refusal>
     requires { place + length bytes.now < 2 ^ 64 }
     ensures { result ≡ ended (ends bytes.entry place) }
 {
@@ -177,7 +188,7 @@ impl<'a> RefactorInfos<'a> {
             return Err(Refusal::TooLarge { length });
         }
         if mode == Mode::Checked {
-            check_ends(bytes, 0)?;
+            ends_from(bytes, 0)?;
         }
         chain(bytes)
     }

@@ -171,7 +171,7 @@ fn check_chain_ends(own: &[u8], symbol: &AdsSymbolInfo<'_>) -> Result<(), Refusa
         return Ok(());
     }
     let chain = symbol.refactor_infos.bytes;
-    refactor::check_ends(chain, own.len() - chain.len())
+    refactor::check_ends(chain, own.len())
 }
 
 /// Refuses the first end byte that is not 0 of a symbol that was read from these bytes.
@@ -187,7 +187,7 @@ fn check_ends(own: &[u8], symbol: &AdsSymbolInfo<'_>) -> Result<(), Refusal>
     refusal::check_end(type_name, own[type_name])?;
     refusal::check_end(comment, own[comment])?;
     let attributes = symbol.attributes;
-    attributes.check_ends(own.len() - attributes.bytes.len())?;
+    attributes.check_ends(own.len())?;
     check_chain_ends(own, symbol)
 }
 

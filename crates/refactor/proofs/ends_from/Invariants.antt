@@ -1,7 +1,7 @@
 use Rattle.std.proofs.Common.{◌≡◌, ◌+◌, ◌-◌, ◌≤◌, length}
 use Rattle.refusal.specs.EndBytes.{ended}
 use Rattle.refactor.specs.Refactor.{ends, ends_from}
-use Rattle.refactor.proofs.check_ends.Given as goal
+use Rattle.refactor.proofs.ends_from.Given as goal
 
 abbrev pub invariant-loop-next : goal.invariant-loop-next
 invariant-loop-next l =

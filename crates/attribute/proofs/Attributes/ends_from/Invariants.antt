@@ -1,7 +1,7 @@
 use Rattle.std.proofs.Common.{◌≡◌, ◌+◌, length}
 use Rattle.refusal.specs.EndBytes.{ended}
 use Rattle.attribute.specs.Attribute.{ends}
-use Rattle.attribute.proofs.Attributes.check_ends.Given as goal
+use Rattle.attribute.proofs.Attributes.ends_from.Given as goal
 
 abbrev pub invariant-loop-rest : goal.invariant-loop-rest
 invariant-loop-rest l =

@@ -1,6 +1,6 @@
 use Rattle.std.proofs.Common.{Ok, sym, ap, ◌∙◌, arith}
 use Rattle.refactor.proofs.Turn.{goes_further}
-use Rattle.refactor.proofs.check_ends.Goals as goal
+use Rattle.refactor.proofs.ends_from.Goals as goal
 
 pub loop-next-smaller : goal.loop-next-smaller
 loop-next-smaller c =

@@ -1,6 +1,6 @@
 use Rattle.std.proofs.Common.{Ok, sym, ap, ◌∙◌, arith}
 use Rattle.attribute.proofs.Turn.{goes_further}
-use Rattle.attribute.proofs.Attributes.check_ends.Goals as goal
+use Rattle.attribute.proofs.Attributes.ends_from.Goals as goal
 
 pub loop-rest-preserved : goal.loop-rest-preserved
 loop-rest-preserved c =
