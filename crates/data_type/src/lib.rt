@@ -34,22 +34,33 @@ pub struct SubItems<'a> {
 pub struct AdsDataTypeInfo<'a> {
     /// The entry's length in bytes.
     pub length: usize,
+    /// The version of the layout.
     pub version: u32,
+    /// The hash of the entry.
     pub hash_value: u32,
+    /// The hash of its type.
     pub type_hash_value: u32,
     /// The size of a value, in bytes.
     pub size: u32,
     /// Of a sub-item: where it stands in a value of its parent, in bytes.
     pub offset: u32,
+    /// The maker's number of its type.
     pub type_id: u32,
+    /// Which sections follow, and what the type is.
     pub flags: AdsTypeFlags,
     /// Windows-1252, as the other strings.
     pub name: &'a [u8],
+    /// The name of its type, of a sub-item; else of what it stands for.
     pub type_name: &'a [u8],
+    /// The comment.
     pub comment: &'a [u8],
+    /// The GUID, if it is flagged and its bytes are there.
     pub guid: Option<[u8; 16]>,
+    /// The attributes: one that is refused refuses the entry.
     pub attributes: Attributes<'a>,
+    /// The array records: the dimensions of an array.
     pub arrays: ArrayInfos<'a>,
+    /// The sub-items: the members of a structure.
     pub sub_items: SubItems<'a>,
     /// How many members it has: its sub-items, theirs, and so on.
     pub member_count: usize,
@@ -117,4 +128,5 @@ impl<'a> Entry<'a> for AdsDataTypeInfo<'a> {
     }
 }
 
+/// The pieces of an upload of data types.
 pub type DataTypes<'a> = Walker<'a, AdsDataTypeInfo<'a>>;

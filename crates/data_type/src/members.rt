@@ -37,7 +37,7 @@ impl Position {
     /// That of a sub-item at a place, with this offset in what stands here. At the deepest level it is this one.
     #[tactic(auto, unfolding(crate::specs::Members::below))]
     #[inline(always)]
-    pub fn below(self, place: usize, offset: u32) -> Position
+    pub(crate) fn below(self, place: usize, offset: u32) -> Position
         requires { self.offset ≤ self.depth * 4294967296 }
         ensures value { result ≡ below self place offset }
         ensures small { result.offset ≤ result.depth * 4294967296 }

@@ -48,7 +48,7 @@ fn arrays_length(front: &Front<'_>) -> usize
 
 /// The array records of an entry with this front, and the bytes behind them.
 #[inline(always)]
-pub fn read_arrays<'a>(front: &Front<'a>) -> Result<(ArrayInfos<'a>, &'a [u8]), Refusal>
+pub(crate) fn read_arrays<'a>(front: &Front<'a>) -> Result<(ArrayInfos<'a>, &'a [u8]), Refusal>
     requires { front.now.length < 2 ^ 63 }
     ensures { result ≡ arrays_of front.now }
 {
@@ -70,7 +70,9 @@ pub fn read_arrays<'a>(front: &Front<'a>) -> Result<(ArrayInfos<'a>, &'a [u8]), 
 /// Sub-items that were read: the bytes behind them, and how many members they bring.
 #[derive(Clone, Copy, Debug)]
 pub struct Items<'a> {
+    /// The bytes behind them.
     pub rest: &'a [u8],
+    /// How many members they bring, themselves among them.
     pub members: usize,
 }
 
