@@ -27,7 +27,7 @@ impl Level {
     /// The sub-items of the data type itself, which fill so many bytes.
     #[tactic(auto, using(crate::proofs::Parts::cut_all))]
     #[inline(always)]
-    pub fn first(bytes: &[u8], end: usize, count: u16) -> Level
+    pub(crate) fn first(bytes: &[u8], end: usize, count: u16) -> Level
         ensures { (levels : ℕ) → level_left levels bytes.entry result ≡ members_below levels root end bytes.entry count }
     {
         Level {
@@ -41,7 +41,7 @@ impl Level {
 
     /// Whether no sub-item is left.
     #[inline(always)]
-    pub fn is_empty(&self) -> bool
+    pub(crate) fn is_empty(&self) -> bool
         ensures { result ≡ eqb self.now.count 0 }
     {
         self.count == 0
@@ -50,7 +50,7 @@ impl Level {
     /// The next member, and what it holds in turn.
     #[tactic(auto, using(crate::proofs::Steps::lies, crate::proofs::Steps::none_left, crate::proofs::Steps::refused_left))]
     #[inline(always)]
-    pub fn step<'a>(&mut self, bytes: &'a [u8]) -> Option<(Member<'a>, Level)>
+    pub(crate) fn step<'a>(&mut self, bytes: &'a [u8]) -> Option<(Member<'a>, Level)>
         ensures { Gives bytes.entry self.old self.new result }
     {
         if self.count == 0 {

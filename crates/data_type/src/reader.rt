@@ -15,7 +15,7 @@ pub const LEVELS: usize = 15;
 
 /// The own bytes of the sub-item at the start of some bytes of its parent, and the bytes behind it.
 #[inline(always)]
-pub fn taken(bytes: &[u8]) -> Result<(&[u8], &[u8]), Refusal>
+pub(crate) fn taken(bytes: &[u8]) -> Result<(&[u8], &[u8]), Refusal>
     ensures { result ≡ taken bytes.entry }
 {
     let left = bytes.len();
@@ -79,7 +79,11 @@ pub struct Items<'a> {
 /// An entry's own bytes, where there may be so many levels below it.
 #[tactic(auto, using(crate::proofs::Entry::fits))]
 #[cycle(read_entry_read_items)]
-pub fn read_entry(own: &[u8], mode: Mode, left: usize) -> Result<AdsDataTypeInfo<'_>, Refusal>
+pub(crate) fn read_entry(
+    own: &[u8],
+    mode: Mode,
+    left: usize,
+) -> Result<AdsDataTypeInfo<'_>, Refusal>
     ensures value { result ≡ type_at mode left own.entry }
     ensures few { IfOk result (SomeMembers own.now) }
 {
