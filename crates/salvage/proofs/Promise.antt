@@ -1,7 +1,7 @@
 -- How a salvage comes to its promise.
 use Prim.Native.Nat.{ℕ, ◌<◌, ◌≤◌}
 use native.Mathlib.Omega.{arith}
-use mathlib.Core.Path.{◌≡◌, sym, ap, ap₂}
+use mathlib.Core.Path.{◌≡◌, sym, ap, ap₂, ◌∙◌}
 use mathlib.Core.List.{List}
 use lib.ListN.{length}
 use borrow.Author.Tests.{le-ltb, lt-ltb}
@@ -13,7 +13,7 @@ use Rattle.refusal.specs.Refusal.{limit}
 use Rattle.refusal.specs.declared.Refusal.{Refusal}
 use Rattle.refusal.specs.declared.Refusal.TheVariants.{TooLarge, OutputTooSmall}
 use Rattle.walk.specs.Pieces.{pieces}
-use Rattle.salvage.specs.Both.{Writings, wrote, WritesBoth}
+use Rattle.salvage.specs.Both.{Writings, wrote, WritesBoth, OneWritingBoth}
 use Rattle.salvage.specs.Salvage.{kept, dropped, salvaging}
 
 pub refuses : {w : Writings} {why : Refusal} {out runs : List ℕ} → w ≡ Err why → WritesBoth w out runs out runs (Err why)
@@ -46,3 +46,7 @@ salvage_large read s h = simp (lt-ltb limit (length s.now) h)
 pub salvage_both : {R : Type 0} (read : Bor (List ℕ) → Result R Refusal) (s : Bor (List ℕ)) → length s.now ≤ limit → salvaging read s ≡ Ok (kept s.now (pieces read s), dropped (pieces read s))
 unfolding salvaging
 salvage_both read s h = simp (le-ltb limit (length s.now) h)
+
+-- what one promise allows is one
+pub one_writing_both : OneWritingBoth
+one_writing_both w out runs out' runs' out'' runs'' r r' p q = (p.said ∙ sym q.said, p.left_bytes ∙ sym q.left_bytes, p.left_slots ∙ sym q.left_slots)

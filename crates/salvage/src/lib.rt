@@ -12,7 +12,7 @@ ghost use Rattle.walk.specs.Pieces.{pieces};
 ghost use Rattle.salvage.specs.Salvage.{kept, dropped, salvaging};
 ghost use Rattle.salvage.specs.Cover.{Covers};
 ghost use Rattle.salvage.specs.Meaning.{SalvageMeant, CoverOnce};
-ghost use Rattle.salvage.specs.Both.{WritesBoth};
+ghost use Rattle.salvage.specs.Both.{WritesBoth, OneWritingBoth};
 
 use refusal::{LIMIT, Mode, Refusal};
 use walk::{Entry, Walker};
@@ -118,6 +118,11 @@ pub fn salvage<'a, E: Entry<'a>>(
 }
 
 // The theorems. Each is the contract of a function that does nothing, so that none goes unnoticed if its proof does.
+
+/// Two answers that the promise of `salvage` allows are equal, and so is what they leave in both buffers.
+pub fn one_writing_both()
+    ensures { OneWritingBoth }
+{}
 
 /// Each piece is kept or listed, and the pieces, one after another, are the upload.
 pub fn pieces_cover<'a, E: Entry<'a>>()
