@@ -1,6 +1,7 @@
 -- The pieces of an upload: what stands from each place where the walk goes on up to the next.
-use Rattle.std.specs.Prelude.{ℕ, zero, suc, ◌-◌, List, [], ◌∷◌, leb, length, Option, Some, None, Result, Err, if◌then◌else◌}
+use Rattle.std.specs.Prelude.{ℕ, zero, suc, ◌-◌, ◌≡◌, List, [], ◌∷◌, leb, length, Option, Some, None, Result, Err, if◌then◌else◌}
 use Rattle.std.specs.Borrow.{Bor}
+use Rattle.std.specs.Iterator.{YieldsFirst}
 use Rattle.part.specs.Slice.{part}
 use Rattle.part.specs.Outcome.{and_then}
 use Rattle.refusal.specs.declared.Mode.{Mode}
@@ -39,3 +40,12 @@ module _ {R : Type 0} (read : Bor (List ℕ) → Result R Refusal) (s : Bor (Lis
 -- what a walker has still to give
 abbrev pub walker_left : {E : Type 0} → (Mode → Bor (List ℕ) → Result E Refusal) → Walker E → List (Piece E)
 walker_left read w = pieces_from (read w.mode) w.bytes w.cursor.at (length w.bytes.now - w.cursor.at)
+
+module _ {E : Type 0} (read : Mode → Bor (List ℕ) → Result E Refusal) where
+  -- a walker after it was asked for a piece: behind it; where none is left, as it was
+  abbrev pub walker_next : Walker E → Walker E
+  walker_next w = if leb (length w.bytes.now) w.cursor.at then w else record w { cursor = record { at = (piece_at (read w.mode) w.bytes w.cursor.at).end } }
+
+  -- what a walker that is asked for a piece gives, and the walker afterwards
+  abbrev pub PieceGiven : Walker E → Option (Piece E) → Walker E → Type 0
+  PieceGiven old answer new = YieldsFirst (walker_left read) old answer new × (new ≡ walker_next old)

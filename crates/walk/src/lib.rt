@@ -3,7 +3,7 @@
 
 ghost use Rattle.std.specs.Prelude.{◌≡◌, ◌<◌, ◌+◌, ◌≤◌, ℕ, List, Result, Ok, Err, length, false};
 ghost use Rattle.std.specs.Borrow.{Bor};
-ghost use Rattle.std.specs.Iterator.{YieldsFirst, item_count};
+ghost use Rattle.std.specs.Iterator.{item_count};
 ghost use Rattle.refusal.specs.declared.Mode.{Mode};
 ghost use Rattle.refusal.specs.declared.Refusal.{Refusal};
 ghost use Rattle.refusal.specs.declared.Refusal.TheVariants.{TooShort};
@@ -11,7 +11,7 @@ ghost use Rattle.entry.specs.Walk.{OneWalk};
 ghost use Rattle.entry.specs.Bounded.{bounded_walk};
 ghost use Rattle.walk.specs.Zero.{is_zero};
 ghost use Rattle.walk.specs.Step.{parse_of, step_at, walker_step};
-ghost use Rattle.walk.specs.Pieces.{piece_at, pieces, walker_left};
+ghost use Rattle.walk.specs.Pieces.{piece_at, pieces, walker_left, PieceGiven};
 ghost use Rattle.walk.specs.Theorems.{cursor_of, StepsRead, PiecesAreSteps};
 
 use entry::Walked;
@@ -161,6 +161,9 @@ impl<'a, E: Entry<'a>> Walker<'a, E> {
     /// A walker at the start of an upload.
     #[tactic(auto, using(crate::proofs::Left::few_pieces))]
     pub fn new(bytes: &'a [u8], mode: Mode) -> Self
+        ensures upload { result.bytes ≡ bytes.entry }
+        ensures mode_asked { result.mode ≡ mode }
+        ensures start { result.cursor.at ≡ 0 }
         ensures all { walker_left E.read result ≡ pieces (E.read mode) bytes.entry }
 
         // no more of them than bytes
@@ -195,7 +198,7 @@ impl<'a, E: Entry<'a>> Walker<'a, E> {
 impl<'a, E: Entry<'a>> Iterator for Walker<'a, E> {
     type Item = Piece<E>;
 
-    ghost next_gives = { YieldsFirst (walker_left E.read) };
+    ghost next_gives = { PieceGiven E.read };
 
     ghost remaining = { item_count (walker_left E.read) };
 
