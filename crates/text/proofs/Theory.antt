@@ -1,12 +1,14 @@
 -- There and back gives the same bytes, back and there the same text. Assumes nothing.
 use Rattle.std.specs.Prelude.{Err, Ok, Result}
 use Rattle.refusal.specs.declared.Refusal.{Refusal}
-use Rattle.std.specs.Prelude.{if◌then◌else◌}
-use mathlib.Core.Path.{◌≡◌, refl, sym, ap, ◌∙◌}
-use mathlib.Core.Logic.{inl}
+use Rattle.std.specs.Prelude.{All, Contains, flat_map, if◌then◌else◌}
+use Rattle.std.proofs.lemmas.List.Elements.{All-nil, All-cons, All-head, All-tail, Contains-get_or}
+use Rattle.std.proofs.lemmas.Grind.{get_or_default_zero}
+use mathlib.Core.Path.{◌≡◌, refl, sym, ap, ◌∙◌, subst}
+use mathlib.Core.Logic.{inl, inr, ⊎_elim}
 use mathlib.Core.List.{List, [], ◌∷◌, ◌++◌}
 use mathlib.Core.Bool.{Bool, true, false}
-use Prim.Native.Nat.{ℕ, suc, ◌+◌, ◌≤◌, ◌<◌}
+use Prim.Native.Nat.{ℕ, zero, suc, ◌+◌, ◌-◌, ◌≤◌, ◌<◌}
 use native.Mathlib.Omega.{arith}
 use lib.Dec.{ltb}
 use lib.ListN.{length, drop, get_or, length-append}
@@ -14,13 +16,14 @@ use lib.Seq.{drop-append_seam}
 use borrow.Author.Tests.{ltb-false}
 use Rattle.refusal.specs.Refusal.{limit}
 use Rattle.refusal.specs.declared.Refusal.TheVariants.{TooLarge, BadText}
-use Rattle.text.proofs.Utf8.{utf8-some}
-use Rattle.text.proofs.Laws.{in-limit}
+use Rattle.text.proofs.Utf8.{le-or-lt, utf8-some}
+use Rattle.text.proofs.Laws.{point-low, point-mid, point-high, in-limit}
 use Rattle.text.proofs.Exact.{Valid, encoded-point, point-starts}
 use Rattle.text.proofs.Byte.{own, seek-sound}
 use Rattle.text.proofs.Back.{spelt, encoded-char, encoded-fault}
 use Rattle.text.specs.Utf8.{utf8, scalar_of}
-use Rattle.text.specs.Text.{code_point, decoded, decoding, byte_of, char_of, before, encoded_from, encoding}
+use Rattle.text.specs.RoundTrip.{AreBytes, IsWindows1252, IsWithin, Pair, BytesComeBack, TextComesBack}
+use Rattle.text.specs.Text.{points, code_point, decoded, decoding, byte_of, char_of, before, encoded_from, encoding}
 use Rattle.text.specs.declared.Char.{Char}
 use Rattle.text.specs.declared.Char.TheVariants.{Is, Wrong}
 
@@ -100,18 +103,116 @@ unfolding decoded
 decoded-longer [] = omega arith
 decoded-longer (b ∷ s) = omega (arith, utf8-some (code_point b), length-append (utf8 (code_point b)) (decoded s), decoded-longer s)
 
--- a byte string whose text is within the limit comes back
-pub there_and_back : (s t : List ℕ) → ((k : ℕ) → get_or s k 0 < 256) → decoding s ≡ Ok t → length t ≤ limit → encoding t ≡ Ok s
-unfolding decoding encoding
-there_and_back s t h e l =
-    let r = within_by (ltb limit (length s)) s (Ok (decoded s)) t e in
-    let q : decoded s ≡ t = cc in
-    in-limit t (encoded_from 0 0 t) l ∙ ap (encoded_from 0 0) (sym q) ∙ bytes_back s 0 h
+-- ---- the bytes and the code points that Windows-1252 has
+table-long : length points ≡ 32
+unfolding points
+table-long = refl
 
--- a text that is accepted comes back
-pub back-and-there : (s t : List ℕ) → encoding t ≡ Ok s → decoding s ≡ Ok t
+has_code_point : (b : ℕ) → b < 256 → IsWindows1252 (code_point b)
+has_code_point b h = ⊎_elim upper (λ k. inl (rw (point-low {b = b} k) k)) (le-or-lt 128 b)
+  where
+    in_table : 128 ≤ b → b < 160 → IsWindows1252 (code_point b)
+    in_table k l = inr (inl (subst (Contains points) (sym (point-mid {b = b} k l)) (Contains-get_or points (b - 128) 0 (omega (arith, table-long)))))
+
+    upper : 128 ≤ b → IsWindows1252 (code_point b)
+    upper k = ⊎_elim (λ l. inr (inr (rw (point-high {b = b} l) (l, h)))) (in_table k) (le-or-lt 160 b)
+
+record Source (p : ℕ) : Type 0 where
+  byte : ℕ
+  low : byte < 256
+  is : code_point byte ≡ p
+
+source : (p : ℕ) → IsWindows1252 p → Source p
+source p h = ⊎_elim (λ l. record { byte = p; low = omega arith; is = point-low l }) (λ r. ⊎_elim in_table above r) h
+  where
+    in_table : Contains points p → Source p
+    in_table c =
+        let l : c.0 < 32 = omega (arith, c.1, table-long) in
+        let e : 128 + c.0 - 128 ≡ c.0 = omega arith in
+        record {
+          byte = 128 + c.0;
+          low = omega (arith, l);
+          is = point-mid {b = 128 + c.0} (omega arith) (omega (arith, l)) ∙ ap (λ (k : ℕ). get_or points k 0) e ∙ sym (get_or_default_zero points c.0 p c.1) ∙ c.2;
+        }
+
+    above : (160 ≤ p) × (p < 256) → Source p
+    above k = record { byte = p; low = k.1; is = point-high k.0 }
+
+within_of : (s : List ℕ) → AreBytes s → IsWithin (decoded s)
+unfolding decoded
+within_of [] h = ([], All-nil IsWindows1252, refl)
+within_of (b ∷ s) h =
+    let r = within_of s (λ k. h (suc k)) in
+    (code_point b ∷ r.0, All-cons IsWindows1252 (code_point b) r.0 (has_code_point b (h 0)) r.1, ap (λ (l : List ℕ). utf8 (code_point b) ++ l) r.2)
+
+record Bytes (ps : List ℕ) : Type 0 where
+  string : List ℕ
+  bytes : AreBytes string
+  told : decoded string ≡ flat_map utf8 ps
+
+bytes-more : (b : ℕ) (s : List ℕ) → b < 256 → AreBytes s → AreBytes (b ∷ s)
+bytes-more b s h f zero = h
+bytes-more b s h f (suc k) = f k
+
+no_bytes : AreBytes []
+no_bytes k = omega arith
+
+bytes_of : (ps : List ℕ) → All IsWindows1252 ps → Bytes ps
+unfolding decoded
+bytes_of [] h = record { string = []; bytes = no_bytes; told = refl }
+bytes_of (p ∷ ps) h =
+    let c = source p (All-head IsWindows1252 p ps h) in
+    let r = bytes_of ps (All-tail IsWindows1252 p ps h) in
+    record {
+      string = c.byte ∷ r.string;
+      bytes = bytes-more c.byte r.string c.low r.bytes;
+      told = ap (λ (q : ℕ). utf8 q ++ decoded r.string) c.is ∙ ap (λ (l : List ℕ). utf8 p ++ l) r.told;
+    }
+
+-- what a text is written as is bytes
+written-bytes : (s t : List ℕ) (place : ℕ) → encoded_from 0 place t ≡ Ok s → AreBytes s
+unfolding char_of byte_of
+written-bytes [] t place e = no_bytes
+written-bytes (b ∷ s) t place e =
+    let f = first t place b s e in
+    let c = spelt (scalar_of t) b f.width f.char in
+    bytes-more b s (omega (arith, (seek-sound 256 0 c.point b c.byte).1)) (written-bytes s (drop f.width t) (place + f.width) f.rest)
+
+-- ---- both round trips
+pair_of : (s : List ℕ) → AreBytes s → length s ≤ limit → Pair s (decoded s)
 unfolding decoding encoding
-back-and-there s t e =
-    let r = within_by (ltb limit (length t)) t (encoded_from 0 0 t) s e in
-    let q : decoded s ≡ t = text-back s t 0 r.1 in
-    in-limit s (Ok (decoded s)) (omega (arith, ltb-false limit (length t) r.0, decoded-longer s, ap length q)) ∙ ap Ok q
+pair_of s h l = record {
+  bytes = h;
+  text = within_of s h;
+  told = in-limit s (Ok (decoded s)) l;
+  written = λ m. in-limit (decoded s) (encoded_from 0 0 (decoded s)) m ∙ bytes_back s 0 h;
+}
+
+pair_by : (s t : List ℕ) → AreBytes s → decoded s ≡ t → length t ≤ limit → Pair s t
+pair_by s t h e l = subst (Pair s) e (pair_of s h (omega (arith, l, decoded-longer s, ap length e)))
+
+pub bytes_come_back : BytesComeBack
+unfolding decoding
+bytes_come_back s h = (λ l. (decoded s, pair_of s h l), told)
+  where
+    told : (t : List ℕ) → decoding s ≡ Ok t → (length s ≤ limit) × Pair s t
+    told t e =
+        let r = within_by (ltb limit (length s)) s (Ok (decoded s)) t e in
+        let l : length s ≤ limit = ltb-false limit (length s) r.0 in
+        let q : decoded s ≡ t = cc in
+        (l, subst (Pair s) q (pair_of s h l))
+
+pub text_comes_back : TextComesBack
+unfolding encoding
+text_comes_back t = (whole, only)
+  where
+    whole : IsWithin t → length t ≤ limit → (s : List ℕ) × Pair s t
+    whole w l =
+        let r = bytes_of w.0 w.1 in
+        (r.string, pair_by r.string t r.bytes (r.told ∙ sym w.2) l)
+
+    only : (s : List ℕ) → encoding t ≡ Ok s → (length t ≤ limit) × Pair s t
+    only s e =
+        let r = within_by (ltb limit (length t)) t (encoded_from 0 0 t) s e in
+        let l : length t ≤ limit = ltb-false limit (length t) r.0 in
+        (l, pair_by s t (written-bytes s t 0 r.1) (text-back s t 0 r.1) l)

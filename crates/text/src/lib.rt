@@ -440,12 +440,12 @@ pub fn encode(src: &[u8], out: &mut [u8]) -> Result<usize, Refusal>
 
 // The theorems. Each is the contract of a function that does nothing, so that none goes unnoticed if its proof does.
 
-/// Bytes are told as a text that gives these bytes back, where the text is within the limit.
+/// Bytes have a text exactly where they are within the limit; it is within Windows-1252, and gives these bytes back, where it is within the limit too.
 pub fn bytes_come_back()
     ensures { BytesComeBack }
 {}
 
-/// A text that is accepted is the text of the bytes that it is written as.
+/// A text is accepted exactly where it is within Windows-1252 and the limit; it is the text of the bytes that it is written as.
 pub fn text_comes_back()
     ensures { TextComesBack }
 {}

@@ -1,5 +1,5 @@
-use Rattle.text.proofs.Theory.{back-and-there}
+use Rattle.text.proofs.Theory.{text_comes_back}
 use Rattle.text.proofs.text_comes_back.Goals as goal
 
 pub returns : goal.returns
-returns c = back-and-there
+returns c = text_comes_back
