@@ -2,18 +2,22 @@
 use Rattle.std.proofs.Common.{ℕ, zero, suc, ◌+◌, ◌<◌, ◌≤◌, ◌≡◌, refl, sym, ap, ◌∙◌, Bool, true, false, List, [], ◌∷◌, length, arith, Bor}
 use Rattle.std.specs.Prelude.{leb, map, Option, Some, None, Result, Ok, Err, if◌then◌else◌}
 use Rattle.std.specs.Option.{option_map}
+use borrow.Author.Tests.{le-ltb, eqb-true, eqb-false}
+use Rattle.le.specs.Le.{le4}
 use Rattle.part.specs.Slice.{part}
 use Rattle.part.specs.Outcome.{and_then}
+use Rattle.refusal.specs.Refusal.{limit}
 use Rattle.refusal.specs.declared.Refusal.{Refusal}
-use Rattle.entry.specs.Entry.{claim_at}
+use Rattle.entry.specs.Entry.{claim_at, claim_of}
+use Rattle.entry.specs.declared.Claimed.{Claimed}
 use Rattle.entry.specs.Walk.{stands, steps_from, steps, OneWalk}
-use Rattle.entry.proofs.Claims.{meets}
+use Rattle.entry.proofs.Claims.{meets, Claims, ended, large, short, beyond, entry, claims}
 use Rattle.entry.proofs.Direct.{part_long, claims_own, own_again}
 use Rattle.entry.proofs.Laws.{one-walk}
-use Rattle.walk.specs.Step.{step_at}
-use Rattle.walk.specs.Pieces.{piece_at, pieces_from}
-use Rattle.walk.proofs.Left.{none_left}
-use Rattle.walk.specs.Theorems.{cursor_of, Reads, PiecesAreSteps}
+use Rattle.walk.specs.Step.{step_at, parse_of}
+use Rattle.walk.specs.Pieces.{piece_at, pieces_from, claim_there}
+use Rattle.walk.proofs.Left.{none_left, piece_starts}
+use Rattle.walk.specs.Theorems.{cursor_of, Reads, PiecesAreSteps, PiecesTellSteps, IsAsStep}
 
 module _ {R : Type 0} (read : Bor (List ℕ) → Result R Refusal) where
   pub walk_is : OneWalk (step_at read) cursor_of
@@ -71,3 +75,45 @@ module _ {R : Type 0} (read : Bor (List ℕ) → Result R Refusal) where
     pub reads : (step_at read s at).answer ≡ Some (Ok r) → Reads header read length_of s at r
     unfolding step_at
     reads h = by-claim (claim_at s.now at).size refl h
+
+  answered : (s : Bor (List ℕ)) (at : ℕ) → at < length s.now → (c : Claimed) → Claims s.now at c
+      → option_map (λ claim. and_then claim (λ size. read (part s at size))) c.size ≡ Some (and_then (claim_there c.size) (λ size. read (part s at size)))
+  answered s at h c (ended a) = absurd (omega arith)
+  answered s at h c (large a b) = refl
+  answered s at h c (short a b d) = refl
+  answered s at h c (beyond a b d e) = refl
+  answered s at h c (entry a b d e) = refl
+
+  by-stand : (s : Bor (List ℕ)) (at : ℕ) → at < length s.now → (b : Bool) → stands s.now at ≡ b → IsAsStep read s at
+  unfolding step_at piece_at
+  by-stand s at h true e = record {
+    begins = piece_starts read s at;
+    moves = λ m. absurd (omega (arith, eqb-true (claim_at s.now at).next at e));
+    stays = λ m. simp e (refl, refl);
+  }
+  by-stand s at h false e = record {
+    begins = piece_starts read s at;
+    moves = λ m. simp e (answered s at h (claim_at s.now at) (claims s.now at), refl);
+    stays = λ m. absurd (eqb-false (claim_at s.now at).next at e m);
+  }
+
+  pub pieces_tell : PiecesTellSteps read
+  pieces_tell s at h = by-stand s at h (stands s.now at) refl
+
+  module _ (header : ℕ) (four : 4 < header) (s : Bor (List ℕ)) (small : length s.now ≤ limit) (long : header ≤ le4 s.now 0) (there : le4 s.now 0 ≤ length s.now) where
+    met : (c : Claimed) → Claims s.now 0 c → c.size ≡ Some (Ok (le4 s.now 0))
+    met c (ended a) = absurd (omega arith)
+    met c (large a b) = absurd (omega arith)
+    met c (short a b d) = absurd (omega arith)
+    met c (beyond a b d e) = absurd (omega arith)
+    met c (entry a b d e) = refl
+
+    claimed_whole : claim_of header s.now ≡ Ok (le4 s.now 0)
+    unfolding claim_of
+    claimed_whole = simp (le-ltb limit (length s.now) small, le-ltb (length s.now) header (omega arith), le-ltb (length s.now) (le4 s.now 0) there, le-ltb (le4 s.now 0) header long)
+
+    pub behind_unread : parse_of header read s ≡ parse_of header read (part s 0 (le4 s.now 0))
+    behind_unread =
+        let size : ℕ = le4 s.now 0 in
+        let m = meets s.now 0 size (met (claim_at s.now 0) (claims s.now 0)) in
+        simp (claimed_whole, claims_own header s 0 size m (omega arith) long, own_again header s 0 size m (omega arith) long)

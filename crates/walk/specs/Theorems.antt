@@ -1,8 +1,11 @@
 -- What the theorems say.
-use Rattle.std.specs.Prelude.{ℕ, ◌+◌, ◌≡◌, List, map, Result, Some, Ok}
+use Rattle.std.specs.Prelude.{ℕ, ◌+◌, ◌<◌, ◌≤◌, ◌≡◌, List, map, length, Result, Some, Ok, Err}
 use Rattle.std.specs.Borrow.{Bor}
+use Rattle.le.specs.Le.{le4}
 use Rattle.part.specs.Slice.{part}
+use Rattle.refusal.specs.Refusal.{limit}
 use Rattle.refusal.specs.declared.Refusal.{Refusal}
+use Rattle.refusal.specs.declared.Refusal.TheVariants.{ZeroEntryLength}
 use Rattle.entry.specs.Walk.{steps}
 use Rattle.walk.specs.declared.Stepped.{Stepped}
 use Rattle.walk.specs.Step.{parse_of, step_at}
@@ -22,3 +25,17 @@ module _ {R : Type 0} (header : ℕ) (read : Bor (List ℕ) → Result R Refusal
 
 abbrev pub PiecesAreSteps : {R : Type 0} → (Bor (List ℕ) → Result R Refusal) → Type 0
 PiecesAreSteps read = (s : Bor (List ℕ)) → pieces read s ≡ map (piece_at read s) (steps s.now)
+
+module _ {R : Type 0} (read : Bor (List ℕ) → Result R Refusal) where
+  -- the piece at a place before the end: what the step there gives, up to where it moves; where it stays, all that is left, refused with 10
+  pub record IsAsStep (s : Bor (List ℕ)) (at : ℕ) : Type 0 where
+    pub begins : (piece_at read s at).start ≡ at
+    pub moves : at < (step_at read s at).cursor.at → ((step_at read s at).answer ≡ Some (piece_at read s at).answer) × ((piece_at read s at).end ≡ (step_at read s at).cursor.at)
+    pub stays : (step_at read s at).cursor.at ≡ at → ((piece_at read s at).answer ≡ Err ZeroEntryLength) × ((piece_at read s at).end ≡ length s.now)
+
+  abbrev pub PiecesTellSteps : Type 0
+  PiecesTellSteps = (s : Bor (List ℕ)) (at : ℕ) → at < length s.now → IsAsStep s at
+
+  -- a direct parse reads the bytes that the entry claims: what stands behind them changes nothing
+  abbrev pub BehindIsUnread : ℕ → Type 0
+  BehindIsUnread header = (s : Bor (List ℕ)) → length s.now ≤ limit → header ≤ le4 s.now 0 → le4 s.now 0 ≤ length s.now → parse_of header read s ≡ parse_of header read (part s 0 (le4 s.now 0))

@@ -12,7 +12,7 @@ ghost use Rattle.entry.specs.Bounded.{bounded_walk};
 ghost use Rattle.walk.specs.Zero.{is_zero};
 ghost use Rattle.walk.specs.Step.{parse_of, step_at, walker_step};
 ghost use Rattle.walk.specs.Pieces.{piece_at, pieces, walker_left, PieceGiven};
-ghost use Rattle.walk.specs.Theorems.{cursor_of, StepsRead, PiecesAreSteps};
+ghost use Rattle.walk.specs.Theorems.{cursor_of, StepsRead, PiecesAreSteps, PiecesTellSteps, BehindIsUnread};
 
 use entry::Walked;
 use refusal::{Mode, Refusal};
@@ -229,4 +229,14 @@ pub fn steps_read<'a, E: Entry<'a>>()
 /// The pieces that a walker gives are those at the places where the walk's steps begin, in order.
 pub fn pieces_are_steps<'a, E: Entry<'a>>()
     ensures { (mode : Mode) → PiecesAreSteps (E.read mode) }
+{}
+
+/// A piece tells what the step at its place gives, and ends where that moves to; where the step stays, at a zero claim, the piece takes all that is left.
+pub fn pieces_tell_steps<'a, E: Entry<'a>>()
+    ensures { (mode : Mode) → PiecesTellSteps (E.read mode) }
+{}
+
+/// A direct parse reads the bytes that the entry claims, and none behind them.
+pub fn behind_is_unread<'a, E: Entry<'a>>()
+    ensures { (mode : Mode) → BehindIsUnread (E.read mode) E.HEADER }
 {}
