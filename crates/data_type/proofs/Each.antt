@@ -40,7 +40,7 @@ drop_past_set (suc n) [] i x h = refl
 drop_past_set (suc n) (y ∷ xs) zero x h = refl
 drop_past_set (suc n) (y ∷ xs) (suc i) x h = drop_past_set n xs i x (omega arith)
 
-get_set : (xs : List ℕ) (i x d : ℕ) → i < length xs → get_or (set xs i x) i d ≡ x
+pub get_set : (xs : List ℕ) (i x d : ℕ) → i < length xs → get_or (set xs i x) i d ≡ x
 get_set [] i x d h = absurd (omega arith)
 get_set (y ∷ xs) zero x d h = refl
 get_set (y ∷ xs) (suc i) x d h = get_set xs i x d (omega arith)

@@ -1,3 +1,4 @@
+pub mod Arrays
 pub mod Turns
 pub mod Entry
 pub mod Parts

@@ -15,6 +15,7 @@ use Rattle.data_type.specs.declared.array.ArrayInfos.{ArrayInfos}
 use Rattle.data_type.specs.Array.{listed}
 use Rattle.data_type.specs.DataType.{arrays_of, type_of}
 use Rattle.data_type.specs.Theorems.{strings_end, array_at, IsArrays, ArraysMeant}
+use Rattle.data_type.proofs.Arrays.{length_all}
 use Rattle.data_type.proofs.Parts.{length_in}
 use Rattle.data_type.proofs.Parsed.{meets, parsed}
 use Rattle.data_type.proofs.Inside.{accepted_at}
@@ -98,7 +99,7 @@ module _ (mode : Mode) (s : Bor (List ℕ)) (size : ℕ) (f : Front) (within : s
             let m : strings_end s.now + (8 * k + 4) ≡ strings_end s.now + 8 * k + 4 = omega arith in
             simp (w, listed_get f.array_count k (part f.rest 0 (8 * f.array_count)) (omega (arith, c)) (omega arith))
             (ap₂ (λ (i j : ℕ). Ok (record { lower_bound = i; elements = j })) (number_at (8 * k) (omega arith)) (number_at (8 * k + 4) o ∙ ap (le4 s.now) m));
-        past = λ k x. simp (w, listed_past f.array_count k (part f.rest 0 (8 * f.array_count)) (omega (arith, c)) (omega arith)) (ap (λ (i : ℕ). Err (NoSuchNumber i k)) c);
+        past = λ k x. simp (w, listed_past f.array_count k (part f.rest 0 (8 * f.array_count)) (omega (arith, c)) (omega arith)) (ap (λ (i : ℕ). Err (NoSuchNumber i k)) (length_all f.array_count (part f.rest 0 (8 * f.array_count)) (omega arith) ∙ c));
       }
 
 pub arrays_meant : ArraysMeant

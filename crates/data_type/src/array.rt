@@ -1,8 +1,8 @@
 //! Array records: a dimension of an array each.
 ghost use Rattle.std.specs.Prelude.{◌≡◌, ◌≤◌, length};
-ghost use Rattle.std.specs.Iterator.{YieldsFirst, item_count};
+ghost use Rattle.std.specs.Iterator.{YieldsFirst, MakesProgress, item_count};
 ghost use Rattle.part.specs.Slice.{after};
-ghost use Rattle.data_type.specs.Array.{first_of, listed, numbered};
+ghost use Rattle.data_type.specs.Array.{first_of, left, behind_first, numbered};
 
 use refusal::Refusal;
 
@@ -20,7 +20,7 @@ pub struct AdsArrayInfo {
 pub struct ArrayInfos<'a> {
     /// They fill these bytes, 8 each.
     pub bytes: &'a [u8],
-    /// How many there are.
+    /// How many there are, or as many as the bytes hold.
     pub count: usize,
 }
 
@@ -48,12 +48,16 @@ fn behind(bytes: &[u8]) -> &[u8]
 impl Iterator for ArrayInfos<'_> {
     type Item = AdsArrayInfo;
 
-    ghost next_gives = { YieldsFirst (λ s. listed s.bytes s.count) };
+    ghost next_gives = { YieldsFirst left };
 
-    ghost remaining = { item_count (λ s. listed s.bytes s.count) };
+    ghost remaining = { item_count left };
 
     #[tactic(auto, unfolding(crate::specs::Array::listed))]
-    fn next(&mut self) -> Option<AdsArrayInfo> {
+    fn next(&mut self) -> Option<AdsArrayInfo>
+        ensures steps { YieldsFirst left self.old result self.new }
+        ensures goes { MakesProgress (λ s. Unit {0}) (item_count left) self.old result self.new }
+        ensures moves { self.new ≡ behind_first self.old }
+    {
         if self.count == 0 {
             return None;
         }
@@ -73,7 +77,7 @@ impl ArrayInfos<'_> {
     pub fn get(mut self, number: usize) -> Result<AdsArrayInfo, Refusal>
         ensures { result ≡ numbered self.entry number }
     {
-        let count = self.count;
+        let count = self.count.min(self.bytes.len() / 8);
         self.nth(number).ok_or(Refusal::NoSuchNumber {
             count,
             asked: number,

@@ -106,7 +106,8 @@ pub fn item_in(bytes: &[u8]) -> Result<Item<'_>, Refusal>
     })
 }
 
-/// The members of a data type, read one by one as they are asked for, parents before children.
+/// The members of a data type, read one by one as they are asked for, parents before children. Its fields are its own, so that
+/// what it has still to give is all that a caller can see of it: of two that have the same left, each answer is the same.
 #[derive(Clone, Copy, Debug)]
 pub struct Members<'a> {
     // What the sub-items of the data type fill.

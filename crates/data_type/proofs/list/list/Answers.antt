@@ -1,5 +1,4 @@
 use Rattle.std.proofs.Common.{◌≡◌, sym, ◌∙◌, arith, Ok}
-use Rattle.le.proofs.Laws.{wrote}
 use Rattle.writing.proofs.Laws.{too_small, done}
 use Rattle.walk.specs.Step.{parse_of}
 use Rattle.data_type.specs.DataType.{type_of}
@@ -22,11 +21,10 @@ returns-then-lent-needed c =
 pub fill-requires : goal.fill-requires
 fill-requires c =
     let h : parse_of 42 (type_of c.args.mode) c.args.bytes ≡ Ok c.in_ok-info.info = sym c.parse.ensures ∙ c.in_ok-info.was in
-    omega (arith, three_each c.args.mode c.args.bytes c.in_ok-info.info h, c.if-lent-needed.false)
+    record { least = omega arith; deepest = omega arith; small = omega arith; room = omega (arith, three_each c.args.mode c.args.bytes c.in_ok-info.info h, c.if-lent-needed.false) }
 
 pub returns : goal.returns
 returns c =
     let h : parse_of 42 (type_of c.args.mode) c.args.bytes ≡ Ok c.in_ok-info.info = sym c.parse.ensures ∙ c.in_ok-info.was in
     let w : members_written c.args.mode c.args.bytes ≡ Ok (slots_of (members_of c.in_ok-info.info)) = simp h in
-    let t = three_each c.args.mode c.args.bytes c.in_ok-info.info h in
-    done w (wrote c.fill.ensures (omega (arith, t)) (omega (arith, t, c.if-lent-needed.false)))
+    done w c.fill.ensures
