@@ -4,13 +4,14 @@
 use listing::Failure;
 use refusal::Mode;
 use std::io;
-use std::io::BufWriter;
+use std::io::{BufWriter, ErrorKind};
 
 fn main(rt: HostRuntime) -> io::Result<()> {
     let mut output = BufWriter::with_capacity(rt.alloc(), 65536, rt.stdout())?;
     match listing::list(&mut rt.stdin(), &mut output, rt.alloc(), Mode::Present) {
         Ok(()) => Ok(()),
         Err(Failure::Input(why)) => Err(why),
+        Err(Failure::Endless) => Err(io::Error::from(ErrorKind::FileTooLarge)),
         Err(Failure::Output(why)) => Err(why),
     }
 }

@@ -62,6 +62,19 @@ feed_at (c ∷ s) (suc k) t h n p =
     ap (λ (b : Bool). cond b ([] ∷ lines (s ++ t)) (onto_first c (lines (s ++ t)))) e
     ∙ ap (onto_first c) (feed_at s k t (omega (arith, h)) (below c s k n) p)
 
+-- no more lines than characters, and one
+onto_few : (c : ℕ) (ls : List (List ℕ)) → length (onto_first c ls) ≤ suc (length ls)
+onto_few c [] = omega arith
+onto_few c (l ∷ ls) = omega arith
+
+few_lines : (s : List ℕ) → length (lines s) ≤ suc (length s)
+few_lines [] = omega arith
+few_lines (c ∷ s) = by (is_byte 10 c) (few_lines s)
+  where
+    by : (b : Bool) → length (lines s) ≤ suc (length s) → length (cond b ([] ∷ lines s) (onto_first c (lines s))) ≤ suc (suc (length s))
+    by true h = omega (arith, h)
+    by false h = omega (arith, h, onto_few c (lines s))
+
 -- what is held of a line
 held_more : (n : ℕ) (u w : List ℕ) → take n u ++ take (n - length (take n u)) w ≡ take n (u ++ w)
 held_more zero u w = refl
@@ -175,6 +188,10 @@ module _ {mode : Mode} {before now : Option (List ℕ)} {line : Line} where
 
   whole_is : (read : List ℕ) (r : Reading mode read [] before now line) → lines read ≡ r.done ++ (r.last ∷ [])
   whole_is read r = ap lines (sym (append-nil read)) ∙ r.splits [] ∙ ap (λ (x : List ℕ). r.done ++ (x ∷ [])) (append-nil r.last)
+
+  -- so the number of the line under way is no more than that of the characters read, and one
+  pub number_fits : (read : List ℕ) → Reading mode read [] before now line → line.number ≤ length read + 1
+  number_fits read r = omega (arith, r.number, few_lines read, ap length (whole_is read r), length-append r.done (r.last ∷ []))
 
   -- the input ends, and the line under way is listed
   pub finishes : (read : List ℕ) (after : Option (List ℕ)) → Reading mode read [] before now line → Appends now after (line_text mode line.number line.digits.items) → Appends before after (listing mode read)

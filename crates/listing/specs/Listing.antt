@@ -1,5 +1,5 @@
 -- docs/FORMAT.md, "Listing". What is listed of an input: a header, and for each line the rows of the upload that it spells.
-use Rattle.std.specs.Prelude.{ℕ, ◌+◌, ◌-◌, ◌==◌, ◌≡◌, ltb, List, [], ◌∷◌, ◌++◌, length, take, codes, Option, Some, None, Ok, Err, ⊤, if◌then◌else◌}
+use Rattle.std.specs.Prelude.{ℕ, ◌+◌, ◌-◌, ◌==◌, ◌≡◌, ◌≢◌, ◌≤◌, ltb, List, [], ◌∷◌, ◌++◌, length, take, codes, Option, Some, None, Ok, Err, ⊤, if◌then◌else◌}
 use Rattle.std.specs.List.{flat_map, slice_split, enumerate_from}
 use Rattle.std.specs.Io.KnownBytes.{Appends, Consumes}
 use Rattle.std.specs.Borrow.{Bor}
@@ -16,7 +16,9 @@ use Rattle.symbol.specs.Symbol.{symbol_of}
 use Rattle.listing.specs.Row.{entry_row, refusal_row}
 use Rattle.listing.specs.declared.Line.{Line}
 use Rattle.listing.specs.declared.Failure.{Failure}
-use Rattle.listing.specs.declared.Failure.TheVariants.{Input, Output}
+use Rattle.listing.specs.declared.Failure.TheVariants.{Input, Endless, Output}
+use Rattle.std.specs.IoError.{error_kind}
+use Rattle.std.specs.declared.io.ErrorKind.TheVariants.{Interrupted}
 
 -- the digits of the longest upload that is listed, 16,384 bytes
 abbrev pub longest : ℕ
@@ -63,14 +65,22 @@ listing mode s = header ++ lines_text mode 1 (lines s)
 unfoldable pub listing_of_ended : Mode → List ℕ → List ℕ
 listing_of_ended mode s = header ++ lines_text mode 1 (take (length (lines s) - 1) (lines s))
 
--- what was read is listed, its whole lines
-abbrev pub Listed : Mode → Option (List ℕ) → Option (List ℕ) → Option (List ℕ) → Option (List ℕ) → Type 0
-Listed mode input left before after = (read : List ℕ) × Consumes input left read × Appends before after (listing_of_ended mode read)
+-- the most that a line's number can be, 2 ^ 64 - 1; and so many bytes that those of their lines, and of the next 8,192 bytes, fit
+abbrev pub most_number : ℕ
+most_number = 18446744073709551615
 
--- of an error that the reader gave
-abbrev pub IfInput : Failure → Type 0 → Type 0
-IfInput (Input e) P = P
-IfInput (Output e) P = ⊤
+abbrev pub most : ℕ
+most = 18446744073709543423
+
+-- so many bytes were read, or more, and their whole lines are listed
+abbrev pub Listed : Mode → ℕ → Option (List ℕ) → Option (List ℕ) → Option (List ℕ) → Option (List ℕ) → Type 0
+Listed mode least input left before after = (read : List ℕ) × Consumes input left read × Appends before after (listing_of_ended mode read) × (least ≤ length read)
+
+-- where a listing stopped: at an error of the reader that is no interruption, or since there is too much to count; of other errors nothing is said
+abbrev pub Stopped : Mode → Option (List ℕ) → Option (List ℕ) → Option (List ℕ) → Option (List ℕ) → Failure → Type 0
+Stopped mode input left before after (Input e) = Listed mode 0 input left before after × (error_kind e ≢ Interrupted)
+Stopped mode input left before after Endless = Listed mode most input left before after
+Stopped mode input left before after (Output e) = ⊤
 
 -- a line that began with some characters, and the lines after it
 abbrev pub goes_on : List ℕ → List (List ℕ) → List (List ℕ)

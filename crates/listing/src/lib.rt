@@ -1,15 +1,17 @@
 //! The listing of hexadecimal lines, an upload each: a row of text for each entry of an upload and for each refused step.
 #![tactic(auto)]
 
-ghost use Rattle.std.specs.Prelude.{◌≡◌, ◌++◌, IfSome, IfErr, OnOk, List, take, [], ◌+◌, ◌-◌, ℕ, Option, codes, length};
+ghost use Rattle.std.specs.Prelude.{◌≡◌, ◌≢◌, ◌↔◌, true, ◌≤◌, ◌<◌, ◌++◌, IfSome, IfOk, IfErr, OnOk, OnErr, List, take, [], ◌+◌, ◌-◌, ℕ, Option, codes, length};
 ghost use Rattle.std.specs.List.{flat_map};
-ghost use Rattle.std.specs.Io.KnownBytes.{Appends, Consumes};
+ghost use Rattle.std.specs.Io.{ReadsAtMost};
+ghost use Rattle.std.specs.Io.KnownBytes.{Appends, Consumes, IsAtEnd, Keeps};
+ghost use Rattle.std.specs.IoError.{error_kind};
 ghost use Rattle.refusal.specs.Refusal.{figures_of};
 ghost use Rattle.symbol.specs.Symbol.{symbol_of};
 ghost use Rattle.walk.specs.Pieces.{pieces};
 ghost use Rattle.listing.specs.declared.Failure.TheVariants.{Output};
 ghost use Rattle.listing.specs.Row.{refusal_row};
-ghost use Rattle.listing.specs.Listing.{row, line_text, header, listing, listing_of_ended, longest, IfInput, Listed, Reading};
+ghost use Rattle.listing.specs.Listing.{row, line_text, header, listing, listing_of_ended, longest, most, most_number, Stopped, Reading};
 
 pub mod row;
 
@@ -25,10 +27,17 @@ use walk::Piece;
 // The digits of the longest frame, 16,384 bytes.
 const LONGEST: usize = 32768;
 
-/// Why a listing stopped: the reader failed, or the writer did or memory ran out.
+// How many bytes are read at once.
+const PART: usize = 8192;
+
+// After so many bytes no more are read: the numbers of their lines fit, and so do those of one part more.
+const MOST: u64 = u64::MAX - 8192;
+
+/// Why a listing stopped: the reader failed, more was read than lines can be counted in, or the writer failed or memory ran out.
 #[derive(Debug, Drop)]
 pub enum Failure {
     Input(io::Error),
+    Endless,
     Output(io::Error),
 }
 
@@ -123,15 +132,13 @@ impl Line {
 
     // Lists a line that has ended, and begins the next.
     fn end<W: Write>(&mut self, mode: Mode, alloc: Global, output: &mut W) -> io::Result<()>
+        requires { self.old.number < most_number }
         ensures text { OnOk result (Appends (W.contents output.old) (W.contents output.new)
             (line_text mode self.old.number self.old.digits.items)) }
         ensures number { OnOk result (self.new.number ≡ self.old.number + 1) }
         ensures digits { OnOk result (self.new.digits.items ≡ []) }
     {
         self.write(mode, alloc, output)?;
-        if self.number == u64::MAX {
-            return Err(io::Error::from(ErrorKind::TimedOut));
-        }
         self.number += 1;
         self.digits.clear();
         Ok(())
@@ -145,6 +152,7 @@ impl Line {
         alloc: Global,
         output: &mut W,
     ) -> io::Result<()>
+        requires { self.old.number + length part.now ≤ most_number }
         ensures { OnOk result ((read : List ℕ) (before : Option (List ℕ)) → Reading mode read part.now before (W.contents output.old) self.old
             → Reading mode read [] before (W.contents output.new) self.new) }
     {
@@ -158,6 +166,33 @@ impl Line {
     }
 }
 
+fn is_interrupted(why: &io::Error) -> bool
+    ensures { result ≡ true ↔ (error_kind why.now ≡ ErrorKind.Interrupted) }
+{
+    why.kind() == ErrorKind::Interrupted
+}
+
+// A read that no signal interrupts.
+fn read_on<R: Read>(input: &mut R, part: &mut [u8]) -> io::Result<usize>
+    ensures bound { ReadsAtMost result part.new }
+    ensures ok { IfOk result (λ n. Consumes (R.remaining input.old) (R.remaining input.new) (take n part.new)) }
+    ensures end { IfOk result (λ n. n ≡ 0 → 0 < length part.old → IsAtEnd (R.remaining input.new)) }
+    ensures err { OnErr result (Keeps (R.remaining input.old) (R.remaining input.new)) }
+    ensures retried { IfErr result (λ e. error_kind e ≢ ErrorKind.Interrupted) }
+{
+    for _ in 0..u64::MAX {
+        match input.read(part) {
+            Ok(n) => return Ok(n),
+            Err(why) => {
+                if !is_interrupted(&why) {
+                    return Err(why);
+                }
+            }
+        }
+    }
+    Err(io::Error::from(ErrorKind::TimedOut))
+}
+
 /// The listing of all that the input has left. Each line is listed as soon as it is whole.
 pub fn list<R: Read, W: Write>(
     input: &mut R,
@@ -167,8 +202,8 @@ pub fn list<R: Read, W: Write>(
 ) -> Result<(), Failure>
     ensures whole { OnOk result (IfSome (R.remaining input.old) (λ s. Appends (W.contents output.old) (W.contents output.new) (listing mode s))) }
 
-    // At an error of the reader the lines that were read whole are listed.
-    ensures ended { IfErr result (λ e. IfInput e (Listed mode (R.remaining input.old) (R.remaining input.new) (W.contents output.old) (W.contents output.new))) }
+    // Where it stops before the input ends, the lines that were read whole are listed.
+    ensures stopped { IfErr result (λ e. Stopped mode (R.remaining input.old) (R.remaining input.new) (W.contents output.old) (W.contents output.new) e) }
 {
     output.write_all(
         b"line at len group offset size type flags unread attrs refs name typename high\n",
@@ -177,23 +212,23 @@ pub fn list<R: Read, W: Write>(
         number: 1,
         digits: Vec::new(alloc),
     };
-    let mut part = [0u8; 8192];
-    for _ in 0..u64::MAX {
+    let mut part = [0u8; PART];
+    let mut taken: u64 = 0;
+    while taken < MOST {
         // Who follows the output sees each line as it ends, before more of the input is waited for.
         output.flush()?;
-        match input.read(&mut part) {
+        match read_on(input, &mut part) {
             Ok(0) => {
                 line.write(mode, alloc, output)?;
                 output.flush()?;
                 return Ok(());
             }
-            Ok(n) => line.take(le::part_of(&part, 0, n), mode, alloc, output)?,
-            Err(why) => {
-                if why.kind() != ErrorKind::Interrupted {
-                    return Err(Failure::Input(why));
-                }
+            Ok(n) => {
+                line.take(le::part_of(&part, 0, n), mode, alloc, output)?;
+                taken += n as u64;
             }
+            Err(why) => return Err(Failure::Input(why)),
         }
     }
-    Err(Failure::Output(io::Error::from(ErrorKind::TimedOut)))
+    Err(Failure::Endless)
 }

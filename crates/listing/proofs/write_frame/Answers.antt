@@ -19,10 +19,10 @@ pub loop-piece-preserved : goal.loop-piece-preserved
 loop-piece-preserved g c = record {
   can = tt;
   ends = tt;
-  going = goes (row c.args.line) c.in-Some.ensures.steps c.loop-piece.invariant.going c.in_ok-write_row.ensures;
+  going = goes (row c.args.line) c.in-Some.ensures.steps.0 c.loop-piece.invariant.going c.in_ok-write_row.ensures;
 }
 
 pub returns : goal.returns
 returns g c =
     let is : walker_left symbol_of c.into_iter-piece-iterator.result ≡ pieces (symbol_of c.args.mode) c.args.frame = simp c.into_iter-piece-iterator.ensures.into_iter_gives c.new-piece-items.ensures.all in
-    subst (Appends _ _) (ap (flat_map (row c.args.line)) is) (ends (row c.args.line) c.in-None.ensures.steps.0 c.loop-piece.invariant.going)
+    subst (Appends _ _) (ap (flat_map (row c.args.line)) is) (ends (row c.args.line) c.in-None.ensures.steps.0.0 c.loop-piece.invariant.going)

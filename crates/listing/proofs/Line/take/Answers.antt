@@ -9,10 +9,18 @@ loop-end-smaller g c = omega (arith, ap length c.part_of-rest.ensures.result_val
 pub loop-end-preserved : goal.loop-end-preserved
 loop-end-preserved g c = (
   omega (arith, c.loop-end.invariant.0, ap length c.part_of-rest.ensures.result_value, less_after c.loop-end.rest.now c.in-Some.end c.in-Some.ensures.0.high),
+  omega (
+    arith,
+    c.loop-end.invariant.1,
+    c.in_ok-end.ensures.number,
+    c.hold.ensures.number,
+    ap length c.part_of-rest.ensures.result_value,
+    less_after c.loop-end.rest.now c.in-Some.end c.in-Some.ensures.0.high,
+  ),
   λ read before r.
       subst (λ (x : List ℕ). Reading c.args.mode read x before (g.W.Write.contents c.end.new.output) c.end.new.self)
       (sym (part_after c.loop-end.rest.now c.in-Some.end) ∙ sym c.part_of-rest.ensures.result_value)
-      (turns read c.loop-end.rest.now c.in-Some.end c.hold.new.self c.end.new.self (g.W.Write.contents c.end.new.output) (c.loop-end.invariant.1 read before r)
+      (turns read c.loop-end.rest.now c.in-Some.end c.hold.new.self c.end.new.self (g.W.Write.contents c.end.new.output) (c.loop-end.invariant.2 read before r)
       c.in-Some.ensures.0.high c.in-Some.ensures.0.before c.in-Some.ensures.1 c.hold.ensures.number
       (c.in_ok-hold.ensures.digits
       ∙ ap (λ (x : List ℕ). c.loop-end.self.digits.items ++ take (32769 - length c.loop-end.self.digits.items) x) (c.part_of.ensures.result_value ∙ part_front c.loop-end.rest.now c.in-Some.end))
@@ -22,5 +30,5 @@ loop-end-preserved g c = (
 pub returns : goal.returns
 returns g c =
     on_ok c.hold-2.result
-    (λ d read before r. holds read c.loop-end.rest.now c.hold-2.new.self (c.loop-end.invariant.1 read before r) c.in_default.ensures c.hold-2.ensures.number d)
+    (λ d read before r. holds read c.loop-end.rest.now c.hold-2.new.self (c.loop-end.invariant.2 read before r) c.in_default.ensures c.hold-2.ensures.number d)
     c.hold-2.ensures.digits
