@@ -13,3 +13,6 @@ pub mod Header
 pub mod Back
 pub mod Anywhere
 pub mod Refused
+pub mod Writable
+pub mod ReadOn
+pub mod Alone

@@ -2,7 +2,8 @@
 use Rattle.std.proofs.Common.{ℕ, zero, suc, ◌+◌, ◌-◌, ◌<◌, ◌≤◌, ◌≡◌, refl, sym, ap, ◌∙◌, Bool, true, false, List, [], ◌∷◌, length, take, drop, Ok, Err, Result, arith, Bor, subst, length-drop}
 use Rattle.std.specs.Prelude.{Option, Some, None, is_some, leb, if◌then◌else◌}
 use Rattle.std.proofs.lemmas.Grind.{common_steps}
-use lib.Seq.{length-take-le}
+use lib.Seq.{length-take-le, get_or-drop}
+use native.Mathlib.Nat.{add-zero}
 use borrow.Author.Tests.{leb-true}
 use Rattle.flags.specs.declared.symbol_flags.AdsSymbol2Flags.{AdsSymbol2Flags}
 use Rattle.le.specs.Le.{le2, le4, has}
@@ -21,7 +22,7 @@ use Rattle.refactor.specs.declared.RefactorInfos.{RefactorInfos}
 use Rattle.refactor.proofs.Again as refactors
 use Rattle.symbol.specs.declared.AdsSymbolInfo.{AdsSymbolInfo}
 use Rattle.symbol.specs.Symbol.{place_in, type_guid_flag, attributes_flag, extended_flags_flag, refactor_info_flag, extended_word, guid_of, attributes_of, extended_of, refactor_infos_of, with_strings, symbol_of}
-use Rattle.symbol.specs.Inside.{IsString, IsTail, AttributesLie, RefactorsLie, IsInside, SymbolsInside}
+use Rattle.symbol.specs.Inside.{IsString, IsTail, AttributesLie, RefactorsLie, behind_strings, behind_guid, IsInside, SymbolsInside}
 use Rattle.symbol.proofs.Laws.{accepted_is, accepted_room}
 use Rattle.symbol.proofs.Tails.{tail_after, tail_self, tail_again, string_in, string_at}
 
@@ -191,6 +192,42 @@ extended_size : (s : Bor (List ℕ)) (b : Bool) → length (extended_of s b).1.n
 unfolding extended_of
 extended_size s b = grind (arith, common_steps)
 
+-- a section that is read of the bytes from a place on, by the bytes that are left there
+abbrev pub left_there : Bor (List ℕ) → ℕ → Bool → ℕ → Bool
+left_there e at flagged size = if flagged then leb size (length e.now - at) else false
+
+guid_is : (e : Bor (List ℕ)) (at : ℕ) (b : Bool) → (guid_of (after e at) b).0 ≡ (if left_there e at b 16 then Some (take 16 (drop at e.now)) else None)
+unfolding guid_of
+guid_is e at b = let l = length-drop at e.now in grind (arith, common_steps)
+
+-- numbers of the bytes from a place on
+pub two_from : (l : List ℕ) (at : ℕ) → le2 (drop at l) 0 ≡ le2 l at
+unfolding le2
+two_from l at = simp (get_or-drop, add-zero)
+
+four_from : (l : List ℕ) (at : ℕ) → le4 (drop at l) 0 ≡ le4 l at
+unfolding le4
+four_from l at = simp (get_or-drop, add-zero)
+
+extended_is : (e : Bor (List ℕ)) (at : ℕ) (b : Bool) → (extended_of (after e at) b).0 ≡ (if left_there e at b 4 then Some (record { 0 = le4 (drop at e.now) 0 }) else None)
+unfolding extended_of
+extended_is e at b = let l = length-drop at e.now in grind (arith, common_steps)
+
+count_size : (e : Bor (List ℕ)) (at : ℕ) (b : Bool) → at ≤ length e.now → place_in e (attributes_of (after e at) b).0.bytes ≡ at + (if left_there e at b 2 then 2 else 0)
+unfolding attributes_of
+count_size e at b h = let l = length-drop at e.now in grind (arith, common_steps)
+
+module _ (e q : Bor (List ℕ)) (b : Bool) (t : IsTail e q) where
+  extended_there : (extended_of q b).0 ≡ (if left_there e (place_in e q) b 4 then Some (record { 0 = le4 e.now (place_in e q) }) else None)
+  extended_there =
+      rw (four_from e.now (place_in e q)) at
+      (subst (λ (x : Bor (List ℕ)). (extended_of x b).0 ≡ (if left_there e (place_in e q) b 4 then Some (record { 0 = le4 (drop (place_in e q) e.now) 0 }) else None)) (sym t.is) (extended_is e (place_in e q) b))
+
+  count_there : place_in e (attributes_of q b).0.bytes ≡ place_in e q + (if left_there e (place_in e q) b 2 then 2 else 0)
+  count_there =
+      subst (λ (x : Bor (List ℕ)). place_in e (attributes_of x b).0.bytes ≡ place_in e q + (if left_there e (place_in e q) b 2 then 2 else 0)) (sym t.is)
+      (count_size e (place_in e q) b (omega arith))
+
 -- a list of attributes of an entry's last bytes, and the bytes after it
 record AttributesSection (e s : Bor (List ℕ)) (q : Attributes × Bor (List ℕ)) : Type 0 where
   from : IsTail s q.0.bytes
@@ -239,14 +276,30 @@ string_of e at n h =
 length_of_part : (e : Bor (List ℕ)) (at n : ℕ) → at + n < length e.now → length (part e at n).now ≡ n
 length_of_part e at n h = length-take-le n (drop at e.now) (simp length-drop (omega arith))
 
+-- what follows the GUID, and where
+module _ (e : Bor (List ℕ)) (n t k : ℕ) (h : 33 + n + t + k ≤ length e.now) where
+  abbrev strings_size : ℕ
+  strings_size = 33 + length (part e 30 n).now + length (part e (31 + n) t).now + length (part e (32 + n + t) k).now
+
+  abbrev guid_and_rest : Option (List ℕ) × Bor (List ℕ)
+  guid_and_rest = guid_of (after e (33 + n + t + k)) (has (le2 e.now 20) type_guid_flag)
+
+  pub strings_end : 33 + n + t + k ≡ strings_size
+  strings_end = omega (arith, length_of_part e 30 n (omega arith), length_of_part e (31 + n) t (omega arith), length_of_part e (32 + n + t) k (omega arith))
+
+  pub guid_rest : IsTail e guid_and_rest.1
+  guid_rest = tail_again e (after e (33 + n + t + k)) guid_and_rest.1 (tail_after e (33 + n + t + k) h) (guid_tail (after e (33 + n + t + k)) (has (le2 e.now 20) type_guid_flag))
+
+  pub guid_end : place_in e guid_and_rest.1 ≡ strings_size + (if is_some guid_and_rest.0 then 16 else 0)
+  guid_end = omega (arith, strings_end, h, length-drop (33 + n + t + k) e.now, guid_size (after e (33 + n + t + k)) (has (le2 e.now 20) type_guid_flag))
+
 inside : (e : Bor (List ℕ)) (n t k : ℕ) → 33 + n + t + k ≤ length e.now → IsInside e (with_strings e n t k)
 unfolding with_strings
 inside e n t k h =
     let w : ℕ = le2 e.now 20 in
     let s : Bor (List ℕ) = after e (33 + n + t + k) in
-    let ts : IsTail e s = tail_after e (33 + n + t + k) h in
     let g = guid_of s (has w type_guid_flag) in
-    let tg : IsTail e g.1 = tail_again e s g.1 ts (guid_tail s (has w type_guid_flag)) in
+    let tg : IsTail e g.1 = guid_rest e n t k h in
     let a = attributes_of g.1 (has w attributes_flag) in
     let ta = attributes_section e g.1 (has w attributes_flag) tg in
     let x = extended_of a.1 (has w extended_flags_flag) in
@@ -255,13 +308,16 @@ inside e n t k h =
     let ln = length_of_part e 30 n (omega arith) in
     let lt = length_of_part e (31 + n) t (omega arith) in
     let lk = length_of_part e (32 + n + t) k (omega arith) in
-    let ls : length s.now ≡ length e.now - (33 + n + t + k) = length-drop (33 + n + t + k) e.now in
+    let bs : 33 + n + t + k ≡ behind_strings (with_strings e n t k) = omega (arith, strings_end e n t k h) in
+    let bg : place_in e g.1 ≡ behind_guid (with_strings e n t k) = omega (arith, guid_end e n t k h) in
     record {
       long = refl;
       name = string_of e 30 n (omega arith);
       type_name = string_at e (part e (31 + n) t) (31 + n) (31 + length (part e 30 n).now) (omega (arith, ln)) (string_of e (31 + n) t (omega arith));
       comment = string_at e (part e (32 + n + t) k) (32 + n + t) (32 + length (part e 30 n).now + length (part e (31 + n) t).now) (omega (arith, ln, lt)) (string_of e (32 + n + t) k (omega arith));
-      behind_strings = omega (arith, ln, lt, lk, ls, guid_size s (has w type_guid_flag), ts.within, ta.from.within);
+      guid = subst (λ (q : ℕ). g.0 ≡ (if left_there e q (has w type_guid_flag) 16 then Some (take 16 (drop q e.now)) else None)) bs (guid_is e (33 + n + t + k) (has w type_guid_flag));
+      attributes_at = subst (λ (q : ℕ). place_in e a.0.bytes ≡ q + (if left_there e q (has w attributes_flag) 2 then 2 else 0)) bg (count_there e g.1 (has w attributes_flag) tg);
+      extended_flags = subst (λ (q : Bor (List ℕ)). x.0 ≡ (if left_there e (place_in e q) (has w extended_flags_flag) 4 then Some (record { 0 = le4 e.now (place_in e q) }) else None)) (sym ta.after_is) (extended_there e a.1 (has w extended_flags_flag) ta.tail);
       attributes = attributes_lie e a.0.bytes a.0.count (tail_again e g.1 a.0.bytes tg ta.from);
       attribute_bytes = tail_again e g.1 a.0.bytes tg ta.from;
       refactor_bytes = subst (IsTail e) (sym tf.from) (tail_again e a.1 x.1 ta.tail tx);

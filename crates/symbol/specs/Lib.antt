@@ -7,3 +7,6 @@ pub mod Head
 pub mod Kind
 pub mod Writing
 pub mod Told
+pub mod Writable
+pub mod ReadOn
+pub mod Alone

@@ -4,6 +4,9 @@ ghost use Rattle.symbol.specs.Inside.{SymbolsInside};
 ghost use Rattle.symbol.specs.Modes.{SymbolsModes};
 ghost use Rattle.symbol.specs.Shown.{SymbolsShown, SymbolsNamed};
 ghost use Rattle.symbol.specs.Told.{LargestTyped, SymbolsAnywhere};
+ghost use Rattle.symbol.specs.Writable.{SymbolsWritten};
+ghost use Rattle.symbol.specs.ReadOn.{SymbolsReadOn};
+ghost use Rattle.symbol.specs.Alone.{SymbolsAlone};
 
 /// A symbol that is accepted has room for its strings and lists, and shows as many attributes as it counts.
 pub fn symbols_whole()
@@ -39,4 +42,21 @@ pub fn largest_typed()
 /// What a symbol tells is told by its bytes, wherever they lie.
 pub fn symbols_anywhere()
     ensures { SymbolsAnywhere }
+{}
+
+/// A symbol is written exactly where its strings and its count fit their fields, its blocks are so many attributes and refactor
+/// records that can be written, each section agrees with the flags, and the entry is within the limit.
+pub fn symbols_written()
+    ensures { SymbolsWritten }
+{}
+
+/// No section refuses an entry: in the present mode it is read where its strings are there. A refused attribute ends the list, a
+/// refused chain is dropped whole, and reading goes on where the section ends.
+pub fn symbols_read_on()
+    ensures { SymbolsReadOn }
+{}
+
+/// A direct parse of bytes that go on behind what an entry claims is one of the entry alone.
+pub fn symbols_alone()
+    ensures { SymbolsAlone }
 {}

@@ -1,0 +1,63 @@
+-- docs/FORMAT.md, "Writing": which symbols are written, by what they hold and not by what is tested.
+use Rattle.std.specs.Prelude.{ℕ, ◌+◌, ◌<◌, ◌≤◌, ◌≡◌, false, List, is_some, Ok, ltb, length, if◌then◌else◌}
+use Rattle.std.specs.List.{All}
+use Rattle.le.specs.Le.{has}
+use Rattle.refusal.specs.Refusal.{limit}
+use Rattle.attribute.specs.Told as attributes
+use Rattle.attribute.specs.Fit as attribute
+use Rattle.refactor.specs.Refactor.{follower}
+use Rattle.refactor.specs.Fit as refactor
+use Rattle.writing.specs.Checks.{IsShort}
+use Rattle.symbol.specs.declared.writer.NewSymbol.{NewSymbol}
+use Rattle.symbol.specs.Symbol.{type_guid_flag, attributes_flag, extended_flags_flag, refactor_info_flag}
+use Rattle.symbol.specs.Told.{IsTyped}
+use Rattle.symbol.specs.Writing.{flagged, symbol_bytes, symbol_written}
+
+-- so many attributes one after another, each within its length fields
+pub record AreAttributes (count : ℕ) (block : List ℕ) : Type 0 where
+  pub all : List attributes.Told
+  pub long : length all ≡ count
+  pub fit : All attribute.Fits all
+  pub bytes : block ≡ attribute.block_of all
+
+-- so many refactor records one after another, each within its length field. Each but the last has a follower, and the last one's count has not the follower's bit
+pub record AreRecords (count : ℕ) (block : List ℕ) : Type 0 where
+  pub all : List refactor.Former
+  pub long : length all ≡ count
+  pub fit : All refactor.Fits all
+  pub last : has (refactor.last_count all) follower ≡ false
+  pub bytes : block ≡ refactor.chain_bytes all
+
+-- header, three strings with an end byte each, and the sections: a GUID, a count and the attributes, extended flags, the chain
+abbrev pub size_of : NewSymbol → ℕ
+size_of n =
+    33 + length n.name.now + length n.type_name.now + length n.comment.now
+    + (if flagged n type_guid_flag then 16 else 0)
+    + (if flagged n attributes_flag then length n.attributes.bytes.now + 2 else 0)
+    + (if flagged n extended_flags_flag then 4 else 0)
+    + length n.refactor_infos.bytes.now
+
+pub record IsWritable (n : NewSymbol) : Type 0 where
+  pub short : IsShort n.name.now n.type_name.now n.comment.now
+  pub few : n.attributes.count ≤ 65535
+  pub attributes : AreAttributes n.attributes.count n.attributes.bytes.now
+  pub refactor_infos : AreRecords n.refactor_infos.count n.refactor_infos.bytes.now
+  -- each section is flagged where it is given, a GUID and a chain also given where they are flagged
+  pub guid_flagged : is_some n.guid ≡ flagged n type_guid_flag
+  pub attributes_flagged : flagged n attributes_flag ≡ false → length n.attributes.bytes.now ≡ 0
+  pub extended_flagged : flagged n extended_flags_flag ≡ false → n.extended_flags.0 ≡ 0
+  pub chain_flagged : ltb 0 n.refactor_infos.count ≡ has n.extended_flags.0 refactor_info_flag
+  pub within : size_of n ≤ limit
+
+-- what a symbol's types say of its blocks
+pub record AreBytes (n : NewSymbol) : Type 0 where
+  pub attributes : All (λ b. b < 256) n.attributes.bytes.now
+  pub refactor_infos : All (λ b. b < 256) n.refactor_infos.bytes.now
+
+-- these are written, each as so many bytes, and no others are
+pub record IsWritten (n : NewSymbol) : Type 0 where
+  pub written : IsWritable n → (symbol_written n ≡ Ok (symbol_bytes n)) × (length (symbol_bytes n) ≡ size_of n)
+  pub only : (bytes : List ℕ) → symbol_written n ≡ Ok bytes → IsWritable n × (bytes ≡ symbol_bytes n)
+
+abbrev pub SymbolsWritten : Type 0
+SymbolsWritten = (n : NewSymbol) → IsTyped n → AreBytes n → IsWritten n
