@@ -6,25 +6,20 @@ use Rattle.std.proofs.lemmas.Option.{slice_get_past}
 use Rattle.refusal.specs.declared.Refusal.{Refusal}
 use Rattle.refusal.specs.declared.Refusal.TheVariants.{NameNotFound, NoSuchNumber}
 use Rattle.attribute.specs.declared.AdsAttribute.{AdsAttribute}
-use Rattle.attribute.specs.Attribute.{listed, numbered, named}
-use Rattle.attribute.specs.Asked.{IsNumbered, AttributesShown, NoneNamed, FirstNamed, found, nowhere, AttributesNamed, OneNamed}
-use Rattle.attribute.proofs.Laws.{listed_again}
+use Rattle.attribute.specs.Attribute.{named}
+use Rattle.attribute.specs.Asked.{AttributesShown, NoneNamed, FirstNamed, found, nowhere, AttributesNamed, OneNamed}
 use Rattle.attribute.proofs.Inside.{each_more}
 
 at_number : (before behind : List AdsAttribute) (a : AdsAttribute) → slice_get (before ++ (a ∷ behind)) (length before) ≡ Some a
 at_number [] behind a = refl
 at_number (x ∷ before) behind a = at_number before behind a
 
-numbered_is : (all : List AdsAttribute) (number : ℕ) → IsNumbered all number (numbered all (length all) number)
-numbered_is all number = record {
+pub attributes_shown : AttributesShown
+attributes_shown all number = record {
   shown = λ before behind a e l. ap₂ (λ (x : List AdsAttribute) (n : ℕ). ok_or (slice_get x n) (NoSuchNumber (length all) number)) e (sym l)
       ∙ ap (λ (x : Option AdsAttribute). ok_or x (NoSuchNumber (length all) number)) (at_number before behind a);
   past = λ h. ap (λ (x : Option AdsAttribute). ok_or x (NoSuchNumber (length all) number)) (slice_get_past all number h);
 }
-
-pub attributes_shown : AttributesShown
-attributes_shown s most number =
-    subst (λ (x : List AdsAttribute). IsNumbered (listed s most) number (numbered x (length (listed s most)) number)) (sym (listed_again s most)) (numbered_is (listed s most) number)
 
 -- the first of some has the name, or the answer is that of the others
 none_later : (name : List ℕ) (a : AdsAttribute) (all : List AdsAttribute) → (a.name.now ≡ name → ⊥) → NoneNamed name all → NoneNamed name (a ∷ all)

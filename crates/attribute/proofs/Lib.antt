@@ -7,3 +7,4 @@ pub mod Fit
 pub mod Modes
 pub mod Inside
 pub mod Asked
+pub mod Left

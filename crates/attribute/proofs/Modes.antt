@@ -1,63 +1,64 @@
 -- An attribute in the two modes: proved.
-use Rattle.std.proofs.Common.{◌≡◌, ℕ, ◌+◌, ◌≤◌, Bool, true, false, List, [], ◌∷◌, length, get_or, Ok, Err, Result, refl, sym, ap, ap₂, ◌∙◌, arith, Bor}
+use Rattle.std.proofs.Common.{◌≡◌, ℕ, ◌+◌, ◌≤◌, Bool, true, false, List, [], ◌∷◌, length, get_or, Ok, Err, Result, refl, sym, ap, ◌∙◌, subst, arith, Bor}
+use native.Mathlib.Nat.{zero-add}
 use lib.Dec.{ltb}
+use Rattle.part.specs.Outcome.{and_then}
 use Rattle.refusal.specs.Refusal.{limit}
 use Rattle.refusal.specs.EndBytes.{ended}
+use Rattle.refusal.specs.EndsMeant.{AllZero}
 use Rattle.refusal.specs.declared.Mode.TheVariants.{Present, Checked}
 use Rattle.refusal.specs.declared.Refusal.{Refusal}
+use Rattle.refusal.specs.declared.Refusal.TheVariants.{TooLarge}
+use Rattle.refusal.proofs.EndsMeant.{zero_passes, passed_zero, first_refused}
 use Rattle.attribute.specs.declared.AdsAttribute.{AdsAttribute}
 use Rattle.attribute.specs.Attribute.{first_of, ends, alone}
-use Rattle.attribute.specs.Modes.{Ended, Modes, AttributesModes}
-use Rattle.attribute.proofs.Again.{n_of, v_of, here, fits, is_here, ends_here, two_ended, two_zero, length_name, length_value}
+use Rattle.attribute.specs.Modes.{end_bytes, Modes, AttributesModes}
+use Rattle.attribute.proofs.Again.{n_of, v_of, here, fits, is_here, ends_here, length_name, length_value}
 
--- 0 after both strings of the attribute that is here
-record Zero (s : Bor (List ℕ)) : Type 0 where
-  name : get_or s.now (2 + n_of s) 0 ≡ 0
-  value : get_or s.now (2 + n_of s + 1 + v_of s) 0 ≡ 0
+-- the end bytes that are looked at are those of the attribute that is here
+ends_are : (s : Bor (List ℕ)) → n_of s + v_of s + 4 ≤ length s.now → ends s 0 1 ≡ end_bytes s.now (here s).0
+unfolding ends
+ends_are s there = ends_here s 0 0 there ∙ rw (length_name s there, length_value s there) (at_places (2 + n_of s) (2 + n_of s + 1 + v_of s) (n_of s + 3 + v_of s) (omega arith))
+  where
+    at_places : (n v w : ℕ) → v ≡ w → ◌≡◌ {A = List (ℕ × ℕ)} ((0 + n, get_or s.now n 0) ∷ (0 + v, get_or s.now v 0) ∷ []) ((n, get_or s.now n 0) ∷ (w, get_or s.now w 0) ∷ [])
+    at_places n v w e = rw (zero-add n, zero-add v, e) refl
 
-module _ (s : Bor (List ℕ)) (there : n_of s + v_of s + 4 ≤ length s.now) where
-  by_ends : ended (ends s 0 1) ≡ ended ((0 + (2 + n_of s), get_or s.now (2 + n_of s) 0) ∷ (0 + (2 + n_of s + 1 + v_of s), get_or s.now (2 + n_of s + 1 + v_of s) 0) ∷ [])
-  unfolding ends
-  by_ends = ap ended (ends_here s 0 0 there)
+-- in both modes a refusal is the same one, and an attribute is this one
+module _ (s : Bor (List ℕ)) (b : AdsAttribute) (present : alone Present s ≡ Ok b) (checked : alone Checked s ≡ and_then (ended (end_bytes s.now b)) (λ _. Ok b)) where
+  by_test : (t : Result Unit Refusal) → ended (end_bytes s.now b) ≡ t → (a : AdsAttribute) → and_then t (λ _. Ok b) ≡ Ok a → (alone Present s ≡ Ok a) × AllZero (end_bytes s.now a)
+  by_test (Err why) e a h = cc
+  by_test (Ok u) e a h =
+      let same : b ≡ a = cc in
+      (present ∙ ap Ok same, subst (λ c. AllZero (end_bytes s.now c)) same (passed_zero (end_bytes s.now b) e))
 
-  zero_passes : Zero s → ended (ends s 0 1) ≡ Ok tt
-  unfolding ended
-  zero_passes z = by_ends ∙ two_zero (0 + (2 + n_of s), get_or s.now (2 + n_of s) 0) (0 + (2 + n_of s + 1 + v_of s), get_or s.now (2 + n_of s + 1 + v_of s) 0) [] z.name z.value
+  accepted : Modes s
+  accepted = record {
+    ended = λ a h. by_test (ended (end_bytes s.now b)) refl a (sym checked ∙ h);
+    agree = λ a p z.
+        let same : b ≡ a = cc (sym present ∙ p) in
+        checked ∙ ap (λ (t : Result Unit Refusal). and_then t (λ _. Ok b)) (zero_passes (end_bytes s.now b) (subst (λ c. AllZero (end_bytes s.now c)) (sym same) z)) ∙ ap Ok same;
+    refused_alike = λ why p. let z : ◌≡◌ {A = Result AdsAttribute Refusal} (Ok b) (Err why) = sym present ∙ p in cc;
+    first = λ a e p i.
+        let same : b ≡ a = cc (sym present ∙ p) in
+        checked ∙ ap (λ (t : Result Unit Refusal). and_then t (λ _. Ok b)) (ap (λ c. ended (end_bytes s.now c)) same ∙ ap ended i.among ∙ first_refused i.before i.behind e i.zero i.not);
+  }
 
-  passes_zero : ended (ends s 0 1) ≡ Ok tt → Zero s
-  passes_zero h = let z = two_ended _ _ (sym by_ends ∙ h) in record { name = z.0; value = z.1 }
+module _ (s : Bor (List ℕ)) (y : Refusal) (present : alone Present s ≡ Err y) (checked : alone Checked s ≡ Err y) where
+  refused : Modes s
+  refused = record {
+    ended = λ a h. let z : ◌≡◌ {A = Result AdsAttribute Refusal} (Err y) (Ok a) = sym checked ∙ h in cc;
+    agree = λ a p z. let y : ◌≡◌ {A = Result AdsAttribute Refusal} (Err y) (Ok a) = sym present ∙ p in cc;
+    refused_alike = λ why p. checked ∙ sym present ∙ p;
+    first = λ a e p i. let z : ◌≡◌ {A = Result AdsAttribute Refusal} (Err y) (Ok a) = sym present ∙ p in cc;
+  }
 
-  value_place : get_or s.now (n_of s + 3 + v_of s) 0 ≡ get_or s.now (2 + n_of s + 1 + v_of s) 0
-  value_place = ap (λ (k : ℕ). get_or s.now k 0) (omega arith)
-
-  zero_of : Ended s.now (Ok (here s).0) → Zero s
-  zero_of e =
-      let z = e (here s).0 refl in
-      let n = sym (length_name s there) in
-      let v = sym (length_value s there) in
-      record { name = ap (λ (k : ℕ). get_or s.now (2 + k) 0) n ∙ z.0; value = sym value_place ∙ ap₂ (λ (k m : ℕ). get_or s.now (k + 3 + m) 0) n v ∙ z.1 }
-
-  ended_of : Zero s → Ended s.now (Ok (here s).0)
-  ended_of z a e =
-      let same : (here s).0 ≡ a = cc in
-      rw (← same, length_name s there, length_value s there) (z.name, value_place ∙ z.value)
-
-module _ (s : Bor (List ℕ)) where
-  by_first : (t : Bool) → ltb limit (length s.now) ≡ t → (w : Result (AdsAttribute × Bor (List ℕ)) Refusal) → first_of s ≡ w → Modes s
-  by_first true l w f = record { agree = λ h. simp l; ended = λ a h. absurd (let z : ◌≡◌ {A = ℕ} 0 1 = cc (simp l at h) in omega arith) }
-  by_first false l (Err why) f = record { agree = λ h. simp (l, f); ended = λ a h. absurd (let z : ◌≡◌ {A = ℕ} 0 1 = cc (simp (l, f) at h) in omega arith) }
-  by_first false l (Ok p) f =
-      let t = fits s p f in
-      let i = is_here s p f in
-      let g : first_of s ≡ Ok (here s) = f ∙ ap Ok (sym i) in
-      record { agree = λ h. simp (l, g, zero_passes s t (zero_of s t (simp (l, g) at h))); ended = λ a h. by_test t g (ended (ends s 0 1)) refl a h }
-    where
-      by_test : n_of s + v_of s + 4 ≤ length s.now → first_of s ≡ Ok (here s) → (e : Result Unit Refusal) → ended (ends s 0 1) ≡ e → (a : AdsAttribute) → alone Checked s ≡ Ok a
-          → (alone Present s ≡ Ok a) × Ended s.now (Ok a)
-      by_test t g (Err why) e a h = absurd (let z : ◌≡◌ {A = ℕ} 0 1 = cc (simp (l, g, e) at h) in omega arith)
-      by_test t g (Ok u) e a h =
-          let same : (here s).0 ≡ a = cc (simp (l, g, e) at h) in
-          (simp (l, g) (ap Ok same), rw (← same) (ended_of s t (passes_zero s t e)))
+by_first : (s : Bor (List ℕ)) (t : Bool) → ltb limit (length s.now) ≡ t → (w : Result (AdsAttribute × Bor (List ℕ)) Refusal) → first_of s ≡ w → Modes s
+by_first s true l w f = refused s (TooLarge (length s.now)) (simp l) (simp l)
+by_first s false l (Err why) f = refused s why (simp (l, f)) (simp (l, f))
+by_first s false l (Ok p) f =
+    let t = fits s p f in
+    let g : first_of s ≡ Ok (here s) = f ∙ ap Ok (sym (is_here s p f)) in
+    accepted s (here s).0 (simp (l, g)) (simp (l, g, ends_are s t))
 
 pub attributes_modes : AttributesModes
 attributes_modes s = by_first s (ltb limit (length s.now)) refl (first_of s) refl

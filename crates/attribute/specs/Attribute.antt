@@ -1,5 +1,6 @@
 -- An attribute: name length, value length (1 byte each), name, end byte, value, end byte.
-use Rattle.std.specs.Prelude.{ℕ, zero, suc, ◌+◌, List, [], ◌∷◌, ◌++◌, ok_or, find, nat_eq, Option, Some, None, Result, Ok, Err, eqb, ltb, length, get_or, slice_get, if◌then◌else◌}
+use Rattle.std.specs.Prelude.{ℕ, zero, suc, ◌+◌, ◌-◌, ◌≡◌, List, [], ◌∷◌, ◌++◌, ok_or, find, nat_eq, Option, Some, None, Result, Ok, Err, eqb, ltb, length, get_or, slice_get, if◌then◌else◌}
+use Rattle.std.specs.Iterator.{YieldsFirst}
 use Rattle.std.specs.Cmp.Lexicographic.{pointwise}
 use Rattle.std.specs.Borrow.{Bor}
 use Rattle.part.specs.Slice.{part, after}
@@ -10,6 +11,7 @@ use Rattle.refusal.specs.declared.Mode.{Mode}
 use Rattle.refusal.specs.declared.Refusal.{Refusal}
 use Rattle.refusal.specs.declared.Refusal.TheVariants.{TooShort, UnexpectedLength, TooLarge, NameNotFound, NoSuchNumber}
 use Rattle.attribute.specs.declared.AdsAttribute.{AdsAttribute}
+use Rattle.attribute.specs.declared.Attributes.{Attributes}
 
 -- one at the start of some bytes, whose strings have these lengths, and the bytes after it. Under 4 bytes: 2; under the whole: 1
 abbrev pub sized : Bor (List ℕ) → ℕ → ℕ → Result (AdsAttribute × Bor (List ℕ)) Refusal
@@ -30,6 +32,19 @@ listed s (suc left) = outcome (first_of s) (λ p. p.0 ∷ listed p.1 left) (λ w
 unfoldable pub after_listed : Bor (List ℕ) → ℕ → Bor (List ℕ)
 after_listed s zero = s
 after_listed s (suc left) = outcome (first_of s) (λ p. after_listed p.1 left) (λ why. s)
+
+-- all that an iterator has left; and the iterator after it was asked for one: the bytes after that one and a count less, or a count of 0 where none can be read
+abbrev pub left : Attributes → List AdsAttribute
+left a = listed a.bytes a.count
+
+unfoldable pub after_next : Attributes → Attributes
+after_next a =
+    if eqb a.count 0 then a
+    else outcome (first_of a.bytes) (λ p. record { bytes = p.1; count = a.count - 1 }) (λ why. record { bytes = a.bytes; count = 0 })
+
+-- asked for one, it gives the first of those, if there is any, and is then that iterator
+abbrev pub NextGives : Attributes → Option AdsAttribute → Attributes → Type 0
+NextGives a given next = YieldsFirst left a given next × (next ≡ after_next a)
 
 -- why the list ended before its count, if one was refused: where the bytes end after one, none is missed
 unfoldable pub stopped : Bor (List ℕ) → ℕ → Option Refusal

@@ -1,19 +1,27 @@
 -- docs/FORMAT.md, "Modes": an attribute in the two modes, by its bytes.
-use Rattle.std.specs.Prelude.{ℕ, ◌+◌, ◌≡◌, List, Result, Ok, length, get_or}
+use Rattle.std.specs.Prelude.{ℕ, ◌+◌, ◌≡◌, List, [], ◌∷◌, Ok, Err, length, get_or}
 use Rattle.std.specs.Borrow.{Bor}
+use Rattle.refusal.specs.EndsMeant.{AllZero, FirstNot}
 use Rattle.refusal.specs.declared.Mode.TheVariants.{Present, Checked}
 use Rattle.refusal.specs.declared.Refusal.{Refusal}
+use Rattle.refusal.specs.declared.Refusal.TheVariants.{EndByte}
 use Rattle.attribute.specs.declared.AdsAttribute.{AdsAttribute}
 use Rattle.attribute.specs.Attribute.{alone}
 
--- where the answer is an attribute of these bytes, 0 follows its name and its value
-abbrev pub Ended : List ℕ → Result AdsAttribute Refusal → Type 0
-Ended s t = (a : AdsAttribute) → t ≡ Ok a → (get_or s (2 + length a.name.now) 0 ≡ 0) × (get_or s (length a.name.now + 3 + length a.value.now) 0 ≡ 0)
+-- the end bytes of an attribute of these bytes, with their places: behind its name, then behind its value
+abbrev pub end_bytes : List ℕ → AdsAttribute → List (ℕ × ℕ)
+end_bytes s a =
+    let name_end : ℕ = 2 + length a.name.now in
+    let value_end : ℕ = length a.name.now + 3 + length a.value.now in
+    (name_end, get_or s name_end 0) ∷ (value_end, get_or s value_end 0) ∷ []
 
--- read alone: the modes agree where 0 follows both strings, and the checked mode accepts nothing else
+-- read alone: the checked mode accepts exactly what the present mode accepts and is ended by 0, and reads it alike; what the present mode refuses it refuses
+-- alike; anything else it refuses by the first end byte that is not 0
 pub record Modes (s : Bor (List ℕ)) : Type 0 where
-  pub agree : Ended s.now (alone Present s) → alone Checked s ≡ alone Present s
-  pub ended : (a : AdsAttribute) → alone Checked s ≡ Ok a → (alone Present s ≡ Ok a) × Ended s.now (Ok a)
+  pub ended : (a : AdsAttribute) → alone Checked s ≡ Ok a → (alone Present s ≡ Ok a) × AllZero (end_bytes s.now a)
+  pub agree : (a : AdsAttribute) → alone Present s ≡ Ok a → AllZero (end_bytes s.now a) → alone Checked s ≡ Ok a
+  pub refused_alike : (why : Refusal) → alone Present s ≡ Err why → alone Checked s ≡ Err why
+  pub first : (a : AdsAttribute) (b : ℕ × ℕ) → alone Present s ≡ Ok a → FirstNot (end_bytes s.now a) b → alone Checked s ≡ Err (EndByte b.0 b.1)
 
 abbrev pub AttributesModes : Type 0
 AttributesModes = (s : Bor (List ℕ)) → Modes s

@@ -2,9 +2,9 @@
 #![tactic(auto, unfolding(crate::specs::Attribute::first_of, crate::specs::Attribute::listed, crate::specs::Attribute::after_listed))]
 
 ghost use Rattle.std.specs.Prelude.{◌≡◌, ◌+◌, ◌<◌, ◌^◌, length, ◌-◌};
-ghost use Rattle.std.specs.Iterator.{YieldsFirst, item_count};
+ghost use Rattle.std.specs.Iterator.{item_count};
 ghost use Rattle.refusal.specs.EndBytes.{ended};
-ghost use Rattle.attribute.specs.Attribute.{first_of, listed, after_listed, stopped, turn, ends, numbered, named, alone};
+ghost use Rattle.attribute.specs.Attribute.{first_of, listed, left, NextGives, after_listed, stopped, turn, ends, numbered, named, alone};
 
 mod block;
 pub mod theorems;
@@ -97,10 +97,11 @@ impl<'a> AdsAttribute<'a> {
 impl<'a> Iterator for Attributes<'a> {
     type Item = AdsAttribute<'a>;
 
-    ghost next_gives = { YieldsFirst (λ s. listed s.bytes s.count) };
+    ghost next_gives = { NextGives };
 
-    ghost remaining = { item_count (λ s. listed s.bytes s.count) };
+    ghost remaining = { item_count left };
 
+    #[tactic(auto, unfolding(crate::specs::Attribute::first_of, crate::specs::Attribute::listed, crate::specs::Attribute::after_next))]
     fn next(&mut self) -> Option<AdsAttribute<'a>> {
         if self.count == 0 {
             return None;
@@ -186,12 +187,18 @@ pub fn list_with_reason(bytes: &[u8], most: usize) -> Listed<'_>
 }
 
 impl<'a> Attributes<'a> {
-    /// The attribute with a number, counted from 0.
-    pub fn get(mut self, number: usize) -> Result<AdsAttribute<'a>, Refusal>
-        ensures { result ≡ numbered (listed self.entry.bytes self.entry.count) self.entry.count number }
+    /// The attribute with a number, counted from 0; past the last 14, with how many there are.
+    pub fn get(self, number: usize) -> Result<AdsAttribute<'a>, Refusal>
+        ensures { let all = left self.entry in result ≡ numbered all (length all) number }
     {
-        let count = self.count;
-        self.nth(number).ok_or(Refusal::NoSuchNumber {
+        let mut count = 0;
+        for attribute in self {
+            if count == number {
+                return Ok(attribute);
+            }
+            count += 1;
+        }
+        Err(Refusal::NoSuchNumber {
             count,
             asked: number,
         })
@@ -199,7 +206,7 @@ impl<'a> Attributes<'a> {
 
     /// The first attribute with a name.
     pub fn named(mut self, name: &[u8]) -> Result<AdsAttribute<'a>, Refusal>
-        ensures { result ≡ named (listed self.entry.bytes self.entry.count) name.now }
+        ensures { result ≡ named (left self.entry) name.now }
     {
         self.find(|attribute| attribute.name == name)
             .ok_or(Refusal::NameNotFound)

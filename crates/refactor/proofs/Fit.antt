@@ -250,7 +250,7 @@ module _ (s : Bor (List ℕ)) (byte : All (λ b. b < 256) s.now) (there : n_of s
   unfolding info_bytes
   is_bytes = laid ∙ rw (length_name s there) (simp append_assoc)
 
-later_bytes : (s : Bor (List ℕ)) (k : ℕ) → All (λ b. b < 256) s.now → All (λ b. b < 256) (after s k).now
+pub later_bytes : (s : Bor (List ℕ)) (k : ℕ) → All (λ b. b < 256) s.now → All (λ b. b < 256) (after s k).now
 later_bytes s k h j d l = let n = length-drop k s.now in rw (get_or-drop k s.now j d) (h (k + j) d (omega arith))
 
 empty : (l : List ℕ) → length l ≡ 0 → l ≡ []
@@ -265,7 +265,7 @@ chain_more : (f : Former) (fs : List Former) (n : ℕ) → length fs ≡ n → p
 unfolding chain_bytes
 chain_more f fs n h k = rw (followed_is fs n h, k) refl
 
-long_formers : (rs : List Told) → length (formers rs) ≡ length rs
+pub long_formers : (rs : List Told) → length (formers rs) ≡ length rs
 long_formers [] = refl
 long_formers (r ∷ rs) = ap suc (long_formers rs)
 

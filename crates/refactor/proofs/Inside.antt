@@ -19,7 +19,7 @@ part_after s k at n = ap₂ (λ (x : ℕ) (y : List ℕ). record { ref_ptr = (s.
 after_zero : (s : Bor (List ℕ)) → s ≡ after s 0
 after_zero s = ap (λ (x : ℕ). record { ref_ptr = (s.ref_ptr.0, x); now = s.now }) (sym (add-zero s.ref_ptr.1))
 
-each_more : {X : Type 0} (P : X → Type 0) (x : X) (xs : List X) → P x → All P xs → All P (x ∷ xs)
+pub each_more : {X : Type 0} (P : X → Type 0) (x : X) (xs : List X) → P x → All P xs → All P (x ∷ xs)
 each_more P x xs p ps zero d h = p
 each_more P x xs p ps (suc k) d h = ps k d (omega arith)
 
@@ -139,9 +139,4 @@ at_number [] behind r = refl
 at_number (x ∷ before) behind r = at_number before behind r
 
 pub refactors_shown : RefactorsShown
-refactors_shown s count rest number h =
-    let long = (chains_counted s count rest h).long in
-    record {
-      shown = λ before behind r e l. rw (e, ← l, at_number before behind r) refl;
-      past = λ k. simp (slice_get_past (listed s count) number k, long);
-    }
+refactors_shown all number = record { shown = λ before behind r e l. rw (e, ← l, at_number before behind r) refl; past = λ k. simp (slice_get_past all number k) }

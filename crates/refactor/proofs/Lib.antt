@@ -5,3 +5,6 @@ pub mod Mask
 pub mod Modes
 pub mod Inside
 pub mod Fit
+pub mod Left
+pub mod Chains
+pub mod Accepted

@@ -1,31 +1,35 @@
 -- A refactor record in the two modes, and what is written behind a count: proved.
-use Rattle.std.proofs.Common.{◌≡◌, ℕ, zero, suc, ◌+◌, ◌<◌, ◌≤◌, Bool, true, false, List, [], ◌∷◌, ◌++◌, length, drop, get_or, length-drop, Ok, Err, Result, refl, sym, ap, ◌∙◌, arith, Bor}
+use Rattle.std.proofs.Common.{◌≡◌, ℕ, ◌+◌, ◌<◌, ◌≤◌, Bool, true, false, List, [], ◌∷◌, ◌++◌, length, drop, length-drop, Ok, Err, Result, refl, sym, ap, ◌∙◌, arith, Bor}
 use Rattle.std.proofs.lemmas.Option.{slice_get_past}
+use Rattle.std.proofs.lemmas.List.Elements.{All-nil}
 use mathlib.Core.List.{append-nil}
 use lib.Dec.{ltb}
 use borrow.Author.Tests.{le-ltb}
 use Rattle.le.specs.Le.{le2, bytes2}
 use Rattle.le.proofs.Laws.{le2-bytes2}
 use Rattle.part.specs.Slice.{after}
+use Rattle.part.specs.Outcome.{and_then}
 use Rattle.refusal.specs.Refusal.{limit}
 use Rattle.refusal.specs.EndBytes.{ended}
 use Rattle.refusal.specs.declared.Mode.{Mode}
 use Rattle.refusal.specs.declared.Mode.TheVariants.{Present, Checked}
 use Rattle.refusal.specs.declared.Refusal.{Refusal}
+use Rattle.refusal.specs.declared.Refusal.TheVariants.{TooLarge, EndByte}
+use Rattle.refusal.proofs.EndsMeant.{first_refused}
 use Rattle.writing.specs.Checks.{count_checked}
 use Rattle.writing.proofs.Entry.{both_passed, count_passed, entry_passed}
 use Rattle.refactor.specs.declared.AdsRefactorInfo.{AdsRefactorInfo}
 use Rattle.refactor.specs.declared.RefactorInfos.{RefactorInfos}
-use Rattle.refactor.specs.Refactor.{first_of, alone, chain_alone, chain_of, ends_from, ends, listed}
+use Rattle.refactor.specs.Refactor.{first_of, alone, chain_alone, infos_of, chain_of, ends, listed}
+use Rattle.refactor.specs.Chains.{end_byte}
 use Rattle.refactor.specs.Block.{block_checked}
 use Rattle.refactor.specs.Writing.{entries_writing}
-use Rattle.refactor.specs.Modes.{Ended, Modes, RefactorsModes, EndedTo, ChainEnded, ChainModes, ChainsModes, IsBack, EntriesReadBack}
+use Rattle.refactor.specs.Modes.{Modes, RefactorsModes, ChainEnded, ChainModes, ChainsModes, IsBack, EntriesReadBack}
 use Rattle.refactor.proofs.Again.{blocks_read}
-use Rattle.refusal.proofs.EndBytes.{ended_none as none_ended}
-use Rattle.refactor.proofs.Turn.{room, ends_refused, nothing_ended}
+use Rattle.refactor.proofs.Chains.{end_passes, passed_end, refused_first, zero_ends, all_pass}
 
 module _ (mode : Mode) (count : ℕ) (block s : Bor (List ℕ)) (pos : 0 < count) where
-  chain_by : (mode : Mode) (t : Bor (List ℕ)) → length t.now ≤ limit → chain_of t ≡ Ok (count, after t (length block.now)) → ended (ends t 0) ≡ Ok tt
+  pub chain_by : (mode : Mode) (t : Bor (List ℕ)) → length t.now ≤ limit → chain_of t ≡ Ok (count, after t (length block.now)) → ended (ends t 0) ≡ Ok tt
       → chain_alone mode t ≡ Ok (record { bytes = t; count = count }, after t (length block.now))
   chain_by Present t h c e = simp (le-ltb limit (length t.now) h, c)
   chain_by Checked t h c e = simp (le-ltb limit (length t.now) h, c, e)
@@ -49,81 +53,69 @@ entries_read_back mode count block s pos h =
     let c = entry_passed (bytes2 count ++ block.now) s.now b.1.1 in
     back mode count block s pos (count_passed count a.1.0) b.1.0 c.1 (omega (arith, ap length c.1, c.0))
 
-module _ (s : Bor (List ℕ)) where
-  abbrev end_of : AdsRefactorInfo → ℕ
-  end_of r = get_or s.now (6 + length r.name.now) 0
+-- in both modes a refusal is the same one, and a record is this one
+module _ (s : Bor (List ℕ)) (b : AdsRefactorInfo) where
+  abbrev end : ℕ × ℕ
+  end = (6 + length b.name.now, end_byte s b)
 
-  passes : (r : AdsRefactorInfo) → end_of r ≡ 0 → ended ((6 + length r.name.now, end_of r) ∷ []) ≡ Ok tt
-  unfolding ended
-  passes r h = simp h
+  module _ (present : alone Present s ≡ Ok b) (checked : alone Checked s ≡ and_then (ended (end ∷ [])) (λ _. Ok b)) where
+    by_zero : end_byte s b ≡ 0 → alone Checked s ≡ Ok b
+    by_zero z = checked ∙ ap (λ (t : Result Unit Refusal). and_then t (λ _. Ok b)) (end_passes end.0 end.1 z)
 
-  passed : (r : AdsRefactorInfo) {u : Unit} → ended ((6 + length r.name.now, end_of r) ∷ []) ≡ Ok u → end_of r ≡ 0
-  unfolding ended
-  passed r h = grind arith
+    by_other : (end_byte s b ≡ 0 → ⊥) → alone Checked s ≡ Err (EndByte end.0 end.1)
+    by_other n = checked ∙ ap (λ (t : Result Unit Refusal). and_then t (λ _. Ok b)) (first_refused [] [] end (All-nil (λ (x : ℕ × ℕ). x.1 ≡ 0)) n)
 
-  by_first : (t : Bool) → ltb limit (length s.now) ≡ t → (w : Result (AdsRefactorInfo × Bor (List ℕ)) Refusal) → first_of s ≡ w → Modes s
-  by_first true l w f = record { agree = λ h. simp l; ended = λ a h. absurd (let z : ◌≡◌ {A = ℕ} 0 1 = cc (simp l at h) in omega arith) }
-  by_first false l (Err why) f = record { agree = λ h. simp (l, f); ended = λ a h. absurd (let z : ◌≡◌ {A = ℕ} 0 1 = cc (simp (l, f) at h) in omega arith) }
-  by_first false l (Ok p) f = record {
-    agree = λ h. simp (l, f, passes p.0 (h p.0 (simp (l, f))));
-    ended = λ a h. by_test (ended ((6 + length p.0.name.now, end_of p.0) ∷ [])) refl a h;
-  }
-    where
-      by_test : (e : Result Unit Refusal) → ended ((6 + length p.0.name.now, end_of p.0) ∷ []) ≡ e → (a : AdsRefactorInfo) → alone Checked s ≡ Ok a → (alone Present s ≡ Ok a) × Ended s.now (Ok a)
-      by_test (Err why) e a h = absurd (let z : ◌≡◌ {A = ℕ} 0 1 = cc (simp (l, f, e) at h) in omega arith)
-      by_test (Ok u) e a h =
-          let same : p.0 ≡ a = cc (simp (l, f, e) at h) in
-          (simp (l, f) (ap Ok same), λ b k. let also : a ≡ b = cc in ap end_of (sym (same ∙ also)) ∙ passed p.0 e)
+    by_test : (t : Result Unit Refusal) → ended (end ∷ []) ≡ t → (r : AdsRefactorInfo) → and_then t (λ _. Ok b) ≡ Ok r → (alone Present s ≡ Ok r) × (end_byte s r ≡ 0)
+    by_test (Err why) e r h = cc
+    by_test (Ok u) e r h =
+        let same : b ≡ r = cc in
+        (present ∙ ap Ok same, ap (end_byte s) (sym same) ∙ passed_end end e)
+
+    accepted : Modes s
+    accepted = record {
+      ended = λ r h. by_test (ended (end ∷ [])) refl r (sym checked ∙ h);
+      agree = λ r p z. let same : b ≡ r = cc (sym present ∙ p) in by_zero (ap (end_byte s) same ∙ z) ∙ ap Ok same;
+      refused_alike = λ why p. let z : ◌≡◌ {A = Result AdsRefactorInfo Refusal} (Ok b) (Err why) = sym present ∙ p in cc;
+      first = λ r p n.
+          let same : b ≡ r = cc (sym present ∙ p) in
+          by_other (λ z. n (ap (end_byte s) (sym same) ∙ z)) ∙ ap (λ (x : AdsRefactorInfo). Err (EndByte (6 + length x.name.now) (end_byte s x))) same;
+    }
+
+refused : (s : Bor (List ℕ)) (y : Refusal) → alone Present s ≡ Err y → alone Checked s ≡ Err y → Modes s
+refused s y present checked = record {
+  ended = λ r h. let z : ◌≡◌ {A = Result AdsRefactorInfo Refusal} (Err y) (Ok r) = sym checked ∙ h in cc;
+  agree = λ r p e. let z : ◌≡◌ {A = Result AdsRefactorInfo Refusal} (Err y) (Ok r) = sym present ∙ p in cc;
+  refused_alike = λ why p. checked ∙ sym present ∙ p;
+  first = λ r p n. let z : ◌≡◌ {A = Result AdsRefactorInfo Refusal} (Err y) (Ok r) = sym present ∙ p in cc;
+}
+
+by_first : (s : Bor (List ℕ)) (t : Bool) → ltb limit (length s.now) ≡ t → (w : Result (AdsRefactorInfo × Bor (List ℕ)) Refusal) → first_of s ≡ w → Modes s
+by_first s true l w f = refused s (TooLarge (length s.now)) (simp l) (simp l)
+by_first s false l (Err why) f = refused s why (simp (l, f)) (simp (l, f))
+by_first s false l (Ok p) f = accepted s p.0 (simp (l, f)) (simp (l, f))
 
 pub refactors_modes : RefactorsModes
 refactors_modes s = by_first s (ltb limit (length s.now)) refl (first_of s) refl
 
-one_ended : (x : ℕ × ℕ) (more : List (ℕ × ℕ)) → ended (x ∷ more) ≡ Ok tt → (x.1 ≡ 0) × (ended more ≡ Ok tt)
-unfolding ended
-one_ended x more h = grind arith
-
--- 0 behind each name that a chain meets: no end byte refuses it
-on_zero : (s : Bor (List ℕ)) (at left : ℕ) (p : AdsRefactorInfo × Bor (List ℕ)) → first_of s ≡ Ok p → (b : Bool) → p.0.next_refactor_info ≡ b → get_or s.now (6 + length p.0.name.now) 0 ≡ 0
-    → (b ≡ true → ended (ends_from p.1 (at + (6 + length p.0.name.now) + 1) left) ≡ Ok tt) → ended (ends_from s at (suc left)) ≡ Ok tt
-unfolding ends_from ended
-on_zero s at left p e true f z rest = simp (e, f, z) (rest refl)
-on_zero s at left p e false f z rest = simp (e, f, z)
-
-by_record : (s : Bor (List ℕ)) (at left : ℕ) (w : Result (AdsRefactorInfo × Bor (List ℕ)) Refusal) → first_of s ≡ w → EndedTo s (suc left)
-    → ((q : Bor (List ℕ)) (k : ℕ) → EndedTo q left → ended (ends_from q k left) ≡ Ok tt) → ended (ends_from s at (suc left)) ≡ Ok tt
-unfolding EndedTo
-by_record s at left (Err why) e h rest = rw (ends_refused s at (suc left) why e) none_ended
-by_record s at left (Ok p) e h rest =
-    let z = h p.0 p.1 e in
-    on_zero s at left p e p.0.next_refactor_info refl z.0 (λ f. rest p.1 (at + (6 + length p.0.name.now) + 1) (z.1 f))
-
-ends_zero : (left : ℕ) (s : Bor (List ℕ)) (at : ℕ) → EndedTo s left → ended (ends_from s at left) ≡ Ok tt
-ends_zero zero s at h = nothing_ended s at
-ends_zero (suc left) s at h = by_record s at left (first_of s) refl h (ends_zero left)
-
--- and where none does, 0 stands behind each
-zero_first : (s : Bor (List ℕ)) (at left : ℕ) (p : AdsRefactorInfo × Bor (List ℕ)) → first_of s ≡ Ok p → ended (ends_from s at (suc left)) ≡ Ok tt
-    → (get_or s.now (6 + length p.0.name.now) 0 ≡ 0) × (p.0.next_refactor_info ≡ true → ended (ends_from p.1 (at + (6 + length p.0.name.now) + 1) left) ≡ Ok tt)
-unfolding ends_from
-zero_first s at left p e h = let o = one_ended _ _ (simp e at h) in (o.0, λ f. simp f at o.1)
-
-zero_ends : (left : ℕ) (s : Bor (List ℕ)) (at f : ℕ) → length s.now ≤ f → ended (ends_from s at f) ≡ Ok tt → EndedTo s left
-unfolding EndedTo
-zero_ends zero s at f l h = tt
-zero_ends (suc left) s at zero l h = λ r next e. absurd (let m = room s (r, next) e in omega arith)
-zero_ends (suc left) s at (suc f) l h = λ r next e.
-    let m = room s (r, next) e in
-    let z = zero_first s at f (r, next) e h in
-    (z.0, λ t. zero_ends left next (at + (6 + length r.name.now) + 1) f (omega arith) (z.1 t))
-
 module _ (s : Bor (List ℕ)) where
+  checked_by : length s.now ≤ limit → (t : Result Unit Refusal) → ended (ends s 0) ≡ t → chain_alone Checked s ≡ and_then t (λ _. infos_of s)
+  checked_by l t e = simp (le-ltb limit (length s.now) l, e)
+
   by_length : (t : Bool) → ltb limit (length s.now) ≡ t → ChainModes s
-  by_length true l = record { agree = λ h. simp l; ended = λ c h. absurd (let z : ◌≡◌ {A = ℕ} 0 1 = cc (simp l at h) in omega arith) }
-  by_length false l = record { agree = λ h. simp (l, ends_zero (length s.now) s 0 (h (length s.now))); ended = by_ends (ended (ends s 0)) refl }
+  by_length true l = record {
+    agree = λ h. simp l;
+    ended = λ c h. absurd (let z : ◌≡◌ {A = ℕ} 0 1 = cc (simp l at h) in omega arith);
+    first = λ q next at r k m z e n. checked_by k _ (refused_first s q next at r m z e n);
+  }
+  by_length false l = record {
+    agree = λ h. simp (l, all_pass s h);
+    ended = by_ends (ended (ends s 0)) refl;
+    first = λ q next at r k m z e n. checked_by k _ (refused_first s q next at r m z e n);
+  }
     where
       by_ends : (e : Result Unit Refusal) → ended (ends s 0) ≡ e → (c : RefactorInfos × Bor (List ℕ)) → chain_alone Checked s ≡ Ok c → (chain_alone Present s ≡ Ok c) × ChainEnded s
       by_ends (Err why) e c h = absurd (let z : ◌≡◌ {A = ℕ} 0 1 = cc (simp (l, e) at h) in omega arith)
-      by_ends (Ok u) e c h = (simp l (simp (l, e) at h), λ left. zero_ends left s 0 (length s.now) (omega arith) e)
+      by_ends (Ok u) e c h = (simp l (simp (l, e) at h), zero_ends s e)
 
 pub chains_modes : ChainsModes
 chains_modes s = by_length s (ltb limit (length s.now)) refl

@@ -43,12 +43,12 @@ ends_refused s at zero why h = refl
 ends_refused s at (suc f) why h = rw h refl
 
 -- a turn of the end bytes: what it tells of the end bytes from here on, where so many records are behind
-ends_go_on : (s : Bor (List ℕ)) (at c n : ℕ) (p : AdsRefactorInfo × Bor (List ℕ)) → first_of s ≡ Ok p → p.0.next_refactor_info ≡ true → c + length s.now ≤ n
+pub ends_go_on : (s : Bor (List ℕ)) (at c n : ℕ) (p : AdsRefactorInfo × Bor (List ℕ)) → first_of s ≡ Ok p → p.0.next_refactor_info ≡ true → c + length s.now ≤ n
     → ends_from s at (n - c) ≡ (at + (6 + length p.0.name.now), get_or s.now (6 + length p.0.name.now) 0) ∷ ends_from p.1 (at + (6 + length p.0.name.now) + 1) (n - (c + 1))
 unfolding ends_from
 ends_go_on s at c n p h f k = let r = room s p h in grind arith
 
-ends_last : (s : Bor (List ℕ)) (at c n : ℕ) (p : AdsRefactorInfo × Bor (List ℕ)) → first_of s ≡ Ok p → p.0.next_refactor_info ≡ false → c + length s.now ≤ n
+pub ends_last : (s : Bor (List ℕ)) (at c n : ℕ) (p : AdsRefactorInfo × Bor (List ℕ)) → first_of s ≡ Ok p → p.0.next_refactor_info ≡ false → c + length s.now ≤ n
     → ends_from s at (n - c) ≡ (at + (6 + length p.0.name.now), get_or s.now (6 + length p.0.name.now) 0) ∷ []
 unfolding ends_from
 ends_last s at c n p h f k = let r = room s p h in grind arith

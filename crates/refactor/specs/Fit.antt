@@ -1,17 +1,17 @@
 -- docs/FORMAT.md, "Fit records": what the writer of refactor records writes is read back in whatever mode, wherever it stands, makes good blocks, and nothing else does.
-use Rattle.std.specs.Prelude.{ℕ, ◌-◌, ◌<◌, ◌≤◌, ◌≡◌, Bool, true, false, List, [], ◌∷◌, ◌++◌, map, Ok, Err, length, if◌then◌else◌}
+use Rattle.std.specs.Prelude.{ℕ, ◌+◌, ◌-◌, ◌<◌, ◌≤◌, ◌≡◌, Bool, true, false, List, [], ◌∷◌, ◌++◌, map, Ok, Err, length, if◌then◌else◌}
 use Rattle.std.specs.List.{All}
 use Rattle.std.specs.Borrow.{Bor}
-use Rattle.le.specs.Le.{has}
+use Rattle.le.specs.Le.{bytes2, has}
 use Rattle.part.specs.Slice.{after}
 use Rattle.refusal.specs.Refusal.{limit}
 use Rattle.refusal.specs.declared.Mode.{Mode}
 use Rattle.refusal.specs.declared.Refusal.TheVariants.{BadBlock}
 use Rattle.refactor.specs.declared.AdsRefactorInfo.{AdsRefactorInfo}
-use Rattle.refactor.specs.Refactor.{follower, first_of, alone, listed}
+use Rattle.refactor.specs.Refactor.{follower, first_of, alone, chain_alone, listed}
 use Rattle.refactor.specs.Told.{Told, told_of, told}
 use Rattle.refactor.specs.Block.{block_checked}
-use Rattle.refactor.specs.Writing.{packed_of, info_bytes, info_writing}
+use Rattle.refactor.specs.Writing.{packed_of, info_bytes, info_writing, entries_writing}
 
 -- what a record is written from
 pub record Former : Type 0 where
@@ -86,3 +86,29 @@ pub record IsMade (count : ℕ) (block : Bor (List ℕ)) : Type 0 where
 
 abbrev pub RefactorBlocksMade : Type 0
 RefactorBlocksMade = (count : ℕ) (block : Bor (List ℕ)) → All (λ b. b < 256) block.now → block_checked count block ≡ Ok tt → IsMade count block
+
+-- records one after another, one at least, the last without the follower's bit: a chain of them all wherever they stand, whatever follows them
+pub record IsChainBack (mode : Mode) (fs : List Former) (s : Bor (List ℕ)) : Type 0 where
+  pub chain : chain_alone mode s ≡ Ok (record { bytes = s; count = length fs }, after s (length (chain_bytes fs)))
+  pub tells : told (listed s (length fs)) ≡ chain_written fs
+
+abbrev pub ChainsReadBack : Type 0
+ChainsReadBack = (mode : Mode) (fs : List Former) (s : Bor (List ℕ)) (more : List ℕ) → 0 < length fs → All Fits fs → has (last_count fs) follower ≡ false
+    → s.now ≡ chain_bytes fs ++ more → length s.now ≤ limit → IsChainBack mode fs s
+
+-- a block that is written behind its count: records that fit, the last without the follower's bit, as many as the count, which fits its 2 bytes; the whole is within the limit
+pub record IsEntries (fs : List Former) (count : ℕ) (block : Bor (List ℕ)) : Type 0 where
+  pub fit : All Fits fs
+  pub last : has (last_count fs) follower ≡ false
+  pub is : block.now ≡ chain_bytes fs
+  pub long : length fs ≡ count
+  pub counted : count ≤ 65535
+  pub whole : 2 + length block.now ≤ limit
+
+-- such a block is written, and no other block of bytes
+pub record EntriesAccepted (count : ℕ) (block : Bor (List ℕ)) : Type 0 where
+  pub written : (fs : List Former) → IsEntries fs count block → entries_writing count block ≡ Ok (bytes2 count ++ block.now)
+  pub only : (bytes : List ℕ) → All (λ b. b < 256) block.now → entries_writing count block ≡ Ok bytes → IsEntries (formers (told (listed block count))) count block × (bytes ≡ bytes2 count ++ block.now)
+
+abbrev pub EntriesWritten : Type 0
+EntriesWritten = (count : ℕ) (block : Bor (List ℕ)) → EntriesAccepted count block

@@ -36,6 +36,5 @@ pub record IsNumbered (all : List AdsRefactorInfo) (number : ℕ) (answer : Resu
   pub shown : (before behind : List AdsRefactorInfo) (r : AdsRefactorInfo) → all ≡ before ++ (r ∷ behind) → length before ≡ number → answer ≡ Ok r
   pub past : length all ≤ number → answer ≡ Err (NoSuchNumber (length all) number)
 
--- asked of a chain
 abbrev pub RefactorsShown : Type 0
-RefactorsShown = (s : Bor (List ℕ)) (count : ℕ) (rest : Bor (List ℕ)) (number : ℕ) → chain_of s ≡ Ok (count, rest) → IsNumbered (listed s count) number (numbered (listed s count) count number)
+RefactorsShown = (all : List AdsRefactorInfo) (number : ℕ) → IsNumbered all number (numbered all (length all) number)

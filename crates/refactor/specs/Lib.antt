@@ -1,4 +1,5 @@
 pub mod Refactor
+pub mod Chains
 pub mod Block
 pub mod Told
 pub mod Writing

@@ -1,43 +1,46 @@
 -- docs/FORMAT.md, "Modes" and "Fit records": a refactor record and a chain in the two modes, by their bytes; what is written behind a count is read back.
-use Rattle.std.specs.Prelude.{ℕ, zero, suc, ◌+◌, ◌<◌, ◌≤◌, ◌≡◌, true, List, Result, Ok, Err, length, get_or}
+use Rattle.std.specs.Prelude.{ℕ, ◌+◌, ◌<◌, ◌≤◌, ◌≡◌, List, Ok, Err, length}
 use Rattle.std.specs.Borrow.{Bor}
 use Rattle.le.specs.Le.{le2}
 use Rattle.part.specs.Slice.{after}
+use Rattle.refusal.specs.Refusal.{limit}
 use Rattle.refusal.specs.declared.Mode.{Mode}
 use Rattle.refusal.specs.declared.Mode.TheVariants.{Present, Checked}
 use Rattle.refusal.specs.declared.Refusal.{Refusal}
-use Rattle.refusal.specs.declared.Refusal.TheVariants.{NoSuchNumber}
+use Rattle.refusal.specs.declared.Refusal.TheVariants.{NoSuchNumber, EndByte}
 use Rattle.refactor.specs.declared.AdsRefactorInfo.{AdsRefactorInfo}
 use Rattle.refactor.specs.declared.RefactorInfos.{RefactorInfos}
 use Rattle.refactor.specs.Refactor.{first_of, alone, chain_alone, listed, numbered}
+use Rattle.refactor.specs.Chains.{Meets, end_byte}
 use Rattle.refactor.specs.Told.{told}
 use Rattle.refactor.specs.Writing.{entries_writing}
 
--- where the answer is a record of these bytes, 0 follows its name
-abbrev pub Ended : List ℕ → Result AdsRefactorInfo Refusal → Type 0
-Ended s t = (r : AdsRefactorInfo) → t ≡ Ok r → get_or s (6 + length r.name.now) 0 ≡ 0
-
--- read alone: the modes agree where 0 follows the name, and the checked mode accepts nothing else
+-- read alone: the checked mode accepts exactly what the present mode accepts and is ended by 0, and reads it alike; what the present mode refuses it refuses
+-- alike; anything else it refuses by the end byte
 pub record Modes (s : Bor (List ℕ)) : Type 0 where
-  pub agree : Ended s.now (alone Present s) → alone Checked s ≡ alone Present s
-  pub ended : (r : AdsRefactorInfo) → alone Checked s ≡ Ok r → (alone Present s ≡ Ok r) × Ended s.now (Ok r)
+  pub ended : (r : AdsRefactorInfo) → alone Checked s ≡ Ok r → (alone Present s ≡ Ok r) × (end_byte s r ≡ 0)
+  pub agree : (r : AdsRefactorInfo) → alone Present s ≡ Ok r → end_byte s r ≡ 0 → alone Checked s ≡ Ok r
+  pub refused_alike : (why : Refusal) → alone Present s ≡ Err why → alone Checked s ≡ Err why
+  pub first : (r : AdsRefactorInfo) → alone Present s ≡ Ok r → (end_byte s r ≡ 0 → ⊥) → alone Checked s ≡ Err (EndByte (6 + length r.name.now) (end_byte s r))
 
 abbrev pub RefactorsModes : Type 0
 RefactorsModes = (s : Bor (List ℕ)) → Modes s
 
--- 0 follows the name of each of the first so many records that a chain meets: the first, and each behind one that another follows
-unfoldable pub EndedTo : Bor (List ℕ) → ℕ → Type 0
-EndedTo s zero = Unit {0}
-EndedTo s (suc left) = (r : AdsRefactorInfo) (next : Bor (List ℕ)) → first_of s ≡ Ok (r, next) → (get_or s.now (6 + length r.name.now) 0 ≡ 0) × (r.next_refactor_info ≡ true → EndedTo next left)
+-- 0 follows the name of each record that a chain meets before a place
+abbrev pub EndedTo : Bor (List ℕ) → ℕ → Type 0
+EndedTo s place = (q next : Bor (List ℕ)) (at : ℕ) (r : AdsRefactorInfo) → Meets s q at → at < place → first_of q ≡ Ok (r, next) → end_byte q r ≡ 0
 
 -- of all that it meets: it need not be a whole chain
 abbrev pub ChainEnded : Bor (List ℕ) → Type 0
-ChainEnded s = (left : ℕ) → EndedTo s left
+ChainEnded s = (place : ℕ) → EndedTo s place
 
--- a chain read alone: the modes agree where every record that it meets is ended, and the checked mode accepts nothing else
+-- a chain read alone: the modes agree where every record that it meets is ended, also where one is refused, and the checked mode accepts nothing else; a chain
+-- within the limit it refuses by the first end byte that is not 0, whatever stands behind that
 pub record ChainModes (s : Bor (List ℕ)) : Type 0 where
   pub agree : ChainEnded s → chain_alone Checked s ≡ chain_alone Present s
   pub ended : (c : RefactorInfos × Bor (List ℕ)) → chain_alone Checked s ≡ Ok c → (chain_alone Present s ≡ Ok c) × ChainEnded s
+  pub first : (q next : Bor (List ℕ)) (at : ℕ) (r : AdsRefactorInfo) → length s.now ≤ limit → Meets s q at → EndedTo s at → first_of q ≡ Ok (r, next) → (end_byte q r ≡ 0 → ⊥)
+      → chain_alone Checked s ≡ Err (EndByte (at + (6 + length r.name.now)) (end_byte q r))
 
 abbrev pub ChainsModes : Type 0
 ChainsModes = (s : Bor (List ℕ)) → ChainModes s

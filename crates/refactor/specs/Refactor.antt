@@ -1,5 +1,6 @@
 -- A refactor record, which tells a former name: packed 4, name length 2, name, end byte. A chain is records up to the first that none follows.
-use Rattle.std.specs.Prelude.{ℕ, zero, suc, ◌+◌, List, [], ◌∷◌, slice_get, ok_or, Option, Some, None, Result, Ok, Err, ltb, length, get_or, bit_and, if◌then◌else◌}
+use Rattle.std.specs.Prelude.{ℕ, zero, suc, ◌+◌, ◌-◌, ◌≡◌, List, [], ◌∷◌, slice_get, ok_or, Option, Some, None, Result, Ok, Err, eqb, ltb, length, get_or, bit_and, if◌then◌else◌}
+use Rattle.std.specs.Iterator.{YieldsFirst}
 use Rattle.std.specs.Borrow.{Bor}
 use Rattle.le.specs.Le.{le2, le4, has}
 use Rattle.part.specs.Slice.{part, after}
@@ -33,6 +34,19 @@ first_of s = sized s (le2 s.now 4)
 unfoldable pub listed : Bor (List ℕ) → ℕ → List AdsRefactorInfo
 listed s zero = []
 listed s (suc left) = outcome (first_of s) (λ p. p.0 ∷ listed p.1 left) (λ why. [])
+
+-- all that an iterator has left; and the iterator after it was asked for one: the bytes after that one and a count less, or a count of 0 where none can be read
+abbrev pub left : RefactorInfos → List AdsRefactorInfo
+left c = listed c.bytes c.count
+
+unfoldable pub after_next : RefactorInfos → RefactorInfos
+after_next c =
+    if eqb c.count 0 then c
+    else outcome (first_of c.bytes) (λ p. record { bytes = p.1; count = c.count - 1 }) (λ why. record { bytes = c.bytes; count = 0 })
+
+-- asked for one, it gives the first of those, if there is any, and is then that iterator
+abbrev pub NextGives : RefactorInfos → Option AdsRefactorInfo → RefactorInfos → Type 0
+NextGives c given next = YieldsFirst left c given next × (next ≡ after_next c)
 
 -- a chain, after so many of its records: how many it has, and the bytes after it. Each takes at least a byte of those that are left
 unfoldable pub chained : Bor (List ℕ) → ℕ → ℕ → Result (ℕ × Bor (List ℕ)) Refusal

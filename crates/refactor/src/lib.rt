@@ -2,9 +2,9 @@
 #![tactic(auto, unfolding(crate::specs::Refactor::first_of, crate::specs::Refactor::listed, le::specs::Le::le2, le::specs::Le::le4))]
 
 ghost use Rattle.std.specs.Prelude.{◌≡◌, ◌+◌, ◌<◌, ◌^◌, length, ◌-◌};
-ghost use Rattle.std.specs.Iterator.{YieldsFirst, item_count};
+ghost use Rattle.std.specs.Iterator.{item_count};
 ghost use Rattle.refusal.specs.EndBytes.{ended};
-ghost use Rattle.refactor.specs.Refactor.{first_of, alone, infos_of, chain_alone, listed, turn, ends, numbered};
+ghost use Rattle.refactor.specs.Refactor.{first_of, alone, infos_of, chain_alone, left, NextGives, turn, ends, numbered};
 
 mod block;
 pub mod theorems;
@@ -154,10 +154,11 @@ impl<'a> AdsRefactorInfo<'a> {
 impl<'a> Iterator for RefactorInfos<'a> {
     type Item = AdsRefactorInfo<'a>;
 
-    ghost next_gives = { YieldsFirst (λ s. listed s.bytes s.count) };
+    ghost next_gives = { NextGives };
 
-    ghost remaining = { item_count (λ s. listed s.bytes s.count) };
+    ghost remaining = { item_count left };
 
+    #[tactic(auto, unfolding(crate::specs::Refactor::first_of, crate::specs::Refactor::listed, crate::specs::Refactor::after_next, le::specs::Le::le2, le::specs::Le::le4))]
     fn next(&mut self) -> Option<AdsRefactorInfo<'a>> {
         if self.count == 0 {
             return None;
@@ -193,12 +194,18 @@ impl<'a> RefactorInfos<'a> {
         chain(bytes)
     }
 
-    /// The record with a number, counted from 0; 14 past the last.
-    pub fn get(mut self, number: usize) -> Result<AdsRefactorInfo<'a>, Refusal>
-        ensures { result ≡ numbered (listed self.entry.bytes self.entry.count) self.entry.count number }
+    /// The record with a number, counted from 0; past the last 14, with how many there are.
+    pub fn get(self, number: usize) -> Result<AdsRefactorInfo<'a>, Refusal>
+        ensures { let all = left self.entry in result ≡ numbered all (length all) number }
     {
-        let count = self.count;
-        self.nth(number).ok_or(Refusal::NoSuchNumber {
+        let mut count = 0;
+        for info in self {
+            if count == number {
+                return Ok(info);
+            }
+            count += 1;
+        }
+        Err(Refusal::NoSuchNumber {
             count,
             asked: number,
         })

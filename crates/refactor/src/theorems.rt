@@ -1,8 +1,9 @@
 //! Theorems. Each is the contract of a function that does nothing, so that none goes unnoticed if its proof does.
 ghost use Rattle.refactor.specs.Told.{BlocksRead};
+ghost use Rattle.refactor.specs.Chains.{ChainsRefused};
 ghost use Rattle.refactor.specs.Modes.{EntriesReadBack, RefactorsModes, ChainsModes};
 ghost use Rattle.refactor.specs.Inside.{RefactorsInside, ChainsCounted, RefactorsShown};
-ghost use Rattle.refactor.specs.Fit.{RefactorsReadBack, RefactorBlocks, RefactorsFixed, RefactorBlocksMade};
+ghost use Rattle.refactor.specs.Fit.{RefactorsReadBack, RefactorBlocks, RefactorsFixed, RefactorBlocksMade, ChainsReadBack, EntriesWritten};
 
 /// A block that passes is read wherever it stands, whatever follows it.
 pub fn blocks_read()
@@ -15,13 +16,13 @@ pub fn entries_read_back()
     ensures { EntriesReadBack }
 {}
 
-/// The modes agree where 0 follows the name of a record, and the checked mode accepts nothing else.
+/// The modes agree where 0 follows the name of a record, and on a refusal; else the checked mode refuses by the end byte.
 pub fn refactors_modes()
     ensures { RefactorsModes }
 {}
 
-/// The modes agree on a chain where 0 follows the name of every record that it meets, and the checked mode accepts
-/// nothing else.
+/// The modes agree on a chain where 0 follows the name of every record that it meets; else the checked mode refuses by the
+/// first end byte that is not 0.
 pub fn chains_modes()
     ensures { ChainsModes }
 {}
@@ -36,7 +37,12 @@ pub fn chains_counted()
     ensures { ChainsCounted }
 {}
 
-/// By number the record of that place in a chain is answered, past the last 14.
+/// A record that a chain meets and that is refused refuses the chain, whole, and nothing else does.
+pub fn chains_refused()
+    ensures { ChainsRefused }
+{}
+
+/// By number the record of that place in a list is answered, past the last 14.
 pub fn refactors_shown()
     ensures { RefactorsShown }
 {}
@@ -61,4 +67,14 @@ pub fn refactors_fixed()
 /// A block of bytes that passes is the block of the records that it tells.
 pub fn refactor_blocks_made()
     ensures { RefactorBlocksMade }
+{}
+
+/// Every chain of records that fit is read back, in either mode, whatever follows it.
+pub fn chains_read_back()
+    ensures { ChainsReadBack }
+{}
+
+/// A block is written behind its count exactly where it is the block of records that fit, as many as the count says.
+pub fn entries_written()
+    ensures { EntriesWritten }
 {}

@@ -4,10 +4,10 @@ use Rattle.std.specs.Prelude.{if◌then◌else◌, ltb}
 use lib.Seq.{take_at}
 use Rattle.refusal.specs.declared.Refusal.{Refusal}
 use Rattle.writing.specs.Writing.{Writes}
+use Rattle.writing.specs.One.{OneWriting}
 
--- two answers, and two buffers, that one promise allows are equal
-pub one_answer : {w : Result (List ℕ) Refusal} {old new new' : List ℕ} {r r' : Result ℕ Refusal} → Writes w old new r → Writes w old new' r' → (r ≡ r') × (new ≡ new')
-one_answer p q = (p.said ∙ sym q.said, p.left ∙ sym q.left)
+pub one_writing : OneWriting
+one_writing w old new new' r r' p q = (p.said ∙ sym q.said, p.left ∙ sym q.left)
 
 -- where a writer answers that it wrote n bytes, these are the bytes that were to be written, and the buffer begins with them
 pub record DoneBy (w : Result (List ℕ) Refusal) (new : List ℕ) (n : ℕ) : Type 0 where

@@ -1,3 +1,4 @@
 pub mod Writing
 pub mod Layout
 pub mod Checks
+pub mod One

@@ -4,6 +4,7 @@
 ghost use Rattle.std.specs.Prelude.{◌≡◌, true, ◌+◌, ◌≤◌, length};
 ghost use Rattle.le.specs.Put.{Wrote};
 ghost use Rattle.writing.specs.Layout.{lengths_bytes, string_bytes, strings_bytes, attributes_bytes};
+ghost use Rattle.writing.specs.One.{OneWriting};
 ghost use Rattle.writing.specs.Checks.{count_checked, strings_checked, size_checked, room_checked, IsShort};
 
 use refusal::{LIMIT, Refusal};
@@ -113,3 +114,8 @@ pub fn put_attributes(out: &mut [u8], at: usize, flagged: bool, count: usize, bl
     }
     at
 }
+
+/// Two answers and two buffers that one promise of a writer allows are equal.
+pub fn one_writing()
+    ensures { OneWriting }
+{}

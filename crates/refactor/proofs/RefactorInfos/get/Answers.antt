@@ -1,12 +1,17 @@
-use Rattle.std.proofs.Common.{refl, sym, ap, ◌∙◌}
-use Rattle.std.specs.Prelude.{ok_or}
-use Rattle.std.proofs.lemmas.Iterator.Consumers.{nth_from_yields_List, YieldsList-from_first}
-use Rattle.std.proofs.lemmas.Iterator.Adapters.{option_map_id}
-use Rattle.refusal.specs.declared.Refusal.TheVariants.{NoSuchNumber}
-use Rattle.refactor.specs.Refactor.{listed}
+use Rattle.std.proofs.Common.{sym, ◌∙◌, subst, arith}
+use Rattle.std.specs.Iterator.{Yields}
+use Rattle.refactor.specs.Refactor.{NextGives}
+use Rattle.refactor.proofs.Left.{next_is, none_is}
 use Rattle.refactor.proofs.RefactorInfos.get.Goals as goal
+
+pub returns-then-count-number : goal.returns-then-count-number
+returns-then-count-number c =
+    let h = c.loop-info in
+    let given = subst (λ a. Yields NextGives a h.yielded h.info-iterator) c.into_iter-info-iterator.ensures.into_iter_gives h.yielded_by in
+    next_is _ _ _ h.yielded c.args.number given c.in-Some.info (subst (λ r. NextGives h.info-iterator r c.next.new.self) c.in-Some.is c.next.ensures.steps) (sym h.invariant.counted ∙ c.if-count-number.true)
 
 pub returns : goal.returns
 returns c =
-    let road = nth_from_yields_List _ _ _ c.nth.ensures.ran (YieldsList-from_first (λ x. x) (λ s. listed s.bytes s.count) _ refl) in
-    c.ok_or.ensures.value ∙ ap (λ t. ok_or t (NoSuchNumber c.args.self.count c.args.number)) (sym (option_map_id _) ∙ road)
+    let h = c.loop-info in
+    let given = subst (λ a. Yields NextGives a h.yielded h.info-iterator) c.into_iter-info-iterator.ensures.into_iter_gives h.yielded_by in
+    rw h.invariant.counted (none_is _ _ _ h.yielded c.args.number given (subst (λ r. NextGives h.info-iterator r c.next.new.self) c.in-None.is c.next.ensures.steps) (omega arith))
