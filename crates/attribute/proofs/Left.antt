@@ -1,5 +1,6 @@
 -- What is left of an iterator: all of it is given, one by one, and then no more.
-use Rattle.std.proofs.Common.{ℕ, ◌≤◌, ◌≡◌, List, length, Ok, Err, Result, refl, ap, ◌∙◌}
+use Rattle.std.proofs.Common.{ℕ, zero, suc, ◌≤◌, ◌≡◌, List, [], length, Ok, Err, Result, refl, ap, ◌∙◌, Bor}
+use borrow.Author.Tests.{ne_eqb}
 use Rattle.std.specs.Prelude.{Option, Some, None, ok_or}
 use Rattle.std.specs.Iterator.{Yields}
 use Rattle.std.proofs.lemmas.Iterator.{YieldsList}
@@ -8,7 +9,17 @@ use Rattle.refusal.specs.declared.Refusal.{Refusal}
 use Rattle.refusal.specs.declared.Refusal.TheVariants.{NoSuchNumber}
 use Rattle.attribute.specs.declared.AdsAttribute.{AdsAttribute}
 use Rattle.attribute.specs.declared.Attributes.{Attributes}
-use Rattle.attribute.specs.Attribute.{left, NextGives, numbered}
+use Rattle.attribute.specs.Attribute.{first_of, listed, left, after_next, NextGives, numbered}
+
+-- where none can be read, none is given, and none is counted from then on
+nothing : (s : Bor (List ℕ)) (n : ℕ) {why : Refusal} → first_of s ≡ Err why → listed s n ≡ []
+unfolding listed
+nothing s zero e = refl
+nothing s (suc n) e = rw e refl
+
+pub ends_there : (a : Attributes) {why : Refusal} → first_of a.bytes ≡ Err why → (a.count ≡ 0 → ⊥) → NextGives a None (record { bytes = a.bytes; count = 0 })
+unfolding listed after_next
+ends_there a e n = ((nothing a.bytes a.count e, refl), simp (ne_eqb a.count 0 n, e))
 
 pub all_given : (a : Attributes) → YieldsList NextGives (λ x. x) a (left a)
 all_given = YieldsList-from_shown NextGives (λ x. x) left (λ s t h. ap length h.0.0) (λ s x t h. h.0)

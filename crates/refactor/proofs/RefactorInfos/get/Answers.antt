@@ -1,5 +1,6 @@
-use Rattle.std.proofs.Common.{sym, ◌∙◌, subst, arith}
+use Rattle.std.proofs.Common.{ℕ, Err, sym, ap, ◌∙◌, subst, arith}
 use Rattle.std.specs.Iterator.{Yields}
+use Rattle.refusal.specs.declared.Refusal.TheVariants.{NoSuchNumber}
 use Rattle.refactor.specs.Refactor.{NextGives}
 use Rattle.refactor.proofs.Left.{next_is, none_is}
 use Rattle.refactor.proofs.RefactorInfos.get.Goals as goal
@@ -14,4 +15,4 @@ pub returns : goal.returns
 returns c =
     let h = c.loop-info in
     let given = subst (λ a. Yields NextGives a h.yielded h.info-iterator) c.into_iter-info-iterator.ensures.into_iter_gives h.yielded_by in
-    rw h.invariant.counted (none_is _ _ _ h.yielded c.args.number given (subst (λ r. NextGives h.info-iterator r c.next.new.self) c.in-None.is c.next.ensures.steps) (omega arith))
+    ap (λ (n : ℕ). Err (NoSuchNumber n c.args.number)) h.invariant.counted ∙ none_is _ _ _ h.yielded c.args.number given (subst (λ r. NextGives h.info-iterator r c.next.new.self) c.in-None.is c.next.ensures.steps) (omega arith)
