@@ -180,7 +180,6 @@ impl AdsSymbolFlags {
     }
 
     /// Returns `true` if the symbol metadata contains attributes/pragmas.
-    #[tactic(auto, using(crate::proofs::Bits::bit_12))]
     pub fn has_attributes(self) -> bool
         ensures { result ≡ has self.0 0x1000 }
     {

@@ -28,7 +28,6 @@ fn extended_word(flags: Option<AdsSymbol2Flags>) -> u32
 }
 
 #[inline(always)]
-#[tactic(auto, unfolding(crate::specs::Slots::symbol_slots))]
 fn symbol_slots(symbol: &AdsSymbolInfo<'_>) -> [u64; 21]
     requires { IsShown symbol.now }
     ensures { result ≡ symbol_slots symbol.now }
