@@ -1,5 +1,5 @@
 -- A fit record whose entry is within the limit is enough to shut the useless versions out.
-use Rattle.std.proofs.Common.{ℕ, ◌≤◌, ◌≡◌, ap, Bool, true, false, List, [], ◌∷◌, length, arith, Bor}
+use Rattle.std.proofs.Common.{ℕ, ◌≤◌, ◌≡◌, sym, ap, ◌∙◌, Bool, true, false, List, [], ◌∷◌, length, arith, Bor}
 use mathlib.Core.List.{append-nil}
 use lib.Dec.{leb}
 use borrow.Author.Tests.{lt-leb}
@@ -43,5 +43,5 @@ module _ {R S T : Type 0} (Fit : R → Type 0) (written : R → List ℕ) (meant
       record {
         some = g;
         never = λ step h d. not-both (first_told step d) (h u 0);
-        again = λ step h d. not-both (first_told step d) (rw (h u (cursor (step u 0))) at (second_told step d));
+        again = λ step h d. not-both (first_told step d) (sym (h u (cursor (step u 0))) ∙ second_told step d);
       }

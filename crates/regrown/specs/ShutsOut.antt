@@ -13,5 +13,5 @@ pub record ShutsOut {R S T : Type 0} (Fit : R → Type 0) (written : R → List 
   pub some : Grown Fit
   -- a step that refuses everything, or is finished at once: it never tells a record
   pub never : (step : Bor (List ℕ) → ℕ → T) → ((s : Bor (List ℕ)) (at : ℕ) → is_entry (told (step s at)) ≡ false) → ComeBack Fit written meant step cursor told → ⊥
-  -- a step that reads the first entry and then repeats; one constant record is such a one
-  pub again : (step : Bor (List ℕ) → ℕ → T) → ((s : Bor (List ℕ)) (at : ℕ) → step s at ≡ step s 0) → ComeBack Fit written meant step cursor told → ⊥
+  -- a step that tells a record wherever it is asked, if it does at the start, wherever its cursor goes: one that tells its first record again and again is such a one
+  pub again : (step : Bor (List ℕ) → ℕ → T) → ((s : Bor (List ℕ)) (at : ℕ) → is_entry (told (step s at)) ≡ is_entry (told (step s 0))) → ComeBack Fit written meant step cursor told → ⊥

@@ -41,8 +41,8 @@ pub fn come_back<'a, K: Fits<'a>>()
     ensures { (mode : Mode) → ComeBack K.Fit K.written K.meant (step_at (K.Record.read mode)) cursor_of (tells K.Record.length_of K.told) }
 {}
 
-/// Where there is a fit record, whose entry is within the limit, a step that never gives a record, and one that gives its
-/// first answer again, do not meet it.
+/// Where there is a fit record, whose entry is within the limit, a step that never gives a record, and one that gives a record
+/// wherever it is asked, do not meet it.
 pub fn shuts_out<'a, K: Fits<'a>>()
     ensures { (g : Grown K.Fit) → length (entry_of K.Fit K.written g) ≤ limit → ShutsOut K.Fit K.written K.meant cursor_of (tells K.Record.length_of K.told) }
 {}

@@ -15,4 +15,4 @@ pub mod Anywhere
 pub mod Refused
 pub mod Writable
 pub mod ReadOn
-pub mod Alone
+pub mod ReadBack

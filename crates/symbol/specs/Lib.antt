@@ -9,4 +9,4 @@ pub mod Writing
 pub mod Told
 pub mod Writable
 pub mod ReadOn
-pub mod Alone
+pub mod ReadBack

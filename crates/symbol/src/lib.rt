@@ -254,6 +254,19 @@ pub struct SymbolHead<'a> {
     pub name: &'a [u8],
 }
 
+// The head of an entry's own bytes whose name has this length.
+#[inline(always)]
+fn head_with(own: &[u8], size: usize) -> SymbolHead<'_>
+    requires { 30 + size ≤ length own.now }
+    ensures whole { result.length ≡ length own.now }
+    ensures named { result.name ≡ part own.entry 30 size }
+{
+    SymbolHead {
+        length: own.len(),
+        name: string_at(own, 30, size),
+    }
+}
+
 impl<'a> Entry<'a> for SymbolHead<'a> {
     ghost HEADER = { 30 };
 
@@ -304,9 +317,6 @@ impl<'a> Entry<'a> for SymbolHead<'a> {
                 available: length,
             });
         }
-        Ok(SymbolHead {
-            length,
-            name: string_at(own, 30, name),
-        })
+        Ok(head_with(own, name))
     }
 }

@@ -6,7 +6,7 @@ ghost use Rattle.symbol.specs.Shown.{SymbolsShown, SymbolsNamed};
 ghost use Rattle.symbol.specs.Told.{LargestTyped, SymbolsAnywhere};
 ghost use Rattle.symbol.specs.Writable.{SymbolsWritten};
 ghost use Rattle.symbol.specs.ReadOn.{SymbolsReadOn};
-ghost use Rattle.symbol.specs.Alone.{SymbolsAlone};
+ghost use Rattle.symbol.specs.ReadBack.{SymbolsReadBack};
 
 /// A symbol that is accepted has room for its strings and lists, and shows as many attributes as it counts.
 pub fn symbols_whole()
@@ -56,7 +56,7 @@ pub fn symbols_read_on()
     ensures { SymbolsReadOn }
 {}
 
-/// A direct parse of bytes that go on behind what an entry claims is one of the entry alone.
-pub fn symbols_alone()
-    ensures { SymbolsAlone }
+/// A symbol that is written, its entry grown by any bytes at its end, is read in either mode as what was meant.
+pub fn symbols_read_back()
+    ensures { SymbolsReadBack }
 {}

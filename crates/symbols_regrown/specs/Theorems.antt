@@ -22,7 +22,7 @@ use Rattle.symbol.specs.Told.{told_of, meant, IsTyped}
 use Rattle.symbol.specs.Writing.{symbol_bytes, symbol_written}
 use Rattle.symbols_regrown.specs.Kind.{IsFit}
 
--- a step that never gives a record, and one that gives its first answer again
+-- a step that never gives a record, and one that gives a record wherever it is asked
 abbrev pub SymbolsShutOut : Type 0
 SymbolsShutOut = ShutsOut IsFit symbol_bytes meant cursor_of (tells (λ (r : AdsSymbolInfo). r.length) told_of)
 

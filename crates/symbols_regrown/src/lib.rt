@@ -46,7 +46,7 @@ pub fn symbols_come_back()
     regrown::come_back::<WrittenSymbols>()
 }
 
-/// A step that never gives a record, and one that gives its first answer again, do not meet it.
+/// A step that never gives a record, and one that gives a record wherever it is asked, do not meet it.
 pub fn symbols_shut_out()
     ensures { SymbolsShutOut }
 {}
