@@ -14,7 +14,7 @@ lent_guid bytes =
     else Err (UnexpectedLength 16 (length bytes))
 
 abbrev pub new_symbol : ℕ → ℕ → ℕ → ℕ → ℕ → ℕ → ℕ → Option (List ℕ) → Bor (List ℕ) → Bor (List ℕ) → Bor (List ℕ) → ℕ → Bor (List ℕ) → ℕ → Bor (List ℕ) → NewSymbol
-new_symbol group offset size type flags high extended guid name typeName comment count block links chain =
+new_symbol group offset size type flags high extended guid name type_name comment count block links chain =
     record {
       index_group = record { 0 = group };
       index_offset = record { 0 = offset };
@@ -23,7 +23,7 @@ new_symbol group offset size type flags high extended guid name typeName comment
       flags = record { 0 = flags };
       high = high;
       name = name;
-      type_name = typeName;
+      type_name = type_name;
       comment = comment;
       guid = guid;
       attributes = record { count = count; bytes = block };
@@ -32,17 +32,17 @@ new_symbol group offset size type flags high extended guid name typeName comment
     }
 
 abbrev pub new_field : ℕ → ℕ → ℕ → ℕ → ℕ → ℕ → ℕ → Option (List ℕ) → Bor (List ℕ) → Bor (List ℕ) → Bor (List ℕ) → ℕ → Bor (List ℕ) → NewField
-new_field version hash typeHash size offset type flags guid name typeName comment count block =
+new_field version hash type_hash size offset type flags guid name type_name comment count block =
     record {
       version = version;
       hash_value = hash;
-      type_hash_value = typeHash;
+      type_hash_value = type_hash;
       size = size;
       offset = offset;
       type_id = type;
       flags = record { 0 = flags };
       name = name;
-      type_name = typeName;
+      type_name = type_name;
       comment = comment;
       guid = guid;
       attributes = record { count = count; bytes = block };
