@@ -1,15 +1,14 @@
 -- A field in the two modes: proved.
 use Rattle.std.proofs.Common.{ℕ, zero, suc, ◌+◌, ◌-◌, ◌<◌, ◌≤◌, ◌≡◌, refl, sym, ap, ◌∙◌, Bool, true, false, List, [], ◌∷◌, ◌++◌, length, get_or, Ok, Err, Result, arith, Bor}
-use Rattle.std.specs.Prelude.{eqb, ltb, if◌then◌else◌}
+use Rattle.std.specs.Prelude.{eqb, ltb}
 use Rattle.std.specs.List.{All}
-use Rattle.std.proofs.lemmas.List.Elements.{All-nil, All-cons, All-append, All-head, All-tail}
-use borrow.Author.Tests.{eqb-true, ne_eqb, le-ltb, ltb-false}
+use Rattle.std.proofs.lemmas.List.Elements.{All-nil, All-cons, All-append}
+use borrow.Author.Tests.{le-ltb, ltb-false}
 use Rattle.std.proofs.lemmas.List.{get_or-drop}
 use Rattle.le.specs.Le.{le2, has}
-use Rattle.part.specs.Slice.{after}
 use Rattle.part.specs.Outcome.{and_then}
 use Rattle.refusal.specs.EndBytes.{ended, in_mode}
-use Rattle.refusal.specs.EndsMeant.{AllZero, FirstNot}
+use Rattle.refusal.specs.EndsMeant.{AllZero}
 use Rattle.refusal.proofs.EndsMeant.{zero_passes, passed_zero, first_refused}
 use Rattle.refusal.specs.declared.Mode.{Mode}
 use Rattle.refusal.specs.declared.Mode.TheVariants.{Present, Checked}
@@ -116,13 +115,13 @@ module _ (e : Bor (List ℕ)) where
   abbrev f : Front
   f = front_by_header e
 
-  abbrev strings_of : Result Unit Refusal
+  abbrev pub strings_of : Result Unit Refusal
   strings_of = ended (string_ends e.now n t k)
 
-  abbrev attributes_of : Result Unit Refusal
+  abbrev pub attributes_of : Result Unit Refusal
   attributes_of = ended (attribute_ends f.length (tail_at f (behind_items f)).attributes)
 
-  abbrev list_whole : Result Unit Refusal
+  abbrev pub list_whole : Result Unit Refusal
   list_whole = complete (sections_of f (guid_of (behind_items f) (has f.flags.0 type_guid_flag)).1).1
 
   bytes_are : ended (end_bytes e) ≡ and_then strings_of (λ _. attributes_of)
@@ -130,7 +129,7 @@ module _ (e : Bor (List ℕ)) where
   bytes_are = both (string_ends e.now n t k) (attribute_ends f.length (tail_at f (behind_items f)).attributes)
 
   -- what is read of an entry that has a header and strings
-  read_is : (mode : Mode) → (h : HasStrings e) → field_of mode e ≡ and_then (in_mode mode strings_of) (λ _. and_then (in_mode mode attributes_of) (λ _. and_then list_whole (λ _. Ok (record_is e h))))
+  pub read_is : (mode : Mode) → (h : HasStrings e) → field_of mode e ≡ and_then (in_mode mode strings_of) (λ _. and_then (in_mode mode attributes_of) (λ _. and_then list_whole (λ _. Ok (record_is e h))))
   unfolding field_of front_of tail_of
   read_is mode h =
       simp (le-ltb (length e.now) 42 h.header, le-ltb (length e.now) (45 + n + t + k) h.strings)

@@ -8,3 +8,5 @@ pub mod Writing
 pub mod Told
 pub mod Within
 pub mod Modes
+pub mod Laid
+pub mod Written

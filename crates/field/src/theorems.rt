@@ -1,6 +1,8 @@
 //! Theorems. Each is the contract of a function that does nothing, so that none goes unnoticed if its proof does.
+ghost use Rattle.field.specs.Laid.{FieldsLaid};
 ghost use Rattle.field.specs.Modes.{FieldsModes};
 ghost use Rattle.field.specs.Told.{LargestTyped};
+ghost use Rattle.field.specs.Written.{FieldsWritten};
 ghost use Rattle.field.specs.Within.{FieldsWithin, FieldsShown, FieldsNamed};
 
 /// What a field that is accepted tells is a part of its entry, each string with its end byte.
@@ -26,4 +28,15 @@ pub fn fields_modes()
 /// No more is asked of a field's numbers than their types say: the largest of each width is typed.
 pub fn largest_typed()
     ensures { LargestTyped }
+{}
+
+/// What stands behind the strings is passed over, or read, part by part as it lies there, and a refused attribute refuses the field.
+pub fn fields_laid()
+    ensures { FieldsLaid }
+{}
+
+/// A field is written exactly where its strings and its count are short, its flagged attributes are good, and its entry is within
+/// the limit; else it is refused by the first of these that fails.
+pub fn fields_written()
+    ensures { FieldsWritten }
 {}
