@@ -256,13 +256,17 @@ module _ (e : Bor (List ℕ)) (p : Parts) (more : List ℕ) (l : IsLaid e p more
       simp (le-leb 2 (length (drop place e.now)) (omega arith), k, b, c.long, c.stops)
   some_by false n why t m c = cc
 
+  with_attributes : (n : ℕ) (why : Option Refusal) → has w attributes_flag ≡ true → 2 ≤ length more → Shows (after e (length e.now - length more + 2)) (le2 more 0) n why
+      → field_of Present e ≡ and_then (complete why) (λ _. Ok (field_with e p (after e (length e.now - length more + 2)) n))
+  with_attributes n why t m s =
+      field_is ∙ ap (λ (x : Attributes × Option Refusal). and_then (complete x.1) (λ _. Ok (joined f (record { guid = guid_told (has w type_guid_flag) p.guid; attributes = x.0 }))))
+      (some_by (has w attributes_flag) n why t m (comes s))
+
 pub fields_laid : FieldsLaid
 fields_laid e p more l =
     record {
       without = λ h. without e p more l (λ k. cc);
       short = λ h. without e p more l (λ k. h);
-      read = λ t m n why s.
-          field_is e p more l
-          ∙ ap (λ (x : Attributes × Option Refusal). and_then (complete x.1) (λ _. Ok (joined (front_by_header e) (record { guid = guid_told (has (flags_of e) type_guid_flag) p.guid; attributes = x.0 }))))
-          (some_by e p more l (has (flags_of e) attributes_flag) n why t m (comes s));
+      read = λ t m n s. with_attributes e p more l n None t m s;
+      refused = λ t m n why s. with_attributes e p more l n (Some why) t m s;
     }

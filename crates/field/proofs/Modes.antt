@@ -31,7 +31,7 @@ unfolding ended
 both_by x xs ys on true t = simp t on
 both_by x xs ys on false t = simp t
 
-both : (xs ys : List (ℕ × ℕ)) → ended (xs ++ ys) ≡ and_then (ended xs) (λ _. ended ys)
+pub both : (xs ys : List (ℕ × ℕ)) → ended (xs ++ ys) ≡ and_then (ended xs) (λ _. ended ys)
 unfolding ended
 both [] ys = refl
 both (x ∷ xs) ys = both_by x xs ys (both xs ys) (eqb x.1 0) refl

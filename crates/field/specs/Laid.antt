@@ -5,12 +5,11 @@ use Rattle.std.specs.List.{All, concat}
 use Rattle.std.specs.Borrow.{Bor}
 use Rattle.le.specs.Le.{le2, le4, bytes2, has}
 use Rattle.part.specs.Slice.{after}
-use Rattle.part.specs.Outcome.{and_then}
 use Rattle.refusal.specs.declared.Mode.TheVariants.{Present}
 use Rattle.refusal.specs.declared.Refusal.{Refusal}
 use Rattle.attribute.specs.Attribute.{first_of, listed, after_listed}
 use Rattle.field.specs.declared.AdsFieldInfo.{AdsFieldInfo}
-use Rattle.field.specs.Tail.{type_guid_flag, copy_mask_flag, method_infos_flag, attributes_flag, complete}
+use Rattle.field.specs.Tail.{type_guid_flag, copy_mask_flag, method_infos_flag, attributes_flag}
 use Rattle.field.specs.Field.{joined, field_of}
 use Rattle.field.specs.Modes.{front_by_header, HasStrings}
 
@@ -73,9 +72,10 @@ field_with e p bytes count =
 pub record IsReadSo (e : Bor (List ℕ)) (p : Parts) (more : List ℕ) : Type 0 where
   pub without : has (flags_of e) attributes_flag ≡ false → field_of Present e ≡ Ok (field_with e p (after e (length e.now - length more)) 0)
   pub short : length more < 2 → field_of Present e ≡ Ok (field_with e p (after e (length e.now - length more)) 0)
-  pub read : has (flags_of e) attributes_flag ≡ true → 2 ≤ length more → (n : ℕ) (why : Option Refusal)
-      → Shows (after e (length e.now - length more + 2)) (le2 more 0) n why
-      → field_of Present e ≡ and_then (complete why) (λ _. Ok (field_with e p (after e (length e.now - length more + 2)) n))
+  pub read : has (flags_of e) attributes_flag ≡ true → 2 ≤ length more → (n : ℕ) → Shows (after e (length e.now - length more + 2)) (le2 more 0) n None
+      → field_of Present e ≡ Ok (field_with e p (after e (length e.now - length more + 2)) n)
+  pub refused : has (flags_of e) attributes_flag ≡ true → 2 ≤ length more → (n : ℕ) (why : Refusal)
+      → Shows (after e (length e.now - length more + 2)) (le2 more 0) n (Some why) → field_of Present e ≡ Err why
 
 abbrev pub FieldsLaid : Type 0
 FieldsLaid = (e : Bor (List ℕ)) (p : Parts) (more : List ℕ) → IsLaid e p more → IsReadSo e p more
