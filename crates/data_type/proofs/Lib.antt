@@ -10,7 +10,8 @@ pub mod Filling
 pub mod Listed
 pub mod More
 pub mod AsField
-pub mod Alike
+pub mod InModes
+pub mod Chain
 pub mod Numbers
 pub mod Stands
 pub mod Each

@@ -10,3 +10,5 @@ pub mod List
 pub mod Theorems
 pub mod Stand
 pub mod Meaning
+pub mod Ends
+pub mod Chain

@@ -1,11 +1,10 @@
 -- What is read as a data type, beside the field reader, by its bytes, and in the two modes.
-use Rattle.std.specs.Prelude.{ℕ, ◌+◌, ◌*◌, ◌<◌, ◌≤◌, ◌≡◌, List, Result, Ok, Err}
+use Rattle.std.specs.Prelude.{ℕ, ◌+◌, ◌*◌, ◌<◌, ◌≤◌, ◌≡◌, List, Ok, Err}
 use Rattle.std.specs.Borrow.{Bor}
 use Rattle.le.specs.Le.{le2, le4}
 use Rattle.refusal.specs.declared.Mode.{Mode}
 use Rattle.refusal.specs.declared.Mode.TheVariants.{Present, Checked}
-use Rattle.refusal.specs.declared.Refusal.{Refusal}
-use Rattle.refusal.specs.declared.Refusal.TheVariants.{NoSuchNumber, EndByte}
+use Rattle.refusal.specs.declared.Refusal.TheVariants.{NoSuchNumber}
 use Rattle.walk.specs.Step.{parse_of}
 use Rattle.field.specs.declared.AdsFieldInfo.{AdsFieldInfo}
 use Rattle.field.specs.Field.{field_of}
@@ -52,14 +51,6 @@ pub record IsArrays (s : List ℕ) (r : AdsDataTypeInfo) : Type 0 where
 abbrev pub ArraysMeant : Type 0
 ArraysMeant = (mode : Mode) (s : Bor (List ℕ)) (r : AdsDataTypeInfo) → parse_of 42 (type_of mode) s ≡ Ok r → IsArrays s.now r
 
--- docs/FORMAT.md, "Modes": what the checked mode reads the present mode reads alike, and what the present mode reads the checked mode reads alike or refuses
--- by an end byte that is not 0
+-- docs/FORMAT.md, "Modes": what the checked mode reads the present mode reads alike
 abbrev pub TypesPresent : Type 0
 TypesPresent = (s : Bor (List ℕ)) (r : AdsDataTypeInfo) → parse_of 42 (type_of Checked) s ≡ Ok r → parse_of 42 (type_of Present) s ≡ Ok r
-
-pub data IsAlike {R : Type 0} (t : Result R Refusal) (r : R) : Type 0 where
-  same : t ≡ Ok r → IsAlike t r
-  ended : (place byte : ℕ) → (byte ≡ 0 → ⊥) → t ≡ Err (EndByte place byte) → IsAlike t r
-
-abbrev pub TypesChecked : Type 0
-TypesChecked = (s : Bor (List ℕ)) (r : AdsDataTypeInfo) → parse_of 42 (type_of Present) s ≡ Ok r → IsAlike (parse_of 42 (type_of Checked) s) r

@@ -4,7 +4,9 @@
 
 ghost use Rattle.data_type.specs.Stand.{TypesStand};
 ghost use Rattle.data_type.specs.Meaning.{TypesMeant};
-ghost use Rattle.data_type.specs.Theorems.{TypesAsFields, ArraysMeant, TypesPresent, TypesChecked};
+ghost use Rattle.data_type.specs.Chain.{TypesNest};
+ghost use Rattle.data_type.specs.Ends.{TypesChecked};
+ghost use Rattle.data_type.specs.Theorems.{TypesAsFields, ArraysMeant, TypesPresent};
 
 /// Exactly what stands in the bytes as the layout says is read as a data type, as it stands.
 pub fn types_stand()
@@ -31,7 +33,12 @@ pub fn types_present()
     ensures { TypesPresent }
 {}
 
-/// What the present mode reads the checked mode reads alike, or refuses by an end byte that is not 0.
+/// The modes answer alike where all end bytes that are met are 0; else the checked mode tells the first that is not, with its place.
 pub fn types_checked()
     ensures { TypesChecked }
+{}
+
+/// Entries one inside another are read to a depth of 16, and refused as too deep from 17 on.
+pub fn types_nest()
+    ensures { TypesNest }
 {}

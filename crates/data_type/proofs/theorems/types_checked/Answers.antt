@@ -1,4 +1,4 @@
-use Rattle.data_type.proofs.Alike.{types_checked}
+use Rattle.data_type.proofs.InModes.{types_checked}
 use Rattle.data_type.proofs.theorems.types_checked.Goals as goal
 
 pub returns : goal.returns
