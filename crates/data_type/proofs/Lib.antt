@@ -14,6 +14,7 @@ pub mod InModes
 pub mod Chain
 pub mod Numbers
 pub mod Stands
+pub mod Refused
 pub mod Each
 pub mod Laid
 pub mod Meant

@@ -27,25 +27,25 @@ use Rattle.data_type.proofs.Numbers.{fills}
 use Rattle.data_type.proofs.Parts.{length_in}
 use Rattle.data_type.proofs.Parsed.{meets, parsed}
 
-taken_there : (s : Bor (List ℕ)) → 42 ≤ le4 s.now 0 → le4 s.now 0 ≤ length s.now → taken s ≡ Ok (part s 0 (le4 s.now 0), after s (le4 s.now 0))
+pub taken_there : (s : Bor (List ℕ)) → 42 ≤ le4 s.now 0 → le4 s.now 0 ≤ length s.now → taken s ≡ Ok (part s 0 (le4 s.now 0), after s (le4 s.now 0))
 unfolding taken
 taken_there s h k = simp (le-ltb (length s.now) 4 (omega arith), le-ltb (length s.now) (le4 s.now 0) k, le-ltb (le4 s.now 0) 42 h)
 
-arrays_there : (f : Front) → 8 * f.array_count ≤ length f.rest.now → arrays_of f ≡ Ok (record { bytes = part f.rest 0 (8 * f.array_count); count = f.array_count }, after f.rest (8 * f.array_count))
+pub arrays_there : (f : Front) → 8 * f.array_count ≤ length f.rest.now → arrays_of f ≡ Ok (record { bytes = part f.rest 0 (8 * f.array_count); count = f.array_count }, after f.rest (8 * f.array_count))
 unfolding arrays_of
 arrays_there f h = simp (le-ltb (length f.rest.now) (8 * f.array_count) h)
 
 -- what is read of what stands
-record Reads (mode : Mode) (left : ℕ) (p : Position) (end : ℕ) (e : Bor (List ℕ)) (r : AdsDataTypeInfo) (ms : List Member) : Type 0 where
-  read : type_at mode left e ≡ Ok r
-  counts : r.member_count ≡ length ms
-  members : members_below left p end r.sub_items.bytes r.sub_items.count ≡ ms
+pub record Reads (mode : Mode) (left : ℕ) (p : Position) (end : ℕ) (e : Bor (List ℕ)) (r : AdsDataTypeInfo) (ms : List Member) : Type 0 where
+  pub read : type_at mode left e ≡ Ok r
+  pub counts : r.member_count ≡ length ms
+  pub members : members_below left p end r.sub_items.bytes r.sub_items.count ≡ ms
 
-record ReadsItems (mode : Mode) (left : ℕ) (p : Position) (end : ℕ) (s : Bor (List ℕ)) (n : ℕ) (rest : Bor (List ℕ)) (ms : List Member) : Type 0 where
-  read : items_from (item_at mode left) s n ≡ Ok (record { rest = rest; members = length ms })
-  members : members_below left p end s n ≡ ms
+pub record ReadsItems (mode : Mode) (left : ℕ) (p : Position) (end : ℕ) (s : Bor (List ℕ)) (n : ℕ) (rest : Bor (List ℕ)) (ms : List Member) : Type 0 where
+  pub read : items_from (item_at mode left) s n ≡ Ok (record { rest = rest; members = length ms })
+  pub members : members_below left p end s n ≡ ms
 
-abbrev Goal : Mode → ℕ → Position → ℕ → What → Type 0
+abbrev pub Goal : Mode → ℕ → Position → ℕ → What → Type 0
 Goal mode left p end (Entry e r ms) = Reads mode left p end e r ms
 Goal mode left p end (Items s n rest ms) = ReadsItems mode left p end s n rest ms
 
@@ -74,7 +74,7 @@ module _ (mode : Mode) where
             ∙ ap₂ (λ (a d : List Member). record { position = below p (end - length s.now) info.offset; own = part s 0 (le4 s.now 0) } ∷ (a ++ d)) v u;
       }
 
-  reads : {p : Position} {end : ℕ} {w : What} → Stand mode p end w → (left : ℕ) → p.depth + left ≡ 16 → Goal mode left p end w
+  pub reads : {p : Position} {end : ℕ} {w : What} → Stand mode p end w → (left : ℕ) → p.depth + left ≡ 16 → Goal mode left p end w
   unfolding items_from
   reads {p} {end} (entry {e = e} {ms = ms} f rest t h a s l) left d =
       let i = reads s left d in

@@ -9,6 +9,7 @@ pub mod Left
 pub mod List
 pub mod Theorems
 pub mod Stand
+pub mod Refused
 pub mod Meaning
 pub mod Ends
 pub mod Chain

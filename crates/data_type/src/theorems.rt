@@ -2,6 +2,7 @@
 //! nothing, so that none goes unnoticed if its proof does.
 #![tactic(auto)]
 
+ghost use Rattle.data_type.specs.Refused.{TypesRefused};
 ghost use Rattle.data_type.specs.Stand.{TypesStand};
 ghost use Rattle.data_type.specs.Meaning.{TypesMeant};
 ghost use Rattle.data_type.specs.Chain.{TypesNest};
@@ -41,4 +42,9 @@ pub fn types_checked()
 /// Entries one inside another are read to a depth of 16, and refused as too deep from 17 on.
 pub fn types_nest()
     ensures { TypesNest }
+{}
+
+/// What does not stand as the layout says is refused by the first fault that is met, with its figures.
+pub fn types_refused()
+    ensures { TypesRefused }
 {}
