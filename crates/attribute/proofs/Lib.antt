@@ -8,3 +8,4 @@ pub mod Modes
 pub mod Inside
 pub mod Asked
 pub mod Left
+pub mod Stopped

@@ -6,3 +6,4 @@ pub mod Fit
 pub mod Modes
 pub mod Inside
 pub mod Asked
+pub mod Stopped

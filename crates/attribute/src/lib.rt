@@ -27,7 +27,7 @@ pub struct AdsAttribute<'a> {
 pub struct Attributes<'a> {
     /// What the attributes begin: the bytes left, to the end of the entry.
     pub bytes: &'a [u8],
-    /// How many there are.
+    /// How many there are, or as many as can be read of the bytes.
     pub count: usize,
 }
 

@@ -2,6 +2,7 @@
 ghost use Rattle.attribute.specs.Told.{BlocksRead};
 ghost use Rattle.attribute.specs.Modes.{AttributesModes};
 ghost use Rattle.attribute.specs.Inside.{AttributesInside};
+ghost use Rattle.attribute.specs.Stopped.{AttributesStopped};
 ghost use Rattle.attribute.specs.Asked.{AttributesShown, AttributesNamed, OneNamed};
 ghost use Rattle.attribute.specs.Fit.{AttributesReadBack, AttributeBlocks, AttributesFixed, AttributeBlocksMade};
 
@@ -40,6 +41,11 @@ pub fn attributes_modes()
 /// do the bytes after the list.
 pub fn attributes_inside()
     ensures { AttributesInside }
+{}
+
+/// Why a list ends: it has its count, or the bytes end behind an attribute, or the next one is refused, which is told.
+pub fn attributes_stopped()
+    ensures { AttributesStopped }
 {}
 
 /// By number the attribute of that place in the list is answered, past the last 14.

@@ -14,13 +14,14 @@ pub data Meets (s : Bor (List ℕ)) : Bor (List ℕ) → ℕ → Type 0 where
 abbrev pub end_byte : Bor (List ℕ) → AdsRefactorInfo → ℕ
 end_byte q r = get_or q.now (6 + length r.name.now) 0
 
--- a record that is met and refused refuses the chain, under its own number, and nothing before it is kept; nothing else refuses a chain
+-- a record that is met and refused
 pub record IsRefused (s : Bor (List ℕ)) (why : Refusal) : Type 0 where
   pub at : ℕ
   pub bytes : Bor (List ℕ)
   pub met : Meets s bytes at
   pub refused : first_of bytes ≡ Err why
 
+-- it refuses the chain, under its own number and whole: nothing before it is kept. Nothing else refuses a chain
 pub record RefusedWhole (s : Bor (List ℕ)) (why : Refusal) : Type 0 where
   pub whole : IsRefused s why → infos_of s ≡ Err why
   pub only : infos_of s ≡ Err why → IsRefused s why

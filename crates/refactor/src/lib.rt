@@ -30,7 +30,7 @@ pub struct AdsRefactorInfo<'a> {
 pub struct RefactorInfos<'a> {
     /// The bytes that they begin.
     pub bytes: &'a [u8],
-    /// How many there are.
+    /// How many there are, or as many as can be read of the bytes.
     pub count: usize,
 }
 
