@@ -1,9 +1,10 @@
 -- What an index means: proved.
 use Rattle.std.proofs.Common.{ℕ, zero, suc, ◌+◌, ◌<◌, ◌≤◌, ◌≡◌, refl, sym, ap, subst, ◌∙◌, Bool, true, false, List, [], ◌∷◌, ◌++◌, length, take, drop, arith, Bor, Result, if◌then◌else◌}
-use Rattle.std.specs.Prelude.{leb, ltb, filter, Ok, Err}
+use Rattle.std.specs.Prelude.{leb, ltb, filter, count_by, Ok, Err}
 use Rattle.std.proofs.lemmas.List.Sums.{length-filter}
 use Rattle.std.proofs.Math.ListN.{length-append}
-use borrow.Author.Tests.{leb-false, eqb-false, ltb-false}
+use lib.Seq.{drop_at}
+use borrow.Author.Tests.{leb-false, eqb-false, ltb-false, le-ltb}
 use Rattle.refusal.specs.Refusal.{limit}
 use Rattle.refusal.specs.declared.Refusal.{Refusal}
 use Rattle.refusal.specs.declared.Refusal.TheVariants.{TooLarge, ZeroEntryLength, OutputTooSmall}
@@ -14,7 +15,7 @@ use Rattle.writing.specs.Writing.{Writes}
 use Rattle.walk.specs.Pieces.{pieces}
 use Rattle.index.specs.Index.{starts, stopped, indexing}
 use Rattle.index.specs.Steps.{gives, BySteps}
-use Rattle.index.specs.Meaning.{Ascends, done, next, StartsAscend, BuiltLength}
+use Rattle.index.specs.Meaning.{Ascends, done, next, StartsAscend, BuiltLength, IndexMeant}
 
 weaker : (least less : ℕ) {l : List ℕ} → less ≤ least → Ascends least l → Ascends less l
 weaker least less h done = done
@@ -42,12 +43,13 @@ filter_ascends test least (next {at = at} {more = more} h a) = turn (test at) (f
     turn false b = weaker (suc at) least (omega arith) b
 
 -- what is known where an index was built
-pub record Built {R : Type 0} (read : Bor (List ℕ) → Result R Refusal) (s : Bor (List ℕ)) (new : List ℕ) (n : ℕ) : Type 0 where
+pub record Built {R : Type 0} (read : Bor (List ℕ) → Result R Refusal) (s : Bor (List ℕ)) (old new : List ℕ) (n : ℕ) : Type 0 where
   pub small : length s.now ≤ limit
   pub none_stood : stopped (pieces read s) ≡ false
   pub long : length (starts (pieces read s)) ≡ n
   pub first : take n new ≡ starts (pieces read s)
   pub fits : n ≤ length new
+  pub rest : drop n new ≡ drop n old
 
 take_front : (xs ys : List ℕ) → take (length xs) (xs ++ ys) ≡ xs
 take_front [] ys = refl
@@ -55,31 +57,57 @@ take_front (x ∷ xs) ys = ap (λ (l : List ℕ). x ∷ l) (take_front xs ys)
 
 module _ {R : Type 0} (read : Bor (List ℕ) → Result R Refusal) (s : Bor (List ℕ)) (old new : List ℕ) (n : ℕ) where
   wrote : (xs : List ℕ) (b : Bool) → Ok n ≡ (if b then Err (OutputTooSmall (length xs) (length old)) else Ok (length xs)) → new ≡ (if b then old else xs ++ drop (length xs) old)
-      → (length xs ≡ n) × (take n new ≡ xs) × (n ≤ length new)
+      → (length xs ≡ n) × (take n new ≡ xs) × (n ≤ length new) × (drop n new ≡ drop n old)
   wrote xs true h l = absurd (let z : ◌≡◌ {A = ℕ} 0 1 = cc in omega arith)
   wrote xs false h l =
       let e : length xs ≡ n = cc in
       let m : length new ≡ length xs + length (drop (length xs) old) = ap length l ∙ length-append xs (drop (length xs) old) in
-      (e, simp (← e, l) (take_front xs (drop (length xs) old)), omega (arith, e, m))
+      (e, simp (← e, l) (take_front xs (drop (length xs) old)), omega (arith, e, m), ap (drop n) l ∙ drop_at xs (drop (length xs) old) n e ∙ ap (λ (k : ℕ). drop k old) e)
 
   built_by : (p q : Bool) → ltb limit (length s.now) ≡ p → stopped (pieces read s) ≡ q
-      → Writes (if p then Err (TooLarge (length s.now)) else if q then Err ZeroEntryLength else Ok (starts (pieces read s))) old new (Ok n) → Built read s new n
+      → Writes (if p then Err (TooLarge (length s.now)) else if q then Err ZeroEntryLength else Ok (starts (pieces read s))) old new (Ok n) → Built read s old new n
   built_by true q e f w = absurd (let h = w.said in let z : ◌≡◌ {A = ℕ} 0 1 = cc in omega arith)
   built_by false true e f w = absurd (let h = w.said in let z : ◌≡◌ {A = ℕ} 0 1 = cc in omega arith)
   built_by false false e f w =
       let x = wrote (starts (pieces read s)) (ltb (length old) (length (starts (pieces read s)))) w.said w.left in
-      record { small = ltb-false limit (length s.now) e; none_stood = f; long = x.0; first = x.1; fits = x.2 }
+      record { small = ltb-false limit (length s.now) e; none_stood = f; long = x.0; first = x.1; fits = x.2; rest = x.3 }
 
-  pub built : Writes (indexing read s) old new (Ok n) → Built read s new n
+  pub built : Writes (indexing read s) old new (Ok n) → Built read s old new n
   unfolding indexing
   built w = built_by (ltb limit (length s.now)) (stopped (pieces read s)) refl refl w
+
+-- a refusal leaves the slots
+untouched_by : {old new : List ℕ} (xs : List ℕ) {why : Refusal} (b : Bool) (x : Refusal) (n : ℕ)
+    → ◌≡◌ {A = Result ℕ Refusal} (Err why) (if b then Err x else Ok n) → new ≡ (if b then old else xs) → new ≡ old
+untouched_by xs true x n e l = l
+untouched_by xs false x n e l = absurd (let z : ◌≡◌ {A = ℕ} 0 1 = cc in omega arith)
+
+untouched : {old new : List ℕ} {why : Refusal} (w : Result (List ℕ) Refusal) → Writes w old new (Err why) → new ≡ old
+untouched {old} (Ok xs) w = untouched_by (xs ++ drop (length xs) old) (ltb (length old) (length xs)) _ _ w.said w.left
+untouched (Err x) w = w.left
 
 module _ {R : Type 0} (read : Bor (List ℕ) → Result R Refusal) (steps_are : BySteps read) where
   pub starts_ascend_of : StartsAscend read
   unfolding steps
   starts_ascend_of s = subst (λ (l : List ℕ). Ascends 0 l) (sym (steps_are.starts-are s)) (filter_ascends (gives read s) 0 (steps_ascend s.now 0 (length s.now)))
 
+  number_is : (s : Bor (List ℕ)) → length (starts (pieces read s)) ≡ count_by (gives read s) (steps s.now)
+  number_is s = ap length (steps_are.starts-are s) ∙ length-filter (gives read s) (steps s.now)
+
   pub built_length_of : BuiltLength read
   built_length_of s old new n w =
       let b = built read s old new n w in
-      record { counts = sym b.long ∙ ap length (steps_are.starts-are s) ∙ length-filter (gives read s) (steps s.now); fits = b.fits }
+      record { counts = sym b.long ∙ number_is s; fits = b.fits; holds = b.first ∙ steps_are.starts-are s; behind = b.rest }
+
+  pub index_meant_of : IndexMeant read
+  unfolding indexing
+  index_meant_of s old new r w =
+      record {
+        built = λ n e. built_length_of s old new n (subst (Writes (indexing read s) old new) e w);
+        refused = λ why e. untouched (indexing read s) (subst (Writes (indexing read s) old new) e w);
+        done_it = λ small none enough.
+            let l = le-ltb limit (length s.now) small in
+            let t = le-ltb (length old) (length (starts (pieces read s))) (omega (arith, enough, number_is s)) in
+            let f = steps_are.stopped-is s ∙ none in
+            (length (starts (pieces read s)), w.said ∙ simp (l, f, t));
+      }

@@ -9,7 +9,7 @@ ghost use Rattle.writing.specs.Writing.{Writes};
 ghost use Rattle.walk.specs.Pieces.{pieces};
 ghost use Rattle.index.specs.Index.{starts, tally_of, indexing};
 ghost use Rattle.index.specs.Steps.{BySteps};
-ghost use Rattle.index.specs.Meaning.{StartsAscend, BuiltLength};
+ghost use Rattle.index.specs.Meaning.{StartsAscend, BuiltLength, IndexMeant};
 
 use refusal::{LIMIT, Mode, Refusal};
 use walk::{Entry, Walker};
@@ -78,7 +78,12 @@ pub fn starts_ascend<'a, E: Entry<'a>>()
     ensures { (mode : Mode) → StartsAscend (E.read mode) }
 {}
 
-/// An index that was built has as many slots as steps of the walk give a record.
+/// An index that was built has a slot for each step of the walk that gives a record, with its place, in order.
 pub fn built_length<'a, E: Entry<'a>>()
     ensures { (mode : Mode) → BuiltLength (E.read mode) }
+{}
+
+/// An index is built where the upload is within the limit, no step stands and there are slots enough; where it is refused the slots are as they were.
+pub fn index_meant<'a, E: Entry<'a>>()
+    ensures { (mode : Mode) → IndexMeant (E.read mode) }
 {}
