@@ -5,8 +5,9 @@ use Rattle.std.specs.Borrow.{Bor}
 use Rattle.part.specs.Slice.{part}
 use Rattle.refusal.specs.declared.Mode.{Mode}
 use Rattle.refusal.specs.declared.Refusal.{Refusal}
-use Rattle.refusal.specs.declared.Refusal.TheVariants.{NameNotFound, NoSuchNumber}
+use Rattle.refusal.specs.declared.Refusal.TheVariants.{NoSuchNumber}
 use Rattle.attribute.specs.declared.AdsAttribute.{AdsAttribute}
+use Rattle.attribute.specs.Asked.{FirstNamed}
 use Rattle.attribute.specs.Attribute.{listed, numbered, named}
 use Rattle.field.specs.declared.AdsFieldInfo.{AdsFieldInfo}
 use Rattle.field.specs.Field.{field_of}
@@ -35,9 +36,9 @@ pub record IsWithin (e : Bor (List ℕ)) (r : AdsFieldInfo) : Type 0 where
 abbrev pub FieldsWithin : Type 0
 FieldsWithin = (mode : Mode) (e : Bor (List ℕ)) (r : AdsFieldInfo) → field_of mode e ≡ Ok r → IsWithin e r
 
--- the attribute with a number
+-- the attribute with a number; 14 tells how many are shown
 abbrev pub attribute_of : AdsFieldInfo → ℕ → Result AdsAttribute Refusal
-attribute_of r number = numbered (shown r) r.attributes.count number
+attribute_of r number = numbered (shown r) (length (shown r)) number
 
 -- a number is answered by an attribute
 pub record IsGiven (e : Bor (List ℕ)) (answer : Result AdsAttribute Refusal) : Type 0 where
@@ -53,20 +54,6 @@ pub record IsShown (e : Bor (List ℕ)) (r : AdsFieldInfo) : Type 0 where
 abbrev pub FieldsShown : Type 0
 FieldsShown = (mode : Mode) (e : Bor (List ℕ)) (r : AdsFieldInfo) → field_of mode e ≡ Ok r → IsShown e r
 
--- the answer to a number is an attribute with a name
-pub record HasName (answer : Result AdsAttribute Refusal) (name : List ℕ) : Type 0 where
-  pub attribute : AdsAttribute
-  pub is : answer ≡ Ok attribute
-  pub called : attribute.name.now ≡ name
-
--- of the numbers below some number, none has it
-abbrev pub NoneHas : AdsFieldInfo → List ℕ → ℕ → Type 0
-NoneHas r name below = (number : ℕ) → number < below → HasName (attribute_of r number) name → ⊥
-
--- the answer to a name is that to the first number that has it; 13 where none has
-pub data IsFirstNamed (r : AdsFieldInfo) (name : List ℕ) (answer : Result AdsAttribute Refusal) : Type 0 where
-  found : (number : ℕ) → number < r.attributes.count → answer ≡ attribute_of r number → HasName answer name → NoneHas r name number → IsFirstNamed r name answer
-  nowhere : answer ≡ Err NameNotFound → NoneHas r name r.attributes.count → IsFirstNamed r name answer
-
+-- a name is answered by the first that is shown with it
 abbrev pub FieldsNamed : Type 0
-FieldsNamed = (mode : Mode) (e : Bor (List ℕ)) (r : AdsFieldInfo) (name : List ℕ) → field_of mode e ≡ Ok r → IsFirstNamed r name (named (shown r) name)
+FieldsNamed = (mode : Mode) (e : Bor (List ℕ)) (r : AdsFieldInfo) (name : List ℕ) → field_of mode e ≡ Ok r → FirstNamed (shown r) name (named (shown r) name)
