@@ -1,6 +1,7 @@
 pub mod Arrays
 pub mod Turns
 pub mod Entry
+pub mod Counts
 pub mod Parts
 pub mod Steps
 pub mod Stack
