@@ -14,7 +14,7 @@ use Rattle.refusal.specs.declared.Mode.{Mode}
 use Rattle.refusal.specs.declared.Refusal.{Refusal}
 use Rattle.names.specs.Names.{same_name}
 use Rattle.names.specs.Near.{low, ends_near}
-use Rattle.names.proofs.Laws.{other_length, ends-differ, ends-none, ends_last, low_small, unless}
+use Rattle.names.proofs.Laws.{other_length, ends_differ, ends_none, ends_last, low_small, unless}
 use Rattle.entry.specs.Entry.{claim_at}
 use Rattle.walk.specs.Mapped.{map_ok}
 use Rattle.walk.specs.Step.{step_at}
@@ -46,7 +46,7 @@ looks_short e name h = simp (lt-ltb (length e) (30 + length name) h)
 
 pub looks_none : (e name : List ℕ) → 30 + length name ≤ length e → length name ≡ 0 → looks_named e name ≡ eqb (le2 e 24) 0
 unfolding looks_named
-looks_none e name h z = simp (le-ltb (length e) (30 + length name) h, ends-none e name 30 z) (same-so-far (eqb (le2 e 24) (length name)) ∙ ap (eqb (le2 e 24)) z)
+looks_none e name h z = simp (le-ltb (length e) (30 + length name) h, ends_none e name 30 z) (same-so-far (eqb (le2 e 24) (length name)) ∙ ap (eqb (le2 e 24)) z)
 
 -- two numbers in one
 both_by : (x n a b : ℕ) → a < 32 → b < 32 → (p q : Bool) → eqb x n ≡ p → eqb a b ≡ q → eqb (x * 32 + a) (n * 32 + b) ≡ (if p then q else false)
@@ -88,7 +88,7 @@ module _ (e name : List ℕ) (there : 33 + le2 e 24 ≤ length e) where
   carried_by true false ends f g h = other_length (part e 30 (le2 e 24)) name (λ l. eqb-false (le2 e 24) (length name) g (sym (length_part e 30 (le2 e 24) (omega arith)) ∙ l))
   carried_by false false ends f g h = other_length (part e 30 (le2 e 24)) name (λ l. eqb-false (le2 e 24) (length name) g (sym (length_part e 30 (le2 e 24) (omega arith)) ∙ l))
   carried_by false true true f g h = ap (λ (k : ℕ). same_name (part e 30 k) name) (eqb-true (le2 e 24) (length name) g)
-  carried_by false true false f g h = ap (λ (k : ℕ). same_name (part e 30 k) name) (eqb-true (le2 e 24) (length name) g) ∙ ends-differ (part e 30 (length name)) name h
+  carried_by false true false f g h = ap (λ (k : ℕ). same_name (part e 30 k) name) (eqb-true (le2 e 24) (length name) g) ∙ ends_differ (part e 30 (length name)) name h
 
   carried : same_name (part e 30 (le2 e 24)) name ≡ (if looks_named e name then same_name (part e 30 (length name)) name else false)
   unfolding looks_named

@@ -9,7 +9,7 @@ use Rattle.refusal.specs.declared.Mode.{Mode}
 use Rattle.refusal.specs.declared.Refusal.{Refusal}
 use Rattle.refusal.specs.declared.Refusal.TheVariants.{TooLarge}
 use Rattle.names.specs.Names.{same_name}
-use Rattle.names.proofs.Laws.{same-either}
+use Rattle.names.proofs.Laws.{same_either}
 use Rattle.entry.specs.Walk.{stands, steps}
 use Rattle.writing.specs.Writing.{Writes}
 use Rattle.walk.specs.Step.{step_at}
@@ -102,7 +102,7 @@ module _ (mode : Mode) (s : Bor (List ℕ)) (name typed : List ℕ) (same : same
   answer_either : (t : Option (Result AdsSymbolInfo Refusal)) → has_name typed t ≡ has_name name t
   answer_either None = refl
   answer_either (Some (Err why)) = refl
-  answer_either (Some (Ok symbol)) = sym (same-either name typed symbol.name.now same)
+  answer_either (Some (Ok symbol)) = sym (same_either name typed symbol.name.now same)
 
   either : is_named mode s typed ≡ is_named mode s name
   unfolding is_named

@@ -13,8 +13,8 @@ use lib.Dec.{T, ltb, leb, eqb, ltb→lt, leb→le, eqb→eq}
 use lib.ListN.{length, get_or, length-append}
 use borrow.Author.Tests.{le-ltb, eq-eqb, ne_eqb, eqb-true}
 use Rattle.text.proofs.Table.{both, both_left, both_right, at}
-use Rattle.text.proofs.Utf8.{le-or-lt, utf8-most}
-use Rattle.text.proofs.Laws.{point-low, point-mid, point-high}
+use Rattle.text.proofs.Utf8.{le_or_lt, utf8_most}
+use Rattle.text.proofs.Laws.{point_low, point_mid, point_high}
 use Rattle.text.specs.Text.{points, code_point, decoded, seek, byte_of}
 use Rattle.text.specs.Utf8.{utf8}
 
@@ -33,54 +33,54 @@ module _ (n b p : ℕ) (h : Absent (suc n) b p) where
       h (suc k) (omega arith) (ap code_point q ∙ e)
 
 -- bytes before, and bytes after, that don't have it
-pub seek-skip : (m n b p : ℕ) → Absent m b p → seek (m + n) b p ≡ seek n (b + m) p
+pub seek_skip : (m n b p : ℕ) → Absent m b p → seek (m + n) b p ≡ seek n (b + m) p
 unfolding seek
-seek-skip zero n b p h = simp (zero-add, add-zero)
-seek-skip (suc m) n b p h =
+seek_skip zero n b p h = simp (zero-add, add-zero)
+seek_skip (suc m) n b p h =
     let q : b + 1 + m ≡ b + suc m = omega arith in
-    simp (suc-add, ne_eqb (code_point b) p (none_first m b p h), seek-skip m n (b + 1) p (none_rest m b p h), q)
+    simp (suc-add, ne_eqb (code_point b) p (none_first m b p h), seek_skip m n (b + 1) p (none_rest m b p h), q)
 
-seek-none : (n b p : ℕ) → Absent n b p → seek n b p ≡ None
+seek_none : (n b p : ℕ) → Absent n b p → seek n b p ≡ None
 unfolding seek
-seek-none n b p h = ap (λ (k : ℕ). seek k b p) (sym (add-zero n)) ∙ seek-skip n 0 b p h
+seek_none n b p h = ap (λ (k : ℕ). seek k b p) (sym (add-zero n)) ∙ seek_skip n 0 b p h
 
-pub seek-front : (m n b p : ℕ) → Absent n (b + m) p → seek (m + n) b p ≡ seek m b p
+pub seek_front : (m n b p : ℕ) → Absent n (b + m) p → seek (m + n) b p ≡ seek m b p
 unfolding seek
-seek-front zero n b p h = simp (zero-add, seek-none n b p (simp add-zero at h))
-seek-front (suc m) n b p h =
+seek_front zero n b p h = simp (zero-add, seek_none n b p (simp add-zero at h))
+seek_front (suc m) n b p h =
     let q : b + suc m ≡ b + 1 + m = omega arith in
-    simp (suc-add, seek-front m n (b + 1) p (rw q at h))
+    simp (suc-add, seek_front m n (b + 1) p (rw q at h))
 
-pub seek-step : (n b p : ℕ) → 0 < n → seek n b p ≡ (if eqb (code_point b) p then Some b else seek (n - 1) (b + 1) p)
+pub seek_step : (n b p : ℕ) → 0 < n → seek n b p ≡ (if eqb (code_point b) p then Some b else seek (n - 1) (b + 1) p)
 unfolding seek
-seek-step zero b p h = absurd (omega arith)
-seek-step (suc n) b p h = simp sub-one
+seek_step zero b p h = absurd (omega arith)
+seek_step (suc n) b p h = simp sub-one
 
-seek-at : (m n b p : ℕ) → Absent m b p → 0 < n → code_point (b + m) ≡ p → seek (m + n) b p ≡ Some (b + m)
-seek-at m n b p h l e = seek-skip m n b p h ∙ seek-step n (b + m) p l ∙ simp (eq-eqb (code_point (b + m)) p e)
+seek_at : (m n b p : ℕ) → Absent m b p → 0 < n → code_point (b + m) ≡ p → seek (m + n) b p ≡ Some (b + m)
+seek_at m n b p h l e = seek_skip m n b p h ∙ seek_step n (b + m) p l ∙ simp (eq-eqb (code_point (b + m)) p e)
 
 -- what is found has the code point
-seek-either : (t : Bool) (n b p c : ℕ) → eqb (code_point b) p ≡ t → (seek n (b + 1) p ≡ Some c → (code_point c ≡ p) × (c < b + 1 + n)) → (if t then Some b else seek n (b + 1) p) ≡ Some c → (code_point c ≡ p) × (c < b + suc n)
-seek-either true n b p c u rest v =
+seek_either : (t : Bool) (n b p c : ℕ) → eqb (code_point b) p ≡ t → (seek n (b + 1) p ≡ Some c → (code_point c ≡ p) × (c < b + 1 + n)) → (if t then Some b else seek n (b + 1) p) ≡ Some c → (code_point c ≡ p) × (c < b + suc n)
+seek_either true n b p c u rest v =
     let q : b ≡ c = cc in
     (ap code_point (sym q) ∙ eqb-true (code_point b) p u, omega arith)
-seek-either false n b p c u rest v =
+seek_either false n b p c u rest v =
     let r = rest v in
     (r.0, omega arith)
 
-pub seek-sound : (n b p c : ℕ) → seek n b p ≡ Some c → (code_point c ≡ p) × (c < b + n)
+pub seek_sound : (n b p c : ℕ) → seek n b p ≡ Some c → (code_point c ≡ p) × (c < b + n)
 unfolding seek
-seek-sound zero b p c e = let z : ◌≡◌ {A = ℕ} 0 1 = cc in absurd (omega arith)
-seek-sound (suc n) b p c e = seek-either (eqb (code_point b) p) n b p c refl (seek-sound n (b + 1) p c) e
+seek_sound zero b p c e = let z : ◌≡◌ {A = ℕ} 0 1 = cc in absurd (omega arith)
+seek_sound (suc n) b p c e = seek_either (eqb (code_point b) p) n b p c refl (seek_sound n (b + 1) p c) e
 
 from_either : (t : Bool) (n b p c : ℕ) → (seek n (b + 1) p ≡ Some c → b + 1 ≤ c) → (if t then Some b else seek n (b + 1) p) ≡ Some c → b ≤ c
 from_either true n b p c rest v = let q : b ≡ c = cc in omega arith
 from_either false n b p c rest v = omega (arith, rest v)
 
-seek-from : (n b p c : ℕ) → seek n b p ≡ Some c → b ≤ c
+seek_from : (n b p c : ℕ) → seek n b p ≡ Some c → b ≤ c
 unfolding seek
-seek-from zero b p c e = let z : ◌≡◌ {A = ℕ} 0 1 = cc in absurd (omega arith)
-seek-from (suc n) b p c e = from_either (eqb (code_point b) p) n b p c (seek-from n (b + 1) p c) e
+seek_from zero b p c e = let z : ◌≡◌ {A = ℕ} 0 1 = cc in absurd (omega arith)
+seek_from (suc n) b p c e = from_either (eqb (code_point b) p) n b p c (seek_from n (b + 1) p c) e
 
 -- ---- the table's rule, at all of its entries: above 7F, outside A0 to FF, below the surrogates, and found at its own place
 outside : ℕ → Bool
@@ -101,7 +101,7 @@ pub record Ruled (k x : ℕ) : Type 0 where
 
 side : (x : ℕ) → T (outside x) → (x < 160) ⊎ (256 ≤ x)
 unfolding outside
-side x t = ⊎_elim (λ h. inr (leb→le 256 x (rw (le-ltb x 160 h) at t))) inl (le-or-lt 160 x)
+side x t = ⊎_elim (λ h. inr (leb→le 256 x (rw (le-ltb x 160 h) at t))) inl (le_or_lt 160 x)
 
 is-byte : (f : Option ℕ) (c : ℕ) → T (is_byte f c) → f ≡ Some c
 unfolding is_byte
@@ -121,12 +121,12 @@ ruled k x t =
       found = is-byte (seek 32 0x80 x) (0x80 + k) (both_right (ltb x 0xD800) here v);
     }
 
-pub points-ruled : (k : ℕ) → k < 32 → Ruled k (get_or points k 0)
+pub points_ruled : (k : ℕ) → k < 32 → Ruled k (get_or points k 0)
 unfolding points rule outside is_byte seek code_point
-points-ruled k h = ruled k (get_or points k 0) (at rule points tt k h)
+points_ruled k h = ruled k (get_or points k 0) (at rule points tt k h)
 
-table-point : (i : ℕ) → i < 32 → code_point (128 + i) ≡ get_or points i 0
-table-point i h = point-mid {b = 128 + i} (omega arith) (omega arith) ∙ ap (λ (j : ℕ). get_or points j 0) (add-sub_cancel_left 128 i)
+table_point : (i : ℕ) → i < 32 → code_point (128 + i) ≡ get_or points i 0
+table_point i h = point_mid {b = 128 + i} (omega arith) (omega arith) ∙ ap (λ (j : ℕ). get_or points j 0) (add-sub_cancel_left 128 i)
 
 -- what a look at the table gives for a byte from 80 to 9F
 pub record Looked (table : List ℕ) (b : ℕ) : Type 0 where
@@ -136,7 +136,7 @@ pub record Looked (table : List ℕ) (b : ℕ) : Type 0 where
 pub looked : {table : List ℕ} → table ≡ points → (b : ℕ) → 128 ≤ b → b < 160 → Looked table b
 looked {table} e b h k =
     let q : get_or table (b - 128) 0 ≡ get_or points (b - 128) 0 = ap (λ (l : List ℕ). get_or l (b - 128) 0) e in
-    record { is = q ∙ sym (point-mid h k); high = omega (arith, (points-ruled (b - 128) (omega arith)).high) }
+    record { is = q ∙ sym (point_mid h k); high = omega (arith, (points_ruled (b - 128) (omega arith)).high) }
 
 -- ---- the search in the table, as a sum over all of its entries: the byte of each that is p
 unfoldable pub sum_to : ℕ → ℕ → ℕ
@@ -155,72 +155,72 @@ sum_is (suc n) = Some (suc n)
 summed : ℕ → ℕ → Bool
 summed k x = eqb (sum_to 32 x) (128 + k)
 
-sum-here : (k : ℕ) → k < 32 → sum_to 32 (get_or points k 0) ≡ 128 + k
+sum_here : (k : ℕ) → k < 32 → sum_to 32 (get_or points k 0) ≡ 128 + k
 unfolding points summed sum_to
-sum-here k h = eqb→eq (sum_to 32 (get_or points k 0)) (128 + k) (at summed points tt k h)
+sum_here k h = eqb→eq (sum_to 32 (get_or points k 0)) (128 + k) (at summed points tt k h)
 
-sum-none : (p i : ℕ) → i ≤ 32 → Absent 32 128 p → sum_to i p ≡ 0
+sum_none : (p i : ℕ) → i ≤ 32 → Absent 32 128 p → sum_to i p ≡ 0
 unfolding sum_to
-sum-none p zero l h = refl
-sum-none p (suc i) l h = simp (sum-none p i (omega arith) h, ne_eqb (get_or points i 0) p (λ e. h i (omega arith) (table-point i (omega arith) ∙ e)))
+sum_none p zero l h = refl
+sum_none p (suc i) l h = simp (sum_none p i (omega arith) h, ne_eqb (get_or points i 0) p (λ e. h i (omega arith) (table_point i (omega arith) ∙ e)))
 
-pub sum-some : (b : ℕ) → 0 < b → sum_is b ≡ Some b
-sum-some zero h = absurd (omega arith)
-sum-some (suc n) h = refl
+pub sum_some : (b : ℕ) → 0 < b → sum_is b ≡ Some b
+sum_some zero h = absurd (omega arith)
+sum_some (suc n) h = refl
 
-by-seek : (p : ℕ) (f : Option ℕ) → seek 32 128 p ≡ f → sum_is (sum_to 32 p) ≡ f
-by-seek p (Some b) e =
+by_seek : (p : ℕ) (f : Option ℕ) → seek 32 128 p ≡ f → sum_is (sum_to 32 p) ≡ f
+by_seek p (Some b) e =
     let k : ℕ = b - 128 in
-    let s = seek-sound 32 128 p b e in
-    let l = seek-from 32 128 p b e in
-    let q : get_or points k 0 ≡ p = sym (point-mid l s.1) ∙ s.0 in
+    let s = seek_sound 32 128 p b e in
+    let l = seek_from 32 128 p b e in
+    let q : get_or points k 0 ≡ p = sym (point_mid l s.1) ∙ s.0 in
     let r : 128 + k ≡ b = omega arith in
-    ap sum_is (ap (sum_to 32) (sym q) ∙ sum-here k (omega (arith, s.1, l)) ∙ r) ∙ sum-some b (omega (arith, l))
-by-seek p None e = ap sum_is (sum-none p 32 (omega arith) (λ k h q. absurd (let z : ◌≡◌ {A = ℕ} 0 1 = cc ((points-ruled k h).found, e, sym (table-point k h) ∙ q) in omega arith)))
+    ap sum_is (ap (sum_to 32) (sym q) ∙ sum_here k (omega (arith, s.1, l)) ∙ r) ∙ sum_some b (omega (arith, l))
+by_seek p None e = ap sum_is (sum_none p 32 (omega arith) (λ k h q. absurd (let z : ◌≡◌ {A = ℕ} 0 1 = cc ((points_ruled k h).found, e, sym (table_point k h) ∙ q) in omega arith)))
 
 pub sum-is : (p : ℕ) → sum_is (sum_to 32 p) ≡ seek 32 128 p
-sum-is p = by-seek p (seek 32 128 p) refl
+sum-is p = by_seek p (seek 32 128 p) refl
 
 -- no code point of the table is above FFFF
-pub table-above : (p : ℕ) → 65535 < p → seek 32 128 p ≡ None
-table-above p h = seek-none 32 128 p (λ k l e. absurd (let q : get_or points k 0 ≡ p = sym (table-point k l) ∙ e in omega (arith, (points-ruled k l).below)))
+pub table_above : (p : ℕ) → 65535 < p → seek 32 128 p ≡ None
+table_above p h = seek_none 32 128 p (λ k l e. absurd (let q : get_or points k 0 ≡ p = sym (table_point k l) ∙ e in omega (arith, (points_ruled k l).below)))
 
 -- ---- the byte of a code point
 module _ (p : ℕ) where
   none_below : (n : ℕ) → n ≤ 128 → n ≤ p → Absent n 0 p
-  none_below n h l k i e = omega (arith, point-low {b = 0 + k} (omega arith))
+  none_below n h l k i e = omega (arith, point_low {b = 0 + k} (omega arith))
 
-  none-table : 160 ≤ p → p < 256 → Absent 32 128 p
-  none-table h l k i e =
-      let q : get_or points k 0 ≡ p = sym (table-point k i) ∙ e in
-      ⊎_elim (λ a. omega arith) (λ a. omega arith) (points-ruled k i).apart
+  none_table : 160 ≤ p → p < 256 → Absent 32 128 p
+  none_table h l k i e =
+      let q : get_or points k 0 ≡ p = sym (table_point k i) ∙ e in
+      ⊎_elim (λ a. omega arith) (λ a. omega arith) (points_ruled k i).apart
 
   none_above : (n b : ℕ) → 160 ≤ b → ((k : ℕ) → k < n → b + k ≡ p → ⊥) → Absent n b p
-  none_above n b h l k i e = l k i (sym (point-high {b = b + k} (omega arith)) ∙ e)
+  none_above n b h l k i e = l k i (sym (point_high {b = b + k} (omega arith)) ∙ e)
 
   pub byte_low : p < 128 → byte_of p ≡ Some p
   unfolding byte_of
   byte_low h =
       let n : 256 ≡ p + (256 - p) = omega arith in
-      ap (λ (k : ℕ). seek k 0 p) n ∙ seek-at p (256 - p) 0 p (none_below p (omega arith) (omega arith)) (omega arith) (point-low (omega arith) ∙ zero-add p) ∙ ap Some (zero-add p)
+      ap (λ (k : ℕ). seek k 0 p) n ∙ seek_at p (256 - p) 0 p (none_below p (omega arith) (omega arith)) (omega arith) (point_low (omega arith) ∙ zero-add p) ∙ ap Some (zero-add p)
 
   pub byte_high : 160 ≤ p → p < 256 → byte_of p ≡ Some p
   unfolding byte_of
   byte_high h l =
       let n : 96 ≡ (p - 160) + (256 - p) = omega arith in
       let q : 160 + (p - 160) ≡ p = omega arith in
-      seek-skip 128 128 0 p (none_below 128 (omega arith) (omega arith))
-      ∙ seek-skip 32 96 128 p (none-table h l)
+      seek_skip 128 128 0 p (none_below 128 (omega arith) (omega arith))
+      ∙ seek_skip 32 96 128 p (none_table h l)
       ∙ ap (λ (k : ℕ). seek k 160 p) n
-      ∙ seek-at (p - 160) (256 - p) 160 p (none_above (p - 160) 160 (omega arith) (λ k i e. omega arith)) (omega arith) (point-high {b = 160 + (p - 160)} (omega arith) ∙ q)
+      ∙ seek_at (p - 160) (256 - p) 160 p (none_above (p - 160) 160 (omega arith) (λ k i e. omega arith)) (omega arith) (point_high {b = 160 + (p - 160)} (omega arith) ∙ q)
       ∙ ap Some q
 
   -- any other is looked for in the table
-  pub byte-table : 128 ≤ p → (p < 160) ⊎ (256 ≤ p) → byte_of p ≡ seek 32 128 p
+  pub byte_table : 128 ≤ p → (p < 160) ⊎ (256 ≤ p) → byte_of p ≡ seek 32 128 p
   unfolding byte_of
-  byte-table h a =
-      seek-skip 128 128 0 p (none_below 128 (omega arith) (omega arith))
-      ∙ seek-front 32 96 128 p (none_above 96 160 (omega arith) (λ k i e. ⊎_elim (λ l. omega arith) (λ l. omega arith) a))
+  byte_table h a =
+      seek_skip 128 128 0 p (none_below 128 (omega arith) (omega arith))
+      ∙ seek_front 32 96 128 p (none_above 96 160 (omega arith) (λ k i e. ⊎_elim (λ l. omega arith) (λ l. omega arith) a))
 
 -- ---- every byte has a code point that is a scalar value, and is the byte of it
 pub record Own (b : ℕ) : Type 0 where
@@ -230,18 +230,18 @@ pub record Own (b : ℕ) : Type 0 where
 own_same : (b : ℕ) → b < 256 → code_point b ≡ b → byte_of b ≡ Some b → Own b
 own_same b h e f = record { below = omega arith; byte = ap byte_of e ∙ f }
 
-own-table : (b : ℕ) → 128 ≤ b → b < 160 → Own b
-own-table b h l =
-    let e : code_point b ≡ get_or points (b - 128) 0 = point-mid h l in
-    let r = points-ruled (b - 128) (omega arith) in
+own_table : (b : ℕ) → 128 ≤ b → b < 160 → Own b
+own_table b h l =
+    let e : code_point b ≡ get_or points (b - 128) 0 = point_mid h l in
+    let r = points_ruled (b - 128) (omega arith) in
     let q : 128 + (b - 128) ≡ b = omega arith in
-    record { below = omega arith; byte = ap byte_of e ∙ byte-table (get_or points (b - 128) 0) r.high r.apart ∙ r.found ∙ ap Some q }
+    record { below = omega arith; byte = ap byte_of e ∙ byte_table (get_or points (b - 128) 0) r.high r.apart ∙ r.found ∙ ap Some q }
 
 pub own : (b : ℕ) → b < 256 → Own b
-own b h = ⊎_elim (λ i. ⊎_elim (λ j. own_same b h (point-high j) (byte_high b j h)) (λ j. own-table b i j) (le-or-lt 160 b)) (λ i. own_same b h (point-low i) (byte_low b i)) (le-or-lt 128 b)
+own b h = ⊎_elim (λ i. ⊎_elim (λ j. own_same b h (point_high j) (byte_high b j h)) (λ j. own_table b i j) (le_or_lt 160 b)) (λ i. own_same b h (point_low i) (byte_low b i)) (le_or_lt 128 b)
 
 -- the text of a byte string is at most three times as long
-pub decoded-most : (s : List ℕ) → ((k : ℕ) → get_or s k 0 < 256) → length (decoded s) ≤ 3 * length s
+pub decoded_most : (s : List ℕ) → ((k : ℕ) → get_or s k 0 < 256) → length (decoded s) ≤ 3 * length s
 unfolding decoded
-decoded-most [] h = omega arith
-decoded-most (b ∷ s) h = omega (arith, length-append (utf8 (code_point b)) (decoded s), utf8-most (code_point b) (omega (arith, (own b (h 0)).below)), decoded-most s (λ k. h (suc k)))
+decoded_most [] h = omega arith
+decoded_most (b ∷ s) h = omega (arith, length-append (utf8 (code_point b)) (decoded s), utf8_most (code_point b) (omega (arith, (own b (h 0)).below)), decoded_most s (λ k. h (suc k)))

@@ -2,7 +2,7 @@ use Rattle.std.proofs.Common.{◌≡◌, ℕ, ◌+◌, Bool, arith, eqb, length,
 use lib.Dec.{eqb→eq}
 use lib.Bits.{bit_and}
 use Rattle.text.proofs.Table.{below_at}
-use Rattle.text.proofs.Utf8.{utf8-most}
+use Rattle.text.proofs.Utf8.{utf8_most}
 use Rattle.text.proofs.Byte.{own}
 use Rattle.text.specs.Utf8.{utf8}
 use Rattle.text.specs.Text.{points, code_point}
@@ -26,4 +26,4 @@ returns c =
     let w : width b ≡ length (utf8 (code_point b)) = eqb→eq (width b) (length (utf8 (code_point b))) (below_at right 256 tt b (omega arith)) in
     let n : 1 + c.one_like-6.result + (c.one_like.result + c.one_like-2.result) + (c.one_like-3.result + c.one_like-4.result + c.one_like-5.result) ≡ length (utf8 (code_point b)) =
     simp (c.one_like.ensures.0, c.one_like-2.ensures.0, c.one_like-3.ensures.0, c.one_like-4.ensures.0, c.one_like-5.ensures.0, c.one_like-6.ensures.0) w in
-    (n, omega (arith, utf8-most (code_point b) (omega (arith, (own b (omega arith)).below))))
+    (n, omega (arith, utf8_most (code_point b) (omega (arith, (own b (omega arith)).below))))

@@ -1,30 +1,30 @@
 use Rattle.std.proofs.Common.{ℕ, List, sym, ◌∙◌, ◌≡◌, Err, arith, rules}
 use Rattle.text.specs.Text.{encoded_from, encoding}
-use Rattle.text.proofs.Back.{encoded-same, counted-refused}
-use Rattle.text.proofs.Laws.{same-writing, too_large, in-limit, writes-none}
+use Rattle.text.proofs.Back.{encoded_same, counted_refused}
+use Rattle.text.proofs.Laws.{same_writing, too_large, in_limit, writes_none}
 use Rattle.text.proofs.encode.Goals as goal
 
 pub returns-then-src-gt-LIMIT : goal.returns-then-src-gt-LIMIT
 unfolding encoding
 returns-then-src-gt-LIMIT c =
     let s : List ℕ = c.args.src.now in
-    same-writing (too_large s (encoded_from 0 0 s) c.if-src-gt-LIMIT.true) writes-none
+    same_writing (too_large s (encoded_from 0 0 s) c.if-src-gt-LIMIT.true) writes_none
 
 pub returns-then-highest-lt128 : goal.returns-then-highest-lt128
 unfolding encoding
 returns-then-highest-lt128 c =
     let s : List ℕ = c.args.src.now in
-    same-writing (in-limit s (encoded_from 0 0 s) c.if-src-gt-LIMIT.false ∙ encoded-same s 0 (λ k. omega (arith, c.highest.ensures k))) c.put_same.ensures
+    same_writing (in_limit s (encoded_from 0 0 s) c.if-src-gt-LIMIT.false ∙ encoded_same s 0 (λ k. omega (arith, c.highest.ensures k))) c.put_same.ensures
 
 pub returns : goal.returns
 unfolding encoding
 returns c =
     let s : List ℕ = c.args.src.now in
-    same-writing (in-limit s (encoded_from 0 0 s) c.if-src-gt-LIMIT.false) c.put_encoded.ensures
+    same_writing (in_limit s (encoded_from 0 0 s) c.if-src-gt-LIMIT.false) c.put_encoded.ensures
 
 pub returns-in_err-needed : goal.returns-in_err-needed
 unfolding encoding
 returns-in_err-needed c =
     let s : List ℕ = c.args.src.now in
     let e : c.from_residual.result ≡ Err c.in_err-needed.field-0.0 = search rules in
-    simp e (same-writing (in-limit s (encoded_from 0 0 s) c.if-src-gt-LIMIT.false) (counted-refused (encoded_from 0 0 s) (sym c.encoded_length.ensures ∙ c.in_err-needed.was)))
+    simp e (same_writing (in_limit s (encoded_from 0 0 s) c.if-src-gt-LIMIT.false) (counted_refused (encoded_from 0 0 s) (sym c.encoded_length.ensures ∙ c.in_err-needed.was)))

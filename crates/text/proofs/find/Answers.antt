@@ -1,5 +1,5 @@
 use Rattle.std.proofs.Common.{◌≡◌, ℕ, ◌+◌, refl, sym, ap, ◌∙◌, arith, get_or, eqb, if◌then◌else◌}
-use Rattle.text.proofs.Byte.{sum_to, sum_is, sum_step, sum-is, sum-some}
+use Rattle.text.proofs.Byte.{sum_to, sum_is, sum_step, sum-is, sum_some}
 use Rattle.text.specs.Text.{points}
 use Rattle.text.proofs.find.Goals as goal
 
@@ -25,4 +25,4 @@ pub returns : goal.returns
 returns c =
     let i : c.loop-i.i ≡ 32 = omega arith in
     let s : c.loop-i.sum ≡ sum_to 32 c.args.p = c.loop-i.invariant.sum ∙ ap (λ (n : ℕ). sum_to n c.args.p) i in
-    sym (sum-some c.loop-i.sum (omega arith)) ∙ ap sum_is s ∙ sum-is c.args.p
+    sym (sum_some c.loop-i.sum (omega arith)) ∙ ap sum_is s ∙ sum-is c.args.p
