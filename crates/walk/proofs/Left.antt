@@ -1,6 +1,6 @@
 -- What a walker has left: nothing at the end, and else the piece here and what is left behind it.
 use Rattle.std.proofs.Common.{ℕ, zero, suc, ◌-◌, ◌<◌, ◌≤◌, ◌≡◌, refl, ap, Bool, true, false, List, [], ◌∷◌, length, arith, Bor, if◌then◌else◌}
-use Rattle.std.specs.Prelude.{leb, All}
+use Rattle.std.specs.Prelude.{leb, All, None}
 use Rattle.std.proofs.lemmas.List.Elements.{All-nil, All-cons}
 use Rattle.std.specs.declared.result.Result.{Result}
 use borrow.Author.Tests.{le-leb, lt-leb, leb-false, eqb-false}
@@ -8,7 +8,9 @@ use Rattle.refusal.specs.declared.Refusal.{Refusal}
 use Rattle.entry.specs.Entry.{claim_at}
 use Rattle.entry.specs.Walk.{stands}
 use Rattle.entry.proofs.Claims.{moves-on, moves-within}
-use Rattle.walk.specs.Pieces.{piece_at, pieces_from}
+use Rattle.refusal.specs.declared.Mode.{Mode}
+use Rattle.walk.specs.declared.Walker.{Walker}
+use Rattle.walk.specs.Pieces.{piece_at, pieces_from, NextGives}
 
 module _ {R : Type 0} (read : Bor (List ℕ) → Result R Refusal) (s : Bor (List ℕ)) where
   -- a piece is at least a byte long and ends inside the upload
@@ -79,3 +81,7 @@ module _ {R : Type 0} (read : Bor (List ℕ) → Result R Refusal) (s : Bor (Lis
       by : (b : Bool) → leb (length s.now) at ≡ b → All (λ p. p.start < length s.now) (pieces_from read s (piece_at read s at).end n) → All (λ p. p.start < length s.now) (if b then [] else piece_at read s at ∷ pieces_from read s (piece_at read s at).end n)
       by true e h = All-nil _
       by false e h = let l : (piece_at read s at).start < length s.now = omega (arith, piece_starts at, leb-false (length s.now) at e) in All-cons (λ p. p.start < length s.now) _ _ l h
+
+-- at the end nothing is given, and the walker is as it was
+pub ends_there : {E : Type 0} (read : Mode → Bor (List ℕ) → Result E Refusal) (w : Walker E) → length w.bytes.now ≤ w.cursor.at → NextGives read w None w
+ends_there read w h = let l = none_left (read w.mode) w.bytes w.cursor.at (length w.bytes.now - w.cursor.at) h in ((l, l), simp (le-leb (length w.bytes.now) w.cursor.at h))

@@ -14,10 +14,10 @@ use Rattle.entry.specs.Walk.{stands, steps_from, steps, OneWalk}
 use Rattle.entry.proofs.Claims.{meets, Claims, ended, large, short, beyond, entry, claims}
 use Rattle.entry.proofs.Direct.{part_long, claims_own, own_again}
 use Rattle.entry.proofs.Laws.{one-walk}
-use Rattle.walk.specs.Step.{step_at, parse_of}
+use Rattle.walk.specs.Step.{step_at}
 use Rattle.walk.specs.Pieces.{piece_at, pieces_from, claim_there}
 use Rattle.walk.proofs.Left.{none_left, piece_starts}
-use Rattle.walk.specs.Theorems.{cursor_of, Reads, PiecesAreSteps, PiecesTellSteps, IsAsStep}
+use Rattle.walk.specs.Theorems.{cursor_of, Reads, PiecesAreSteps, PiecesTellSteps, IsAsStep, ParsesAlone}
 
 module _ {R : Type 0} (read : Bor (List ℕ) → Result R Refusal) where
   pub walk_is : OneWalk (step_at read) cursor_of
@@ -112,8 +112,11 @@ module _ {R : Type 0} (read : Bor (List ℕ) → Result R Refusal) where
     unfolding claim_of
     claimed_whole = simp (le-ltb limit (length s.now) small, le-ltb (length s.now) header (omega arith), le-ltb (length s.now) (le4 s.now 0) there, le-ltb (le4 s.now 0) header long)
 
-    pub behind_unread : parse_of header read s ≡ parse_of header read (part s 0 (le4 s.now 0))
+    pub behind_unread : ParsesAlone read header s
     behind_unread =
         let size : ℕ = le4 s.now 0 in
         let m = meets s.now 0 size (met (claim_at s.now 0) (claims s.now 0)) in
-        simp (claimed_whole, claims_own header s 0 size m (omega arith) long, own_again header s 0 size m (omega arith) long)
+        record {
+          alone = simp (claimed_whole, claims_own header s 0 size m (omega arith) long, own_again header s 0 size m (omega arith) long);
+          reads = simp claimed_whole;
+        }

@@ -47,5 +47,5 @@ module _ {E : Type 0} (read : Mode → Bor (List ℕ) → Result E Refusal) wher
   walker_next w = if leb (length w.bytes.now) w.cursor.at then w else record w { cursor = record { at = (piece_at (read w.mode) w.bytes w.cursor.at).end } }
 
   -- what a walker that is asked for a piece gives, and the walker afterwards
-  abbrev pub PieceGiven : Walker E → Option (Piece E) → Walker E → Type 0
-  PieceGiven old answer new = YieldsFirst (walker_left read) old answer new × (new ≡ walker_next old)
+  abbrev pub NextGives : Walker E → Option (Piece E) → Walker E → Type 0
+  NextGives old answer new = YieldsFirst (walker_left read) old answer new × (new ≡ walker_next old)

@@ -26,6 +26,16 @@ module _ {R : Type 0} (header : ℕ) (read : Bor (List ℕ) → Result R Refusal
 abbrev pub PiecesAreSteps : {R : Type 0} → (Bor (List ℕ) → Result R Refusal) → Type 0
 PiecesAreSteps read = (s : Bor (List ℕ)) → pieces read s ≡ map (piece_at read s) (steps s.now)
 
+-- bytes within the limit that begin with an entry: it claims a header at least, and no more than there is
+pub record Begins (header : ℕ) (s : List ℕ) : Type 0 where
+  pub within : length s ≤ limit
+  pub long : header ≤ le4 s 0
+  pub there : le4 s 0 ≤ length s
+
+-- the entry alone
+abbrev pub entry_of : Bor (List ℕ) → Bor (List ℕ)
+entry_of s = part s 0 (le4 s.now 0)
+
 module _ {R : Type 0} (read : Bor (List ℕ) → Result R Refusal) where
   -- the piece at a place before the end: what the step there gives, up to where it moves; where it stays, all that is left, refused with 10
   pub record IsAsStep (s : Bor (List ℕ)) (at : ℕ) : Type 0 where
@@ -36,6 +46,10 @@ module _ {R : Type 0} (read : Bor (List ℕ) → Result R Refusal) where
   abbrev pub PiecesTellSteps : Type 0
   PiecesTellSteps = (s : Bor (List ℕ)) (at : ℕ) → at < length s.now → IsAsStep s at
 
-  -- a direct parse reads the bytes that the entry claims: what stands behind them changes nothing
+  -- a direct parse of them is one of the entry alone, and reads its bytes: what stands behind them changes nothing
+  pub record ParsesAlone (header : ℕ) (s : Bor (List ℕ)) : Type 0 where
+    pub alone : parse_of header read s ≡ parse_of header read (entry_of s)
+    pub reads : parse_of header read s ≡ read (entry_of s)
+
   abbrev pub BehindIsUnread : ℕ → Type 0
-  BehindIsUnread header = (s : Bor (List ℕ)) → length s.now ≤ limit → header ≤ le4 s.now 0 → le4 s.now 0 ≤ length s.now → parse_of header read s ≡ parse_of header read (part s 0 (le4 s.now 0))
+  BehindIsUnread header = (s : Bor (List ℕ)) → Begins header s.now → ParsesAlone header s

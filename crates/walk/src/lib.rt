@@ -11,7 +11,7 @@ ghost use Rattle.entry.specs.Walk.{OneWalk};
 ghost use Rattle.entry.specs.Bounded.{bounded_walk};
 ghost use Rattle.walk.specs.Zero.{is_zero};
 ghost use Rattle.walk.specs.Step.{parse_of, step_at, walker_step};
-ghost use Rattle.walk.specs.Pieces.{piece_at, pieces, walker_left, PieceGiven};
+ghost use Rattle.walk.specs.Pieces.{piece_at, pieces, walker_left, NextGives};
 ghost use Rattle.walk.specs.Theorems.{cursor_of, StepsRead, PiecesAreSteps, PiecesTellSteps, BehindIsUnread};
 
 use entry::Walked;
@@ -198,7 +198,7 @@ impl<'a, E: Entry<'a>> Walker<'a, E> {
 impl<'a, E: Entry<'a>> Iterator for Walker<'a, E> {
     type Item = Piece<E>;
 
-    ghost next_gives = { PieceGiven E.read };
+    ghost next_gives = { NextGives E.read };
 
     ghost remaining = { item_count (walker_left E.read) };
 
