@@ -87,14 +87,18 @@ fn looks_named_at_once(own: &[u8], name: &[u8]) -> bool
     look(told, own[30 + last]) == look(length, name[last])
 }
 
-// The same of the bytes from a place on, for a search from slot to slot: the last byte is mostly in another cache line than the length, and is fetched only where the length is right.
+// The same of the bytes from a place on, for a search from slot to slot: the last place that has room is the same for every slot, and the last byte, mostly in another cache line than the length, is fetched only where the length is right.
 #[inline(always)]
 #[tactic(auto, using(crate::proofs::Looks::few_from, crate::proofs::Looks::longer_from))]
 fn looks_named(bytes: &[u8], at: usize, name: &[u8]) -> bool
     ensures { result ≡ looks_named (drop at bytes.now) name.now }
 {
     let length = name.len();
-    if le::room(bytes.len(), at) < 30 + length {
+    let needed = 30 + length;
+    if bytes.len() < needed {
+        return false;
+    }
+    if bytes.len() - needed < at {
         return false;
     }
     if le::u16_at(bytes, at + 24) as usize != length {
