@@ -1,6 +1,6 @@
 -- Where records lie, what a chain has, and what an answer to a number means: proved.
 use Rattle.std.proofs.Common.{◌≡◌, ℕ, zero, suc, ◌+◌, ◌≤◌, Bool, true, false, List, [], ◌∷◌, ◌++◌, length, take, Ok, Err, Result, refl, sym, ap, ap₂, ◌∙◌, subst, arith, length-drop, Bor}
-use Rattle.std.specs.Prelude.{slice_get, ltb, Some}
+use Rattle.std.specs.Prelude.{slice_get, ok_or, ltb, Option, Some}
 use Rattle.std.specs.List.{All}
 use Rattle.std.proofs.lemmas.Option.{slice_get_past}
 use native.Mathlib.Nat.{add_assoc, add-zero}
@@ -8,6 +8,7 @@ use lib.Seq.{drop-drop}
 use borrow.Author.Tests.{lt-ltb}
 use Rattle.part.specs.Slice.{part, after}
 use Rattle.refusal.specs.declared.Refusal.{Refusal}
+use Rattle.refusal.specs.declared.Refusal.TheVariants.{NoSuchNumber}
 use Rattle.refactor.specs.declared.AdsRefactorInfo.{AdsRefactorInfo}
 use Rattle.refactor.specs.Refactor.{first_of, listed, chained}
 use Rattle.refactor.specs.Inside.{IsInside, RefactorsInside, IsChain, ChainsCounted, RefactorsShown}
@@ -139,4 +140,8 @@ at_number [] behind r = refl
 at_number (x ∷ before) behind r = at_number before behind r
 
 pub refactors_shown : RefactorsShown
-refactors_shown all number = record { shown = λ before behind r e l. rw (e, ← l, at_number before behind r) refl; past = λ k. simp (slice_get_past all number k) }
+refactors_shown all number = record {
+  shown = λ before behind r e l. ap₂ (λ (x : List AdsRefactorInfo) (n : ℕ). ok_or (slice_get x n) (NoSuchNumber (length all) number)) e (sym l)
+      ∙ ap (λ (x : Option AdsRefactorInfo). ok_or x (NoSuchNumber (length all) number)) (at_number before behind r);
+  past = λ h. ap (λ (x : Option AdsRefactorInfo). ok_or x (NoSuchNumber (length all) number)) (slice_get_past all number h);
+}
