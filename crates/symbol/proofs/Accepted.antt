@@ -23,7 +23,7 @@ pub record Accepted (n : NewSymbol) : Type 0 where
   pub chain_agrees : beq (ltb 0 n.refactor_infos.count) (has n.extended_flags.0 refactor_info_flag) ≡ true
   pub small : length (symbol_bytes n) ≤ limit
 
-agreed : (b : Bool) (section : ℕ) → agree b section ≡ Ok tt → b ≡ true
+pub agreed : (b : Bool) (section : ℕ) → agree b section ≡ Ok tt → b ≡ true
 agreed true section h = refl
 agreed false section h = cc
 

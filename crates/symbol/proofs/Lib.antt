@@ -16,3 +16,4 @@ pub mod Refused
 pub mod Writable
 pub mod ReadOn
 pub mod ReadBack
+pub mod Barred

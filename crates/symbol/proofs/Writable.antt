@@ -114,17 +114,17 @@ records_are count block h p =
     record { all = all; long = long; fit = fit; last = last_is all (has (refactor-fit.last_count all) refactor.follower) refl (sym passes ∙ same); bytes = m.is }
 
 -- the sections agree with the flags
-test_same : (a b : Bool) → a ≡ b → beq a b ≡ true
+pub test_same : (a b : Bool) → a ≡ b → beq a b ≡ true
 test_same true true h = refl
 test_same true false h = cc
 test_same false true h = cc
 test_same false false h = refl
 
-none_unflagged : (b : Bool) (n : ℕ) → (b ≡ false → n ≡ 0) → (if b then true else eqb n 0) ≡ true
+pub none_unflagged : (b : Bool) (n : ℕ) → (b ≡ false → n ≡ 0) → (if b then true else eqb n 0) ≡ true
 none_unflagged true n h = refl
 none_unflagged false n h = eq-eqb n 0 (h refl)
 
-unflagged_none : (b : Bool) (n : ℕ) → (if b then true else eqb n 0) ≡ true → b ≡ false → n ≡ 0
+pub unflagged_none : (b : Bool) (n : ℕ) → (if b then true else eqb n 0) ≡ true → b ≡ false → n ≡ 0
 unflagged_none true n h f = cc
 unflagged_none false n h f = eqb-true n 0 h
 
@@ -139,7 +139,7 @@ unfolding strings_checked
 strings_pass name type comment h = simp (le-ltb 65535 (length name) h.name_fits, le-ltb 65535 (length type) h.type_fits, le-ltb 65535 (length comment) h.comment_fits)
 
 module _ (n : NewSymbol) where
-  size_is : IsTyped n → is_some n.guid ≡ flagged n type_guid_flag → length (symbol_bytes n) ≡ size_of n
+  pub size_is : IsTyped n → is_some n.guid ≡ flagged n type_guid_flag → length (symbol_bytes n) ≡ size_of n
   size_is t g = omega (arith, length_parts n, length_sections n, length_guid n.guid (flagged n type_guid_flag) t.guid g)
 
   sections_pass : IsWritable n → sections_checked n ≡ Ok tt

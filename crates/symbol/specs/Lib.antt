@@ -10,3 +10,4 @@ pub mod Told
 pub mod Writable
 pub mod ReadOn
 pub mod ReadBack
+pub mod Barred

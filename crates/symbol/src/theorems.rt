@@ -5,6 +5,7 @@ ghost use Rattle.symbol.specs.Modes.{SymbolsModes};
 ghost use Rattle.symbol.specs.Shown.{SymbolsShown, SymbolsNamed};
 ghost use Rattle.symbol.specs.Told.{LargestTyped, SymbolsAnywhere};
 ghost use Rattle.symbol.specs.Writable.{SymbolsWritten};
+ghost use Rattle.symbol.specs.Barred.{SymbolsBarred};
 ghost use Rattle.symbol.specs.ReadOn.{SymbolsReadOn};
 ghost use Rattle.symbol.specs.ReadBack.{SymbolsReadBack};
 
@@ -48,6 +49,11 @@ pub fn symbols_anywhere()
 /// records that can be written, each section agrees with the flags, and the entry is within the limit.
 pub fn symbols_written()
     ensures { SymbolsWritten }
+{}
+
+/// A symbol that is not written is refused by the first of these that fails, with its number and figures.
+pub fn symbols_barred()
+    ensures { SymbolsBarred }
 {}
 
 /// No section refuses an entry: in the present mode it is read where its strings are there. A refused attribute ends the list, a
