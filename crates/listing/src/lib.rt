@@ -169,7 +169,10 @@ impl Line {
 fn is_interrupted(why: &io::Error) -> bool
     ensures { result ≡ true ↔ (error_kind why.now ≡ ErrorKind.Interrupted) }
 {
-    why.kind() == ErrorKind::Interrupted
+    match why.kind() {
+        ErrorKind::Interrupted => true,
+        _ => false,
+    }
 }
 
 // A read that no signal interrupts.
