@@ -4,7 +4,7 @@ use Rattle.std.proofs.lemmas.Option.{slice_get_past}
 use Rattle.std.proofs.lemmas.List.Elements.{All-nil}
 use mathlib.Core.List.{append-nil}
 use lib.Dec.{ltb}
-use borrow.Author.Tests.{le-ltb}
+use borrow.Author.Tests.{le-ltb, lt-ltb}
 use Rattle.le.specs.Le.{le2, bytes2}
 use Rattle.le.proofs.Laws.{le2-bytes2}
 use Rattle.part.specs.Slice.{after}
@@ -105,11 +105,13 @@ module _ (s : Bor (List ℕ)) where
   by_length true l = record {
     agree = λ h. simp l;
     ended = λ c h. absurd (let z : ◌≡◌ {A = ℕ} 0 1 = cc (simp l at h) in omega arith);
+    large = λ mode h. simp (lt-ltb limit (length s.now) h);
     first = λ q next at r k m z e n. checked_by k _ (refused_first s q next at r m z e n);
   }
   by_length false l = record {
     agree = λ h. simp (l, all_pass s h);
     ended = by_ends (ended (ends s 0)) refl;
+    large = λ mode h. simp (lt-ltb limit (length s.now) h);
     first = λ q next at r k m z e n. checked_by k _ (refused_first s q next at r m z e n);
   }
     where

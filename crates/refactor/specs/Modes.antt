@@ -7,7 +7,7 @@ use Rattle.refusal.specs.Refusal.{limit}
 use Rattle.refusal.specs.declared.Mode.{Mode}
 use Rattle.refusal.specs.declared.Mode.TheVariants.{Present, Checked}
 use Rattle.refusal.specs.declared.Refusal.{Refusal}
-use Rattle.refusal.specs.declared.Refusal.TheVariants.{NoSuchNumber, EndByte}
+use Rattle.refusal.specs.declared.Refusal.TheVariants.{TooLarge, NoSuchNumber, EndByte}
 use Rattle.refactor.specs.declared.AdsRefactorInfo.{AdsRefactorInfo}
 use Rattle.refactor.specs.declared.RefactorInfos.{RefactorInfos}
 use Rattle.refactor.specs.Refactor.{first_of, alone, chain_alone, listed, numbered}
@@ -34,11 +34,12 @@ EndedTo s place = (q next : Bor (List ℕ)) (at : ℕ) (r : AdsRefactorInfo) →
 abbrev pub ChainEnded : Bor (List ℕ) → Type 0
 ChainEnded s = (place : ℕ) → EndedTo s place
 
--- a chain read alone: the modes agree where every record that it meets is ended, also where one is refused, and the checked mode accepts nothing else; a chain
--- within the limit it refuses by the first end byte that is not 0, whatever stands behind that
+-- a chain read alone: the modes agree where every record that it meets is ended, also where one is refused, and the checked mode accepts nothing else; bytes
+-- beyond the limit are refused first, in either; else the first end byte that is not 0 refuses, whatever stands behind it
 pub record ChainModes (s : Bor (List ℕ)) : Type 0 where
   pub agree : ChainEnded s → chain_alone Checked s ≡ chain_alone Present s
   pub ended : (c : RefactorInfos × Bor (List ℕ)) → chain_alone Checked s ≡ Ok c → (chain_alone Present s ≡ Ok c) × ChainEnded s
+  pub large : (mode : Mode) → limit < length s.now → chain_alone mode s ≡ Err (TooLarge (length s.now))
   pub first : (q next : Bor (List ℕ)) (at : ℕ) (r : AdsRefactorInfo) → length s.now ≤ limit → Meets s q at → EndedTo s at → first_of q ≡ Ok (r, next) → (end_byte q r ≡ 0 → ⊥)
       → chain_alone Checked s ≡ Err (EndByte (at + (6 + length r.name.now)) (end_byte q r))
 
