@@ -4,13 +4,17 @@ use Rattle.std.specs.Prelude.{leb, if◌then◌else◌}
 use borrow.Author.Tests.{le-ltb}
 use Rattle.le.specs.Le.{le2, has}
 use Rattle.part.specs.Slice.{after}
+use Rattle.part.specs.Outcome.{and_then}
 use Rattle.refusal.specs.declared.Mode.TheVariants.{Present}
 use Rattle.refusal.specs.declared.Refusal.{Refusal}
 use Rattle.attribute.specs.declared.AdsAttribute.{AdsAttribute}
 use Rattle.attribute.specs.declared.Attributes.{Attributes}
 use Rattle.attribute.specs.Attribute as attribute
 use Rattle.attribute.proofs.Laws.{listed_more, listed_none, listed_stop, after_more, after_none}
+use Rattle.refactor.specs.declared.RefactorInfos.{RefactorInfos}
+use Rattle.refactor.specs.Chains.{IsRefused}
 use Rattle.refactor.specs.Refactor as refactor
+use Rattle.refactor.proofs.Chains.{chains_refused}
 use Rattle.symbol.specs.declared.AdsSymbolInfo.{AdsSymbolInfo}
 use Rattle.symbol.specs.Symbol.{place_in, type_guid_flag, attributes_flag, extended_flags_flag, refactor_info_flag, extended_word, guid_of, attributes_of, extended_of, refactor_infos_of, with_strings, ended_symbol, symbol_of}
 use Rattle.symbol.specs.Inside.{IsTail, behind_guid}
@@ -66,6 +70,14 @@ module _ (s : Bor (List ℕ)) (flagged : Bool) where
   unfolding refactor_infos_of
   dropped_rest why h = grind arith
 
+  -- a record that is met and refused refuses the chain
+  refused_chain : (why : Refusal) → IsRefused s why → refactor.chain_of s ≡ Err why
+  refused_chain why m = by (refactor.chain_of s) refl ((chains_refused s why).whole m)
+    where
+      by : (w : Result (ℕ × Bor (List ℕ)) Refusal) → refactor.chain_of s ≡ w → and_then {B = RefactorInfos × Bor (List ℕ)} w (λ p. Ok (record { bytes = s; count = p.0 }, p.1)) ≡ Err why → refactor.chain_of s ≡ Err why
+      by (Ok p) h e = cc
+      by (Err other) h e = cc
+
   unflagged_count : flagged ≡ false → (refactor_infos_of s flagged).0.count ≡ 0
   unfolding refactor_infos_of
   unflagged_count f = simp f
@@ -88,7 +100,7 @@ read_on e n t k h =
     record {
       attributes = rw (← p) (rw (← tg.is) at (shown_there e (place_in e g.1) (has w attributes_flag)));
       chain = λ f count rest m. let c = rw from at m in (chain_count x.1 b f count rest c, chain_rest x.1 b f count rest c);
-      dropped = λ why m. let c = rw from at m in record { none = dropped_count x.1 b why c; unread = dropped_rest x.1 b why c ∙ sym from };
+      dropped = λ why m. let c = refused_chain x.1 b why (rw from at m) in record { none = dropped_count x.1 b why c; unread = dropped_rest x.1 b why c ∙ sym from };
       unflagged = λ f. record { none = unflagged_count x.1 b f; unread = unflagged_rest x.1 b f ∙ sym from };
     }
 

@@ -6,6 +6,7 @@ use Rattle.refusal.specs.declared.Mode.{Mode}
 use Rattle.refusal.specs.declared.Mode.TheVariants.{Present}
 use Rattle.refusal.specs.declared.Refusal.{Refusal}
 use Rattle.attribute.specs.Attribute as attribute
+use Rattle.refactor.specs.Chains.{IsRefused}
 use Rattle.refactor.specs.Refactor as refactor
 use Rattle.symbol.specs.declared.AdsSymbolInfo.{AdsSymbolInfo}
 use Rattle.symbol.specs.Symbol.{attributes_flag, refactor_info_flag, extended_word, symbol_of}
@@ -34,7 +35,8 @@ is_flagged r = has (extended_word r.extended_flags) refactor_info_flag
 pub record IsReadOn (e : Bor (List ℕ)) (r : AdsSymbolInfo) : Type 0 where
   pub attributes : Shows r.attributes.bytes (announced e r) r.attributes.count
   pub chain : is_flagged r ≡ true → (count : ℕ) (rest : Bor (List ℕ)) → refactor.chain_of r.refactor_infos.bytes ≡ Ok (count, rest) → (r.refactor_infos.count ≡ count) × (r.unread ≡ rest)
-  pub dropped : (why : Refusal) → refactor.chain_of r.refactor_infos.bytes ≡ Err why → NoChain r
+  -- one of its records is met and refused
+  pub dropped : (why : Refusal) → IsRefused r.refactor_infos.bytes why → NoChain r
   pub unflagged : is_flagged r ≡ false → NoChain r
 
 -- in the present mode an entry is read exactly where its strings are there, in either as far as its sections go

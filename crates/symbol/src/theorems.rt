@@ -57,7 +57,7 @@ pub fn symbols_barred()
 {}
 
 /// No section refuses an entry: in the present mode it is read where its strings are there. A refused attribute ends the list, a
-/// refused chain is dropped whole, and reading goes on where the section ends.
+/// chain that meets a refused record is dropped whole, and reading goes on where the section ends.
 pub fn symbols_read_on()
     ensures { SymbolsReadOn }
 {}
