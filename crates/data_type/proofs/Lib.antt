@@ -1,7 +1,6 @@
 pub mod Arrays
 pub mod Turns
 pub mod Entry
-pub mod Counts
 pub mod Parts
 pub mod Steps
 pub mod Stack

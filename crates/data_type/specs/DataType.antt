@@ -8,7 +8,6 @@ use Rattle.refusal.specs.Refusal.{deepest}
 use Rattle.refusal.specs.declared.Mode.{Mode}
 use Rattle.refusal.specs.declared.Refusal.{Refusal}
 use Rattle.refusal.specs.declared.Refusal.TheVariants.{TooShort, EntryLengthMismatch, ClaimBelowHeader, TooDeep}
-use Rattle.walk.specs.Mapped.{map_ok}
 use Rattle.field.specs.declared.front.Front.{Front}
 use Rattle.field.specs.declared.tail.Tail.{Tail}
 use Rattle.field.specs.Front.{front_of}
@@ -101,13 +100,9 @@ unfoldable pub item_at : Mode → ℕ → ItemReader
 item_at mode zero s = too_deep s
 item_at mode (suc left) s = item_by (type_at mode left) s
 
--- how many members one holds
-abbrev pub count_at : Mode → ℕ → Bor (List ℕ) → Result ℕ Refusal
-count_at mode left e = map_ok (λ (r : AdsDataTypeInfo). r.member_count) (type_at mode left e)
-
 -- fewer members than bytes
-abbrev pub FewerThan : List ℕ → ℕ → Type 0
-FewerThan e members = members < length e
+abbrev pub SomeMembers : List ℕ → AdsDataTypeInfo → Type 0
+SomeMembers e r = r.member_count < length e
 
 -- and no more than bytes before what is left
 abbrev pub SomeItems : List ℕ → Items → Type 0

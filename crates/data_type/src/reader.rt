@@ -2,7 +2,7 @@
 #![tactic(auto, unfolding(crate::specs::DataType::taken, crate::specs::DataType::arrays_of))]
 
 ghost use Rattle.std.specs.Prelude.{◌≡◌, ◌*◌, ◌<◌, ◌^◌, IfOk};
-ghost use Rattle.data_type.specs.DataType.{taken, arrays_of, item_at, items_from, type_at, count_at, FewerThan, SomeItems};
+ghost use Rattle.data_type.specs.DataType.{taken, arrays_of, item_at, items_from, type_at, SomeMembers, SomeItems};
 
 use crate::array::ArrayInfos;
 use crate::{AdsDataTypeInfo, SubItems};
@@ -76,14 +76,18 @@ pub struct Items<'a> {
     pub members: usize,
 }
 
-/// An entry's own bytes, where there may be so many levels below it.
+/// An entry's own bytes, where there may be so many levels below it. It is inlined where a list of sub-items is read, which keeps
+/// the number of their members alone, so that no record is made of them.
 #[tactic(auto, using(crate::proofs::Entry::fits))]
+#[inline(always)]
+#[cycle(read_entry_read_items)]
 pub(crate) fn read_entry(
     own: &[u8],
     mode: Mode,
     left: usize,
 ) -> Result<AdsDataTypeInfo<'_>, Refusal>
-    ensures { result ≡ type_at mode left own.entry }
+    ensures value { result ≡ type_at mode left own.entry }
+    ensures few { IfOk result (SomeMembers own.now) }
 {
     let front = Front::read(own, mode)?;
     let (arrays, first) = read_arrays(&front)?;
@@ -96,22 +100,8 @@ pub(crate) fn read_entry(
     Ok(AdsDataTypeInfo::joined(&front, arrays, sub_items, items.members, tail))
 }
 
-/// How many members an entry's own bytes hold. It is read as the root is, and no record is made of it.
-#[tactic(auto, using(crate::proofs::Entry::fits))]
-#[cycle(count_entry_read_items)]
-fn count_entry(own: &[u8], mode: Mode, left: usize) -> Result<usize, Refusal>
-    ensures value { result ≡ count_at mode left own.entry }
-    ensures few { IfOk result (FewerThan own.now) }
-{
-    let front = Front::read(own, mode)?;
-    let (_, first) = read_arrays(&front)?;
-    let items = read_items(first, mode, left, front.sub_item_count)?;
-    Tail::read(&front, items.rest, mode)?;
-    Ok(items.members)
-}
-
 /// So many sub-items at the start of some bytes. A loop, since there may be 65,535 of them.
-#[cycle(count_entry_read_items)]
+#[cycle(read_entry_read_items)]
 fn read_items(first: &[u8], mode: Mode, left: usize, count: u16) -> Result<Items<'_>, Refusal>
     ensures value { result ≡ items_from (item_at mode left) first.entry count }
     ensures few { IfOk result (SomeItems first.now) }
@@ -128,8 +118,8 @@ fn read_items(first: &[u8], mode: Mode, left: usize, count: u16) -> Result<Items
             return Err(Refusal::TooDeep);
         }
         let (own, behind) = taken(done.rest)?;
-        let held = count_entry(own, mode, left - 1)?;
-        done.members += 1 + held;
+        let item = read_entry(own, mode, left - 1)?;
+        done.members += 1 + item.member_count;
         done.rest = behind;
     }
     Ok(done)

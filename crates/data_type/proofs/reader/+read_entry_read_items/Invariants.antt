@@ -1,10 +1,10 @@
 use Rattle.std.proofs.Common.{◌≡◌, ◌+◌, ◌≤◌, length}
 use Rattle.data_type.specs.DataType.{items_from, item_at}
 use Rattle.data_type.proofs.Turns.{with_before}
-use Rattle.data_type.proofs.reader.+count_entry_read_items.Given as goal
+use Rattle.data_type.proofs.reader.+read_entry_read_items.Given as goal
 
-abbrev pub decreases-count_entry : goal.decreases-count_entry
-decreases-count_entry l = l.left + l.left + 1
+abbrev pub decreases-read_entry : goal.decreases-read_entry
+decreases-read_entry l = l.left + l.left + 1
 
 abbrev pub decreases-read_items : goal.decreases-read_items
 decreases-read_items l = l.left + l.left
