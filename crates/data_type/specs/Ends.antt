@@ -49,7 +49,8 @@ met_at (suc left) e = met_with (item_met (met_at left)) (item_by (type_at Presen
 abbrev pub end_bytes : Bor (List ℕ) → List (ℕ × ℕ)
 end_bytes s = outcome (claim_of 42 s.now) (λ size. met_at levels (part s 0 size)) (λ why. [])
 
--- where all of them are 0 both modes answer alike; else the checked mode tells the first that is not, with its place. So it reads what has none, and as the present mode
+-- where all of them are 0 both modes answer alike; else the checked mode tells the first that is not, with its place. So what it reads has
+-- 0 in each of them, and is what the present mode reads
 pub record IsOfModes (ends : List (ℕ × ℕ)) (checked present : Result AdsDataTypeInfo Refusal) : Type 0 where
   pub alike : AllZero ends → checked ≡ present
   pub first : (b : ℕ × ℕ) → FirstNot ends b → checked ≡ Err (EndByte b.0 b.1)

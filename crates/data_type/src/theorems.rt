@@ -44,7 +44,7 @@ pub fn types_nest()
     ensures { TypesNest }
 {}
 
-/// What does not stand as the layout says is refused by the first fault that is met, with its figures.
+/// Each fault refuses a data type where it is the first that is met, with its figures.
 pub fn types_refused()
     ensures { TypesRefused }
 {}
