@@ -1,21 +1,23 @@
 -- What an index means: proved.
 use Rattle.std.proofs.Common.{ℕ, zero, suc, ◌+◌, ◌<◌, ◌≤◌, ◌≡◌, refl, sym, ap, subst, ◌∙◌, Bool, true, false, List, [], ◌∷◌, ◌++◌, length, take, drop, arith, Bor, Result, if◌then◌else◌}
-use Rattle.std.specs.Prelude.{leb, ltb, filter, count_by, Ok, Err}
+use Rattle.std.specs.Prelude.{leb, ltb, filter, Ok, Err}
+use Rattle.std.specs.List.{list_any}
 use Rattle.std.proofs.lemmas.List.Sums.{length-filter}
 use Rattle.std.proofs.Math.ListN.{length-append}
 use lib.Seq.{drop_at}
-use borrow.Author.Tests.{leb-false, eqb-false, ltb-false, le-ltb}
+use borrow.Author.Tests.{leb-false, eqb-false, ltb-false, le-ltb, lt-ltb}
 use Rattle.refusal.specs.Refusal.{limit}
 use Rattle.refusal.specs.declared.Refusal.{Refusal}
 use Rattle.refusal.specs.declared.Refusal.TheVariants.{TooLarge, ZeroEntryLength, OutputTooSmall}
 use Rattle.entry.specs.Entry.{claim_at}
 use Rattle.entry.specs.Walk.{stands, steps_from, steps}
 use Rattle.entry.proofs.Claims.{moves-on}
-use Rattle.writing.specs.Writing.{Writes}
+use Rattle.writing.specs.Writing.{answer, Writes}
 use Rattle.walk.specs.Pieces.{pieces}
 use Rattle.index.specs.Index.{starts, stopped, indexing}
 use Rattle.index.specs.Steps.{gives, BySteps}
-use Rattle.index.specs.Meaning.{Ascends, done, next, StartsAscend, BuiltLength, IndexMeant}
+use Rattle.index.specs.Meaning.{Ascends, done, next, needed, StartsAscend, BuiltLength, IndexMeant}
+use Rattle.index.proofs.Laws.{index_large, index_starts}
 
 weaker : (least less : ℕ) {l : List ℕ} → less ≤ least → Ascends least l → Ascends less l
 weaker least less h done = done
@@ -91,7 +93,7 @@ module _ {R : Type 0} (read : Bor (List ℕ) → Result R Refusal) (steps_are : 
   unfolding steps
   starts_ascend_of s = subst (λ (l : List ℕ). Ascends 0 l) (sym (steps_are.starts-are s)) (filter_ascends (gives read s) 0 (steps_ascend s.now 0 (length s.now)))
 
-  number_is : (s : Bor (List ℕ)) → length (starts (pieces read s)) ≡ count_by (gives read s) (steps s.now)
+  number_is : (s : Bor (List ℕ)) → length (starts (pieces read s)) ≡ needed read s
   number_is s = ap length (steps_are.starts-are s) ∙ length-filter (gives read s) (steps s.now)
 
   pub built_length_of : BuiltLength read
@@ -99,15 +101,22 @@ module _ {R : Type 0} (read : Bor (List ℕ) → Result R Refusal) (steps_are : 
       let b = built read s old new n w in
       record { counts = sym b.long ∙ number_is s; fits = b.fits; holds = b.first ∙ steps_are.starts-are s; behind = b.rest }
 
+  -- the answer where the upload is within the limit and no step stands, by whether the slots are too few
+  answered : (s : Bor (List ℕ)) (old new : List ℕ) (r : Result ℕ Refusal) → Writes (indexing read s) old new r → length s.now ≤ limit → list_any (stands s.now) (steps s.now) ≡ false
+      → r ≡ (if ltb (length old) (needed read s) then Err (OutputTooSmall (needed read s) (length old)) else Ok (needed read s))
+  answered s old new r w small none = w.said ∙ simp (index_starts read s small (steps_are.stopped-is s ∙ none), number_is s)
+
   pub index_meant_of : IndexMeant read
   unfolding indexing
   index_meant_of s old new r w =
       record {
+        too_large = λ large. w.said ∙ ap (λ x. answer x (length old)) (index_large read s large);
+        zero_claim = λ small stood.
+            let l = le-ltb limit (length s.now) small in
+            let f = steps_are.stopped-is s ∙ stood in
+            w.said ∙ simp (l, f);
+        too_few = λ small none few. answered s old new r w small none ∙ simp (lt-ltb (length old) (needed read s) few);
+        enough = λ small none fits. answered s old new r w small none ∙ simp (le-ltb (length old) (needed read s) fits);
         built = λ n e. built_length_of s old new n (subst (Writes (indexing read s) old new) e w);
         refused = λ why e. untouched (indexing read s) (subst (Writes (indexing read s) old new) e w);
-        done_it = λ small none enough.
-            let l = le-ltb limit (length s.now) small in
-            let t = le-ltb (length old) (length (starts (pieces read s))) (omega (arith, enough, number_is s)) in
-            let f = steps_are.stopped-is s ∙ none in
-            (length (starts (pieces read s)), w.said ∙ simp (l, f, t));
       }

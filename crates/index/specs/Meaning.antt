@@ -1,9 +1,10 @@
 -- What an index means.
 use Rattle.std.specs.Borrow.{Bor}
-use Rattle.std.specs.Prelude.{ℕ, suc, ◌≤◌, ◌≡◌, false, List, [], ◌∷◌, Result, Ok, Err, length, take, drop, filter, count_by}
+use Rattle.std.specs.Prelude.{ℕ, suc, ◌<◌, ◌≤◌, ◌≡◌, true, false, List, [], ◌∷◌, Result, Ok, Err, length, take, drop, filter, count_by}
 use Rattle.std.specs.List.{list_any}
 use Rattle.refusal.specs.Refusal.{limit}
 use Rattle.refusal.specs.declared.Refusal.{Refusal}
+use Rattle.refusal.specs.declared.Refusal.TheVariants.{TooLarge, OutputTooSmall, ZeroEntryLength}
 use Rattle.entry.specs.Walk.{stands, steps}
 use Rattle.writing.specs.Writing.{Writes}
 use Rattle.walk.specs.Pieces.{pieces}
@@ -20,22 +21,28 @@ module _ {R : Type 0} (read : Bor (List ℕ) → Result R Refusal) where
   abbrev pub StartsAscend : Type 0
   StartsAscend = (s : Bor (List ℕ)) → Ascends 0 (starts (pieces read s))
 
-  -- an index that was built has a slot for each step of the walk that gives a record, with the place of that step, in order; it stands within the slots,
-  -- and behind it they are as they were
-  pub record IndexLength (s : Bor (List ℕ)) (old new : List ℕ) (n : ℕ) : Type 0 where
-    pub counts : n ≡ count_by (gives read s) (steps s.now)
+  -- how many slots an index needs: one for each step of the walk that gives a record
+  abbrev pub needed : Bor (List ℕ) → ℕ
+  needed s = count_by (gives read s) (steps s.now)
+
+  -- the first n slots are the index: the place of each step that gives a record, in order; it stands within the slots, and behind it they are as they were
+  pub record IsIndex (s : Bor (List ℕ)) (old new : List ℕ) (n : ℕ) : Type 0 where
+    pub counts : n ≡ needed s
     pub fits : n ≤ length new
     pub holds : take n new ≡ filter (gives read s) (steps s.now)
     pub behind : drop n new ≡ drop n old
 
   abbrev pub BuiltLength : Type 0
-  BuiltLength = (s : Bor (List ℕ)) (old new : List ℕ) (n : ℕ) → Writes (indexing read s) old new (Ok n) → IndexLength s old new n
+  BuiltLength = (s : Bor (List ℕ)) (old new : List ℕ) (n : ℕ) → Writes (indexing read s) old new (Ok n) → IsIndex s old new n
 
-  -- an upload within the limit in which no step stands has its index built where there is a slot for each step that gives a record; a refusal changes none
+  -- the answer to each upload, in four cases of which exactly one holds: above the limit; a step of its walk stands; too few slots; none of these
   pub record Meant (s : Bor (List ℕ)) (old new : List ℕ) (r : Result ℕ Refusal) : Type 0 where
-    pub built : (n : ℕ) → r ≡ Ok n → IndexLength s old new n
+    pub too_large : limit < length s.now → r ≡ Err (TooLarge (length s.now))
+    pub zero_claim : length s.now ≤ limit → list_any (stands s.now) (steps s.now) ≡ true → r ≡ Err ZeroEntryLength
+    pub too_few : length s.now ≤ limit → list_any (stands s.now) (steps s.now) ≡ false → length old < needed s → r ≡ Err (OutputTooSmall (needed s) (length old))
+    pub enough : length s.now ≤ limit → list_any (stands s.now) (steps s.now) ≡ false → needed s ≤ length old → r ≡ Ok (needed s)
+    pub built : (n : ℕ) → r ≡ Ok n → IsIndex s old new n
     pub refused : (why : Refusal) → r ≡ Err why → new ≡ old
-    pub done_it : length s.now ≤ limit → list_any (stands s.now) (steps s.now) ≡ false → count_by (gives read s) (steps s.now) ≤ length old → (n : ℕ) × (r ≡ Ok n)
 
   abbrev pub IndexMeant : Type 0
   IndexMeant = (s : Bor (List ℕ)) (old new : List ℕ) (r : Result ℕ Refusal) → Writes (indexing read s) old new r → Meant s old new r

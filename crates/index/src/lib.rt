@@ -83,7 +83,7 @@ pub fn built_length<'a, E: Entry<'a>>()
     ensures { (mode : Mode) → BuiltLength (E.read mode) }
 {}
 
-/// An index is built where the upload is within the limit, no step stands and there are slots enough; where it is refused the slots are as they were.
+/// An upload above the limit is refused by 5; within it one in which a step stands by 10; else too few slots by 6, with how many are needed and how many were lent; else the index is built. A refusal leaves the slots as they were.
 pub fn index_meant<'a, E: Entry<'a>>()
     ensures { (mode : Mode) → IndexMeant (E.read mode) }
 {}
