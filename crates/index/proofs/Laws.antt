@@ -98,10 +98,18 @@ refused_by : {R : Type 0} (ps : List (Piece R)) (b : Bool) → stopped ps ≡ b 
 refused_by ps true e why h = (e, cc)
 refused_by ps false e why h = cc
 
-pub index_stopped : {R : Type 0} (read : Bor (List ℕ) → Result R Refusal) (s : Bor (List ℕ)) (why : Refusal) → length s.now ≤ limit → Err why ≡ tally_of (pieces read s) → indexing read s ≡ Err why
-unfolding indexing tally_of
-index_stopped read s why h e = let r = refused_by (pieces read s) (stopped (pieces read s)) refl why (sym e) in simp (le-ltb limit (length s.now) h, r.0, r.1)
+module _ {R : Type 0} (read : Bor (List ℕ) → Result R Refusal) (s : Bor (List ℕ)) (small : length s.now ≤ limit) where
+  -- within the limit all goes by whether a piece is refused with 10
+  index_by : (b : Bool) → stopped (pieces read s) ≡ b → indexing read s ≡ (if b then Err ZeroEntryLength else Ok (starts (pieces read s)))
+  unfolding indexing
+  index_by b e = simp (le-ltb limit (length s.now) small) (ap (λ (b : Bool). if b then Err ZeroEntryLength else Ok (starts (pieces read s))) e)
 
-pub index_starts : {R : Type 0} (read : Bor (List ℕ) → Result R Refusal) (s : Bor (List ℕ)) → length s.now ≤ limit → stopped (pieces read s) ≡ false → indexing read s ≡ Ok (starts (pieces read s))
-unfolding indexing
-index_starts read s h e = simp (le-ltb limit (length s.now) h, e)
+  pub index_zero : stopped (pieces read s) ≡ true → indexing read s ≡ Err ZeroEntryLength
+  index_zero e = index_by true e
+
+  pub index_starts : stopped (pieces read s) ≡ false → indexing read s ≡ Ok (starts (pieces read s))
+  index_starts e = index_by false e
+
+  pub index_stopped : (why : Refusal) → Err why ≡ tally_of (pieces read s) → indexing read s ≡ Err why
+  unfolding tally_of
+  index_stopped why e = let r = refused_by (pieces read s) (stopped (pieces read s)) refl why (sym e) in index_zero r.0 ∙ ap Err (sym r.1)

@@ -17,7 +17,7 @@ use Rattle.walk.specs.Pieces.{pieces}
 use Rattle.index.specs.Index.{starts, stopped, indexing}
 use Rattle.index.specs.Steps.{gives, BySteps}
 use Rattle.index.specs.Meaning.{Ascends, done, next, needed, StartsAscend, BuiltLength, IndexMeant}
-use Rattle.index.proofs.Laws.{index_large, index_starts}
+use Rattle.index.proofs.Laws.{index_large, index_zero, index_starts}
 
 weaker : (least less : ℕ) {l : List ℕ} → less ≤ least → Ascends least l → Ascends less l
 weaker least less h done = done
@@ -107,14 +107,10 @@ module _ {R : Type 0} (read : Bor (List ℕ) → Result R Refusal) (steps_are : 
   answered s old new r w small none = w.said ∙ simp (index_starts read s small (steps_are.stopped-is s ∙ none), number_is s)
 
   pub index_meant_of : IndexMeant read
-  unfolding indexing
   index_meant_of s old new r w =
       record {
         too_large = λ large. w.said ∙ ap (λ x. answer x (length old)) (index_large read s large);
-        zero_claim = λ small stood.
-            let l = le-ltb limit (length s.now) small in
-            let f = steps_are.stopped-is s ∙ stood in
-            w.said ∙ simp (l, f);
+        zero_claim = λ small stood. w.said ∙ ap (λ x. answer x (length old)) (index_zero read s small (steps_are.stopped-is s ∙ stood));
         too_few = λ small none few. answered s old new r w small none ∙ simp (lt-ltb (length old) (needed read s) few);
         enough = λ small none fits. answered s old new r w small none ∙ simp (le-ltb (length old) (needed read s) fits);
         built = λ n e. built_length_of s old new n (subst (Writes (indexing read s) old new) e w);
