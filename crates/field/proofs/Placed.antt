@@ -66,21 +66,17 @@ module _ (e : Bor (List ℕ)) where
   abbrev guid_and_rest : ℕ → Bool → Option (List ℕ) × Bor (List ℕ)
   guid_and_rest at is_left = (if is_left then Some (take 16 (drop at e.now)) else None, from (at + (if is_left then 16 else 0)))
 
-  abbrev guid_read_or : Bor (List ℕ) → Bool → Option (List ℕ) × Bor (List ℕ)
-  guid_read_or s b = if b then (Some (take 16 s.now), after s 16) else (None, s)
-
   guid_from : (at : ℕ) (flagged : Bool) → guid_of (from at) flagged ≡ guid_and_rest at (there flagged at 16)
   unfolding guid_of
   guid_from at false = ap (λ (n : ℕ). (None, from n)) (sym (add-zero at))
-  guid_from at true = rw (length_from at) (by_room (leb 16 (left at)) refl)
+  guid_from at true = by_room (leb 16 (left at)) refl
     where
-      by_room : (b : Bool) → leb 16 (left at) ≡ b
-          → guid_read_or (from at) b ≡ guid_and_rest at b
+      by_room : (b : Bool) → leb 16 (left at) ≡ b → guid_of (from at) true ≡ guid_and_rest at b
       by_room true h =
           let r = leb-true 16 (left at) h in
           let m : min at (length e.now) ≡ at = omega (arith, r) in
-          ap₂ (λ (n : ℕ) (s : Bor (List ℕ)). (Some (take 16 (drop n e.now)), s)) m (after_from at 16 r)
-      by_room false h = ap (λ (n : ℕ). (None, from n)) (sym (add-zero at))
+          simp (length_from at, h) (ap₂ (λ (n : ℕ) (s : Bor (List ℕ)). (Some (take 16 (drop n e.now)), s)) m (after_from at 16 r))
+      by_room false h = simp (length_from at, h) (ap (λ (n : ℕ). (None, from n)) (sym (add-zero at)))
 
   mask_from : (at size : ℕ) (flagged : Bool) → after_mask (from at) size flagged ≡ from (if flagged then min (at + size) (length e.now) else at)
   unfolding after_mask
@@ -93,14 +89,13 @@ module _ (e : Bor (List ℕ)) where
   methods_from : (at : ℕ) (flagged : Bool) → after_methods (from at) flagged ≡ from (if there flagged at 2 then behind e.now (at + 2) (le2 e.now at) else at)
   unfolding after_methods
   methods_from at false = refl
-  methods_from at true = rw (length_from at) (by_room (leb 2 (left at)) refl)
+  methods_from at true = by_room (leb 2 (left at)) refl
     where
-      by_room : (b : Bool) → leb 2 (left at) ≡ b
-          → (if b then after_items (after (from at) 2) (le2 (from at).now 0) else from at) ≡ from (if b then behind e.now (at + 2) (le2 e.now at) else at)
+      by_room : (b : Bool) → leb 2 (left at) ≡ b → after_methods (from at) true ≡ from (if b then behind e.now (at + 2) (le2 e.now at) else at)
       by_room true h =
           let r = leb-true 2 (left at) h in
-          ap₂ (λ (s : Bor (List ℕ)) (n : ℕ). after_items s n) (after_from at 2 r) (two_from at r) ∙ items_from (at + 2) (le2 e.now at)
-      by_room false h = refl
+          simp (length_from at, h) (ap₂ (λ (s : Bor (List ℕ)) (n : ℕ). after_items s n) (after_from at 2 r) (two_from at r) ∙ items_from (at + 2) (le2 e.now at))
+      by_room false h = simp (length_from at, h) refl
 
   record Listed (at : ℕ) (flagged : Bool) (bytes : Bor (List ℕ)) (count : ℕ) : Type 0 where
     bytes_are : bytes ≡ from (at + (if there flagged at 2 then 2 else 0))
