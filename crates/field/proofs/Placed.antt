@@ -1,20 +1,26 @@
 -- Where each part of a field begins: proved.
-use Rattle.std.proofs.Common.{ℕ, subst, zero, suc, ◌+◌, ◌-◌, ◌*◌, ◌≤◌, ◌≡◌, refl, sym, ap, ap₂, ◌∙◌, Bool, true, false, List, length, take, drop, min, arith, Bor, length-drop}
+use Rattle.std.proofs.Common.{ℕ, subst, zero, suc, ◌+◌, ◌-◌, ◌*◌, ◌≤◌, ◌≡◌, refl, sym, ap, ap₂, ◌∙◌, Bool, true, false, List, Ok, length, take, drop, min, arith, Bor, length-drop}
 use Rattle.std.specs.Prelude.{Option, Some, None, leb, if◌then◌else◌}
 use lib.Seq.{get_or-drop}
 use native.Mathlib.Nat.{add-zero}
 use borrow.Author.Tests.{lt-ltb, le-ltb, leb-true, leb-false}
 use Rattle.le.specs.Le.{le2, le4, has}
 use Rattle.part.specs.Slice.{after}
+use Rattle.part.specs.Outcome.{and_then}
+use Rattle.refusal.specs.declared.Mode.TheVariants.{Present}
+use Rattle.refusal.specs.declared.Refusal.{Refusal}
+use Rattle.attribute.specs.declared.Attributes.{Attributes}
 use Rattle.attribute.specs.Attribute.{listed}
 use Rattle.attribute.proofs.Again.{after_after}
 use Rattle.field.specs.Skip.{ahead, after_items}
 use Rattle.field.specs.Front.{with_strings}
-use Rattle.field.specs.Tail.{type_guid_flag, copy_mask_flag, method_infos_flag, attributes_flag, guid_of, after_mask, after_methods, attributes_of}
-use Rattle.field.specs.Field.{behind_items}
+use Rattle.field.specs.Tail.{type_guid_flag, copy_mask_flag, method_infos_flag, attributes_flag, guid_of, after_mask, after_methods, attributes_of, complete}
+use Rattle.field.specs.Field.{joined, behind_items, field_of}
 use Rattle.field.specs.Modes.{front_by_header, HasStrings}
-use Rattle.field.specs.Placed.{behind, arrays_at, items_at, guid_at, mask_at, methods_at, attributes_at, IsPlaced, FieldsPlaced}
+use Rattle.field.specs.Placed.{behind, arrays_at, items_at, guid_at, mask_at, methods_at, attributes_at, guid_there, IsPlaced, FieldsPlaced, field_there, IsReadThere, FieldsRead}
 use Rattle.field.proofs.Within.{accepted_is, record_is}
+use Rattle.field.proofs.Modes.{read_is}
+use Rattle.field.proofs.Laid.{Comes, comes}
 
 module _ (e : Bor (List ℕ)) where
   -- the bytes from a place on, or the entry's end where the place is past it
@@ -154,6 +160,45 @@ module _ (e : Bor (List ℕ)) where
       subst (λ (s : Bor (List ℕ)). Listed (attributes_at e.now) (has flags attributes_flag) (attributes_of s (has flags attributes_flag)).0.bytes (attributes_of s (has flags attributes_flag)).0.count)
       (sym (section_from h)) (attributes_from (attributes_at e.now) (has flags attributes_flag)) in
       record { guid = ap (λ (g : Option (List ℕ) × Bor (List ℕ)). g.0) (guid_read h); attributes = l.bytes_are; count = l.count_is }
+
+  none_from : (at : ℕ) (flagged : Bool) → there flagged at 2 ≡ false → attributes_of (from at) flagged ≡ (record { bytes = from at; count = 0 }, None)
+  unfolding attributes_of
+  none_from at true h = simp (length_from at, h) refl
+  none_from at false h = refl
+
+  some_from : (at : ℕ) (flagged : Bool) (n : ℕ) (why : Option Refusal) → there flagged at 2 ≡ true → Comes (after e (at + 2)) (le2 e.now at) n why
+      → attributes_of (from at) flagged ≡ (record { bytes = after e (at + 2); count = n }, why)
+  unfolding attributes_of
+  some_from at true n why h c =
+      let r = leb-true 2 (left at) h in
+      let m : min (at + 2) (length e.now) ≡ at + 2 = omega (arith, r) in
+      let b : after (from at) 2 ≡ after e (at + 2) = after_from at 2 r ∙ ap (after e) m in
+      simp (length_from at, h, two_from at r, b, c.long, c.stops) refl
+  some_from at false n why h c = cc
+
+  abbrev found : Attributes × Option Refusal
+  found = attributes_of (from (attributes_at e.now)) (has flags attributes_flag)
+
+  field_is : HasStrings e → field_of Present e ≡ and_then (complete found.1) (λ _. Ok (joined (front_by_header e) (record { guid = guid_there e.now; attributes = found.0 })))
+  unfolding with_strings
+  field_is h =
+      read_is e Present h
+      ∙ ap₂ (λ (g : Option (List ℕ)) (x : Attributes × Option Refusal). and_then (complete x.1) (λ _. Ok (joined (front_by_header e) (record { guid = g; attributes = x.0 }))))
+      (ap (λ (g : Option (List ℕ) × Bor (List ℕ)). g.0) (guid_read h)) (ap (λ (s : Bor (List ℕ)). attributes_of s (has flags attributes_flag)) (section_from h))
+
+  read_with : HasStrings e → (a : Attributes) (why : Option Refusal) → found ≡ (a, why) → field_of Present e ≡ and_then (complete why) (λ _. Ok (field_there e a.bytes a.count))
+  read_with h a why f = field_is h ∙ ap (λ (x : Attributes × Option Refusal). and_then (complete x.1) (λ _. Ok (field_there e x.0.bytes x.0.count))) f
+
+  pub read_there : HasStrings e → IsReadThere e
+  read_there h =
+      record {
+        without = λ t. read_with h (record { bytes = from (attributes_at e.now); count = 0 }) None (none_from (attributes_at e.now) (has flags attributes_flag) t);
+        read = λ t n s. read_with h (record { bytes = after e (attributes_at e.now + 2); count = n }) None (some_from (attributes_at e.now) (has flags attributes_flag) n None t (comes s));
+        refused = λ t n why s. read_with h (record { bytes = after e (attributes_at e.now + 2); count = n }) (Some why) (some_from (attributes_at e.now) (has flags attributes_flag) n (Some why) t (comes s));
+      }
+
+pub fields_read : FieldsRead
+fields_read e h = read_there e h
 
 pub fields_placed : FieldsPlaced
 fields_placed mode e r h =
