@@ -1,26 +1,75 @@
 -- Where each part of a field begins: proved.
-use Rattle.std.proofs.Common.{ℕ, subst, zero, suc, ◌+◌, ◌-◌, ◌*◌, ◌≤◌, ◌≡◌, refl, sym, ap, ap₂, ◌∙◌, Bool, true, false, List, Ok, length, take, drop, min, arith, Bor, length-drop}
-use Rattle.std.specs.Prelude.{Option, Some, None, leb, if◌then◌else◌}
+use Rattle.std.proofs.Common.{ℕ, subst, zero, suc, ◌+◌, ◌-◌, ◌*◌, ◌≤◌, ◌≡◌, refl, sym, ap, ap₂, ◌∙◌, Bool, true, false, List, Ok, Err, Result, length, take, drop, min, arith, Bor, length-drop}
+use Rattle.std.specs.Prelude.{Option, Some, None, leb, eqb, if◌then◌else◌}
 use lib.Seq.{get_or-drop}
 use native.Mathlib.Nat.{add-zero}
-use borrow.Author.Tests.{lt-ltb, le-ltb, leb-true, leb-false}
+use borrow.Author.Tests.{lt-ltb, le-ltb, leb-true, leb-false, eqb-true}
 use Rattle.le.specs.Le.{le2, le4, has}
 use Rattle.part.specs.Slice.{after}
 use Rattle.part.specs.Outcome.{and_then}
 use Rattle.refusal.specs.declared.Mode.TheVariants.{Present}
 use Rattle.refusal.specs.declared.Refusal.{Refusal}
+use Rattle.attribute.specs.declared.AdsAttribute.{AdsAttribute}
 use Rattle.attribute.specs.declared.Attributes.{Attributes}
-use Rattle.attribute.specs.Attribute.{listed}
+use Rattle.attribute.specs.Attribute.{first_of, listed, after_listed}
 use Rattle.attribute.proofs.Again.{after_after}
+use Rattle.attribute.proofs.Laws.{listed_more, listed_none, after_more, after_none}
 use Rattle.field.specs.Skip.{ahead, after_items}
 use Rattle.field.specs.Front.{with_strings}
 use Rattle.field.specs.Tail.{type_guid_flag, copy_mask_flag, method_infos_flag, attributes_flag, guid_of, after_mask, after_methods, attributes_of, complete}
 use Rattle.field.specs.Field.{joined, behind_items, field_of}
 use Rattle.field.specs.Modes.{front_by_header, HasStrings}
-use Rattle.field.specs.Placed.{behind, arrays_at, items_at, guid_at, mask_at, methods_at, attributes_at, guid_there, IsPlaced, FieldsPlaced, field_there, IsReadThere, FieldsRead}
+use Rattle.field.specs.Placed.{behind, arrays_at, items_at, guid_at, mask_at, methods_at, attributes_at, guid_there, IsPlaced, FieldsPlaced, field_there, ShowsSome, IsReadThere, FieldsRead}
+use Rattle.field.specs.Laid.{Shows, all, ended, refused}
 use Rattle.field.proofs.Within.{accepted_is, record_is}
 use Rattle.field.proofs.Modes.{read_is}
 use Rattle.field.proofs.Laid.{Comes, comes}
+
+-- an attribute that is read, before those that are shown behind it
+shows_more : (s : Bor (List ℕ)) (count : ℕ) (p : AdsAttribute × Bor (List ℕ)) → first_of s ≡ Ok p → 1 ≤ length p.1.now → ShowsSome p.1 count → ShowsSome s (suc count)
+shows_more s count p f l more = by more.n more.why more.shows
+  where
+    by : (n : ℕ) (why : Option Refusal) → Shows p.1 count n why → ShowsSome s (suc count)
+    by n why (all h) = record { n = suc count; why = None; shows = all (ap length (listed_more s count p f) ∙ ap suc h) }
+    by n why (ended m a b h z) =
+        record {
+          n = suc m;
+          why = None;
+          shows = ended (suc m) (omega arith) (omega arith) (ap length (listed_more s m p f) ∙ ap suc h) (ap (λ (q : Bor (List ℕ)). length q.now) (after_more s m p f) ∙ z);
+        }
+    by n why (refused m cause a h o g) =
+        record {
+          n = suc m;
+          why = Some cause;
+          shows = refused (suc m) cause (omega arith) (ap length (listed_more s m p f) ∙ ap suc h) (λ t. rw (after_more s m p f) (left_behind m o)) (ap first_of (after_more s m p f) ∙ g);
+        }
+      where
+        left_behind : (m : ℕ) → (1 ≤ m → 1 ≤ length (after_listed p.1 m).now) → 1 ≤ length (after_listed p.1 m).now
+        left_behind zero o = rw (after_none p.1) l
+        left_behind (suc m) o = o (omega arith)
+
+shows_some : (count : ℕ) (s : Bor (List ℕ)) → ShowsSome s count
+shows_some zero s = record { n = zero; why = None; shows = all (ap length (listed_none s)) }
+shows_some (suc count) s = by_first (λ q. shows_some count q) (first_of s) refl
+  where
+    by_first : ((q : Bor (List ℕ)) → ShowsSome q count) → (w : Result (AdsAttribute × Bor (List ℕ)) Refusal) → first_of s ≡ w → ShowsSome s (suc count)
+    by_first on (Err why) f =
+        record { n = zero; why = Some why; shows = refused zero why (omega arith) (ap length (listed_none s)) (λ l. absurd (omega arith)) (ap first_of (after_none s) ∙ f) }
+    by_first on (Ok p) f = by_end (eqb (length p.1.now) 0) refl
+      where
+        by_end : (b : Bool) → eqb (length p.1.now) 0 ≡ b → ShowsSome s (suc count)
+        by_end true h =
+            record {
+              n = 1;
+              why = None;
+              shows = ended 1 (omega arith) (omega arith) (ap length (listed_more s zero p f) ∙ ap suc (ap length (listed_none p.1)))
+                  (ap (λ (q : Bor (List ℕ)). length q.now) (after_more s zero p f ∙ after_none p.1) ∙ eqb-true (length p.1.now) 0 h);
+            }
+        by_end false h = shows_more s count p f (some_left (length p.1.now) h) (on p.1)
+          where
+            some_left : (n : ℕ) → eqb n 0 ≡ false → 1 ≤ n
+            some_left zero h = cc
+            some_left (suc n) h = omega arith
 
 module _ (e : Bor (List ℕ)) where
   -- the bytes from a place on, or the entry's end where the place is past it
@@ -192,6 +241,7 @@ module _ (e : Bor (List ℕ)) where
   pub read_there : HasStrings e → IsReadThere e
   read_there h =
       record {
+        some = λ t. shows_some (le2 e.now (attributes_at e.now)) (after e (attributes_at e.now + 2));
         without = λ t. read_with h (record { bytes = from (attributes_at e.now); count = 0 }) None (none_from (attributes_at e.now) (has flags attributes_flag) t);
         read = λ t n s. read_with h (record { bytes = after e (attributes_at e.now + 2); count = n }) None (some_from (attributes_at e.now) (has flags attributes_flag) n None t (comes s));
         refused = λ t n why s. read_with h (record { bytes = after e (attributes_at e.now + 2); count = n }) (Some why) (some_from (attributes_at e.now) (has flags attributes_flag) n (Some why) t (comes s));

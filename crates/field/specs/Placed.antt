@@ -64,8 +64,15 @@ FieldsPlaced = (mode : Mode) (e : Bor (List ℕ)) (r : AdsFieldInfo) → field_o
 abbrev pub field_there : Bor (List ℕ) → Bor (List ℕ) → ℕ → AdsFieldInfo
 field_there e bytes count = joined (front_by_header e) (record { guid = guid_there e.now; attributes = record { bytes = bytes; count = count } })
 
--- however few bytes its sections have, an entry is read, and refused by an attribute that is refused alone
+-- some are shown of a count of attributes, and there is a refusal or none
+pub record ShowsSome (s : Bor (List ℕ)) (count : ℕ) : Type 0 where
+  pub n : ℕ
+  pub why : Option Refusal
+  pub shows : Shows s count n why
+
+-- in the present mode an entry is read however few bytes its sections have, and nothing refuses it but an attribute that is refused
 pub record IsReadThere (e : Bor (List ℕ)) : Type 0 where
+  pub some : attributes_there e.now ≡ true → ShowsSome (after e (attributes_at e.now + 2)) (le2 e.now (attributes_at e.now))
   pub without : attributes_there e.now ≡ false → field_of Present e ≡ Ok (field_there e (after e (min (attributes_at e.now) (length e.now))) 0)
   pub read : attributes_there e.now ≡ true → (n : ℕ) → Shows (after e (attributes_at e.now + 2)) (le2 e.now (attributes_at e.now)) n None
       → field_of Present e ≡ Ok (field_there e (after e (attributes_at e.now + 2)) n)
