@@ -102,9 +102,9 @@ methods_at e p true methods more few h a =
 methods_at e p false methods more few h a = ap (after e) (sym (add-zero p))
 
 -- how many attributes are shown, and why there are no more
-record Comes (s : Bor (List ℕ)) (count n : ℕ) (why : Option Refusal) : Type 0 where
-  long : length (listed s count) ≡ n
-  stops : stopped s count ≡ why
+pub record Comes (s : Bor (List ℕ)) (count n : ℕ) (why : Option Refusal) : Type 0 where
+  pub long : length (listed s count) ≡ n
+  pub stops : stopped s count ≡ why
 
 one_more : (s : Bor (List ℕ)) (count n : ℕ) (why : Option Refusal) (p : AdsAttribute × Bor (List ℕ)) → first_of s ≡ Ok p → (length p.1.now ≡ 0 → why ≡ None) → Comes p.1 count n why → Comes s (suc count) (suc n) why
 unfolding stopped
@@ -160,7 +160,7 @@ refused_comes (suc n) (suc count) s why a h l f =
     let z : length x.p.1.now ≡ 0 → ◌≡◌ {A = Option Refusal} (Some why) None = λ e. let y : length (after_listed x.p.1 n).now ≡ 0 = ap (λ (q : Bor (List ℕ)). length q.now) (nothing_after x.p.1 n e) ∙ e in absurd (omega (arith, m, y)) in
     one_more s count n (Some why) x.p x.is z (refused_comes n count x.p.1 why (omega arith) x.more (λ _. m) (ap first_of (sym x.after) ∙ f))
 
-comes : {s : Bor (List ℕ)} {count n : ℕ} {why : Option Refusal} → Shows s count n why → Comes s count n why
+pub comes : {s : Bor (List ℕ)} {count n : ℕ} {why : Option Refusal} → Shows s count n why → Comes s count n why
 comes {s} {count} (all h) = all_come count s h
 comes {s} {count} (ended n a b h z) = end_comes n count s a b h z
 comes {s} {count} (refused n why a h l f) = refused_comes n count s why a h l f

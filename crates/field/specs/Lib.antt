@@ -7,6 +7,7 @@ pub mod Kind
 pub mod Writing
 pub mod Told
 pub mod Within
+pub mod Placed
 pub mod Modes
 pub mod Laid
 pub mod Written

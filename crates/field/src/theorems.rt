@@ -1,6 +1,7 @@
 //! Theorems. Each is the contract of a function that does nothing, so that none goes unnoticed if its proof does.
 ghost use Rattle.field.specs.Laid.{FieldsLaid};
 ghost use Rattle.field.specs.Modes.{FieldsModes};
+ghost use Rattle.field.specs.Placed.{FieldsPlaced, FieldsRead};
 ghost use Rattle.field.specs.Told.{LargestTyped};
 ghost use Rattle.field.specs.Written.{FieldsWritten};
 ghost use Rattle.field.specs.Within.{FieldsWithin, FieldsShown, FieldsNamed};
@@ -8,6 +9,18 @@ ghost use Rattle.field.specs.Within.{FieldsWithin, FieldsShown, FieldsNamed};
 /// What a field that is accepted tells is a part of its entry, each string with its end byte.
 pub fn fields_within()
     ensures { FieldsWithin }
+{}
+
+/// Of a field that is accepted, the GUID and the attributes are those at the places where they begin by what stands before them:
+/// what is flagged and has no room is absent and moves nothing, and a copy mask leads to the entry's end at most.
+pub fn fields_placed()
+    ensures { FieldsPlaced }
+{}
+
+/// An entry that has a header and strings is read in the present mode, however few bytes its sections have; a refused attribute
+/// alone refuses it.
+pub fn fields_read()
+    ensures { FieldsRead }
 {}
 
 /// Of a field that is accepted, a number below its count of attributes is never refused, and one past it is 14.
