@@ -26,7 +26,7 @@ use Rattle.fields_regrown.specs.Kind.{IsFit}
 abbrev pub FieldsComeBack : Type 0
 FieldsComeBack = (mode : Mode) → ComeBack IsFit field_bytes meant (step_at (field_of mode)) cursor_of (tells (λ (r : AdsFieldInfo). r.length) told_of)
 
--- a step that never gives a record, and one that gives its first answer again
+-- a step that never gives a record, and one that gives a record wherever it is asked
 abbrev pub FieldsShutOut : Type 0
 FieldsShutOut = ShutsOut IsFit field_bytes meant cursor_of (tells (λ (r : AdsFieldInfo). r.length) told_of)
 

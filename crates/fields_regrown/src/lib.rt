@@ -40,7 +40,7 @@ pub fn fields_come_back()
     regrown::come_back::<WrittenFields>()
 }
 
-/// A step that never gives a record, and one that gives its first answer again, do not meet it.
+/// A step that never gives a record, and one that gives a record wherever it is asked, do not meet it.
 pub fn fields_shut_out()
     ensures { FieldsShutOut }
 {}

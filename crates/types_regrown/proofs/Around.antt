@@ -1,4 +1,4 @@
--- A step that never gives a record, and one that gives its first answer again, are shut out.
+-- A step that never gives a record, and one that gives a record wherever it is asked, are shut out.
 use Rattle.std.proofs.Common.{ℕ, ◌≡◌, refl, List, [], arith, Bor}
 use Rattle.std.specs.Prelude.{None, Ok}
 use Rattle.walk.specs.Theorems.{cursor_of}

@@ -21,7 +21,7 @@ use Rattle.types_regrown.specs.Plain.{plain}
 abbrev pub TypesComeBack : Type 0
 TypesComeBack = (mode : Mode) → ComeBack IsFit field_bytes meant (step_at (type_of mode)) cursor_of (tells (λ (r : AdsDataTypeInfo). r.length) told_of)
 
--- a step that never gives a record, and one that gives its first answer again
+-- a step that never gives a record, and one that gives a record wherever it is asked
 abbrev pub TypesShutOut : Type 0
 TypesShutOut = ShutsOut IsFit field_bytes meant cursor_of (tells (λ (r : AdsDataTypeInfo). r.length) told_of)
 

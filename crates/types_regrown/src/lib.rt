@@ -42,7 +42,7 @@ pub fn types_come_back()
     regrown::come_back::<WrittenTypes>()
 }
 
-/// A step that never gives a record, and one that gives its first answer again, do not meet it.
+/// A step that never gives a record, and one that gives a record wherever it is asked, do not meet it.
 pub fn types_shut_out()
     ensures { TypesShutOut }
 {}
