@@ -1,5 +1,4 @@
--- What is known of each answer of a step's own checks, where it meets an entry, and that no step goes back.
-use Rattle.std.specs.Prelude.{if◌then◌else◌}
+-- The five answers of a step's own checks; where it meets an entry; and that no step goes back.
 use Prim.Native.Nat.{ℕ, ◌+◌, ◌-◌, ◌<◌, ◌≤◌}
 use native.Mathlib.Omega.{arith}
 use mathlib.Core.Path.{◌≡◌, refl, ap, ◌∙◌}
@@ -10,36 +9,21 @@ use lib.ListN.{length}
 use borrow.Author.Tests.{leb-true, leb-false, ltb-true, ltb-false}
 use Rattle.le.specs.Le.{le4}
 use Rattle.refusal.specs.Refusal.{limit}
-use Rattle.refusal.specs.declared.Refusal.TheVariants.{TooShort, EntryLengthMismatch, TooLarge}
-use Rattle.std.specs.Prelude.{Some, None, Ok, Err}
+use Rattle.std.specs.Prelude.{Some, Ok}
 use Rattle.entry.specs.declared.Claimed.{Claimed}
-use Rattle.entry.specs.Entry.{claimed, claim_at}
+use Rattle.entry.specs.Entry.{claim_at}
+use Rattle.entry.specs.Claims.{Claims, ended, large, short, beyond, entry, StepClaims}
 
--- the five answers of a step's own checks, each with what is known there
-pub data Claims (s : List ℕ) (at : ℕ) : Claimed → Type 0 where
-  ended : length s ≤ at → Claims s at (claimed None at)
-  large : at < length s → limit < length s → Claims s at (claimed (Some (Err (TooLarge (length s)))) (length s))
-  short : at < length s → length s ≤ limit → length s - at < 4 → Claims s at (claimed (Some (Err (TooShort (at + 4) (length s)))) (length s))
-  beyond : at < length s → length s ≤ limit → 4 ≤ length s - at → length s - at < le4 s at → Claims s at (claimed (Some (Err (EntryLengthMismatch (le4 s at) (length s - at)))) (length s))
-  entry : at < length s → length s ≤ limit → 4 ≤ length s - at → le4 s at ≤ length s - at → Claims s at (claimed (Some (Ok (le4 s at))) (at + le4 s at))
-
-pub claims : (s : List ℕ) (at : ℕ) → Claims s at (claim_at s at)
+pub claims : StepClaims
 unfolding claim_at
 claims s at = by (leb (length s) at) (ltb limit (length s)) (ltb (length s - at) 4) (ltb (length s - at) (le4 s at)) refl refl refl refl
   where
-    by : (p q r t : Bool) → leb (length s) at ≡ p → ltb limit (length s) ≡ q → ltb (length s - at) 4 ≡ r → ltb (length s - at) (le4 s at) ≡ t
-        → Claims s at (
-        if p then claimed None at
-        else if q then claimed (Some (Err (TooLarge (length s)))) (length s)
-        else if r then claimed (Some (Err (TooShort (at + 4) (length s)))) (length s)
-        else if t then claimed (Some (Err (EntryLengthMismatch (le4 s at) (length s - at)))) (length s)
-        else claimed (Some (Ok (le4 s at))) (at + le4 s at)
-        )
-    by true q r t a b c d = ended (leb-true (length s) at a)
-    by false true r t a b c d = large (leb-false (length s) at a) (ltb-true limit (length s) b)
-    by false false true t a b c d = short (leb-false (length s) at a) (ltb-false limit (length s) b) (ltb-true (length s - at) 4 c)
-    by false false false true a b c d = beyond (leb-false (length s) at a) (ltb-false limit (length s) b) (ltb-false (length s - at) 4 c) (ltb-true (length s - at) (le4 s at) d)
-    by false false false false a b c d = entry (leb-false (length s) at a) (ltb-false limit (length s) b) (ltb-false (length s - at) 4 c) (ltb-false (length s - at) (le4 s at) d)
+    by : (p q r t : Bool) → leb (length s) at ≡ p → ltb limit (length s) ≡ q → ltb (length s - at) 4 ≡ r → ltb (length s - at) (le4 s at) ≡ t → Claims s at (claim_at s at)
+    by true q r t a b c d = simp a (ended (leb-true (length s) at a))
+    by false true r t a b c d = simp (a, b) (large (leb-false (length s) at a) (ltb-true limit (length s) b))
+    by false false true t a b c d = simp (a, b, c) (short (leb-false (length s) at a) (ltb-false limit (length s) b) (ltb-true (length s - at) 4 c))
+    by false false false true a b c d = simp (a, b, c, d) (beyond (leb-false (length s) at a) (ltb-false limit (length s) b) (ltb-false (length s - at) 4 c) (ltb-true (length s - at) (le4 s at) d))
+    by false false false false a b c d = simp (a, b, c, d) (entry (leb-false (length s) at a) (ltb-false limit (length s) b) (ltb-false (length s - at) 4 c) (ltb-false (length s - at) (le4 s at) d))
 
 -- where a step meets an entry: its claim, which the upload has room for, moves the cursor
 pub record Meets (s : List ℕ) (at size : ℕ) : Type 0 where

@@ -10,7 +10,8 @@ use Rattle.entry.specs.Entry.{claim_at}
 use Rattle.entry.specs.Walk.{stands, steps_from, steps, cursor_after}
 use Rattle.entry.specs.Bounded.{end_after}
 use Rattle.entry.specs.Theorems.{AllSteps, StepsEnough, ZeroClaims}
-use Rattle.entry.proofs.Claims.{Claims, claims, ended, large, short, beyond, entry, moves-on}
+use Rattle.entry.specs.Claims.{Claims, ended, large, short, beyond, entry}
+use Rattle.entry.proofs.Claims.{claims, moves-on}
 
 -- it is out of steps before the end, where no step stood
 out : (end stood : Bool) → (if end then Ok Finished else if stood then Err ZeroEntryLength else Ok OutOfSteps) ≡ Ok OutOfSteps → (end ≡ false) × (stood ≡ false)

@@ -1,4 +1,7 @@
 pub mod Entry
+pub mod Claims
+pub mod DirectClaims
 pub mod Walk
 pub mod Bounded
+pub mod BoundedMeant
 pub mod Theorems

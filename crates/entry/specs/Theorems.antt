@@ -1,4 +1,4 @@
--- What the theorems say.
+-- docs/FORMAT.md, "Walking". What the theorems of the bounded walk say.
 use Rattle.std.specs.Prelude.{ℕ, ◌<◌, ◌≤◌, ◌≡◌, true, List, Some, Ok, length}
 use Rattle.entry.specs.declared.WalkEnd.TheVariants.{OutOfSteps}
 use Rattle.entry.specs.Entry.{claim_at}

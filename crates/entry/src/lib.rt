@@ -3,7 +3,10 @@
 
 ghost use Rattle.std.specs.Prelude.{◌≡◌};
 ghost use Rattle.entry.specs.Entry.{claim_at, claim_of};
+ghost use Rattle.entry.specs.Claims.{StepClaims};
+ghost use Rattle.entry.specs.DirectClaims.{DirectClaims};
 ghost use Rattle.entry.specs.Bounded.{bounded_walk};
+ghost use Rattle.entry.specs.BoundedMeant.{BoundedMeant};
 ghost use Rattle.entry.specs.Theorems.{AllSteps, StepsEnough, ZeroClaims};
 
 use refusal::{LIMIT, Refusal};
@@ -134,6 +137,21 @@ pub fn bounded_walk(bytes: &[u8], from: usize, allowed: usize) -> Walked
 }
 
 // The theorems. Each is the contract of a function that does nothing, so that none goes unnoticed if its proof does.
+
+/// A step meets the end, 5, 2, 3 or a claim, each where the bytes say so, and goes where docs/FORMAT.md, "Walking", says.
+pub fn step_claims()
+    ensures { StepClaims }
+{}
+
+/// A direct parse meets 5, 2, 3, 4 or a whole entry, each where the bytes say so.
+pub fn direct_claims()
+    ensures { DirectClaims }
+{}
+
+/// The bounded walk goes from claim to claim: it is finished at the end, stopped with 10 at a claim of 0, that step counted, and else out of steps where it made all that were allowed.
+pub fn bounded_meant()
+    ensures { BoundedMeant }
+{}
 
 /// The bounded walk leaves out no step: it is out of steps only where it made all that were allowed, and the whole walk never is.
 pub fn all_steps()

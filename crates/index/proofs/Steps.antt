@@ -11,7 +11,8 @@ use Rattle.refusal.specs.declared.Refusal.TheVariants.{TooShort}
 use Rattle.entry.specs.declared.Claimed.{Claimed}
 use Rattle.entry.specs.Entry.{claim_at}
 use Rattle.entry.specs.Walk.{stands, steps_from, steps}
-use Rattle.entry.proofs.Claims.{Claims, claims, ended, large, short, beyond, entry}
+use Rattle.entry.specs.Claims.{Claims, ended, large, short, beyond, entry}
+use Rattle.entry.proofs.Claims.{claims}
 use Rattle.walk.specs.Zero.{is_zero}
 use Rattle.walk.specs.Step.{step_at}
 use Rattle.walk.specs.Pieces.{piece_at}

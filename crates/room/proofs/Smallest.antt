@@ -17,7 +17,8 @@ use Rattle.refusal.specs.declared.Mode.TheVariants.{Present, Checked}
 use Rattle.entry.specs.Entry.{claim_at}
 use Rattle.entry.specs.declared.Claimed.{Claimed}
 use Rattle.entry.specs.Walk.{stands, steps_from}
-use Rattle.entry.proofs.Claims.{Claims, claims, ended, large, short, beyond, entry}
+use Rattle.entry.specs.Claims.{Claims, ended, large, short, beyond, entry}
+use Rattle.entry.proofs.Claims.{claims}
 use Rattle.walk.specs.Step.{step_at}
 use Rattle.attribute.specs.Attribute.{ends}
 use Rattle.symbol.specs.Symbol.{guid_of, attributes_of, extended_of, refactor_infos_of, with_strings, symbol_ended, ended_symbol, symbol_of}

@@ -17,7 +17,8 @@ use Rattle.refusal.specs.declared.Refusal.TheVariants.{TooShort, EntryLengthMism
 use Rattle.entry.specs.declared.Claimed.{Claimed}
 use Rattle.entry.specs.Entry.{claim_at}
 use Rattle.entry.specs.Walk.{stands, steps}
-use Rattle.entry.proofs.Claims.{Claims, claims, ended, large, short, beyond, entry}
+use Rattle.entry.specs.Claims.{Claims, ended, large, short, beyond, entry}
+use Rattle.entry.proofs.Claims.{claims}
 use Rattle.walk.specs.Mapped.{map_ok}
 use Rattle.walk.specs.declared.Piece.{Piece}
 use Rattle.walk.specs.Step.{step_at}

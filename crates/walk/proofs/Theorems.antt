@@ -11,7 +11,8 @@ use Rattle.refusal.specs.declared.Refusal.{Refusal}
 use Rattle.entry.specs.Entry.{claim_at, claim_of}
 use Rattle.entry.specs.declared.Claimed.{Claimed}
 use Rattle.entry.specs.Walk.{stands, steps_from, steps, OneWalk}
-use Rattle.entry.proofs.Claims.{meets, Claims, ended, large, short, beyond, entry, claims}
+use Rattle.entry.specs.Claims.{Claims, ended, large, short, beyond, entry}
+use Rattle.entry.proofs.Claims.{meets, claims}
 use Rattle.entry.proofs.Direct.{part_long, claims_own, own_again}
 use Rattle.entry.proofs.Laws.{one-walk}
 use Rattle.walk.specs.Step.{step_at}
