@@ -1,4 +1,4 @@
--- The pieces of an upload: what stands from each place where the walk goes on up to the next.
+-- docs/FORMAT.md, "Walking". The pieces of an upload: what stands from each place where the walk goes on up to the next.
 use Rattle.std.specs.Prelude.{ℕ, zero, suc, ◌-◌, ◌≡◌, List, [], ◌∷◌, leb, length, Option, Some, None, Result, Err, if◌then◌else◌}
 use Rattle.std.specs.Borrow.{Bor}
 use Rattle.std.specs.Iterator.{YieldsFirst}

@@ -1,4 +1,4 @@
--- What the theorems say.
+-- docs/FORMAT.md, "Walking" and "Direct reading". What the theorems say.
 use Rattle.std.specs.Prelude.{ℕ, ◌+◌, ◌<◌, ◌≤◌, ◌≡◌, List, map, length, Result, Some, Ok, Err}
 use Rattle.std.specs.Borrow.{Bor}
 use Rattle.le.specs.Le.{le4}

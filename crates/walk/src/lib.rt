@@ -11,6 +11,8 @@ ghost use Rattle.entry.specs.Walk.{OneWalk};
 ghost use Rattle.entry.specs.Bounded.{bounded_walk};
 ghost use Rattle.walk.specs.Zero.{is_zero};
 ghost use Rattle.walk.specs.Step.{parse_of, step_at, walker_step};
+ghost use Rattle.walk.specs.Steps.{StepsMeant};
+ghost use Rattle.walk.specs.Direct.{ParsesMeant};
 ghost use Rattle.walk.specs.Pieces.{piece_at, pieces, walker_left, NextGives};
 ghost use Rattle.walk.specs.Theorems.{cursor_of, StepsRead, PiecesAreSteps, PiecesTellSteps, BehindIsUnread};
 
@@ -219,6 +221,16 @@ impl<'a, E: Entry<'a>> Iterator for Walker<'a, E> {
 /// A step iterated by its own cursor is the one walk.
 pub fn one_walk<'a, E: Entry<'a>>()
     ensures { (mode : Mode) → OneWalk (step_at (E.read mode)) cursor_of }
+{}
+
+/// A step is finished at the end, refuses with 5, 2 or 3 and goes to the end, or moves by the claim and gives what the entry's own bytes give: 2 where they are fewer than a header.
+pub fn steps_meant<'a, E: Entry<'a>>()
+    ensures { (mode : Mode) → StepsMeant E.HEADER (E.read mode) }
+{}
+
+/// A direct parse refuses with 5, 2, 3 or 4, or gives what the bytes of the claim give.
+pub fn parses_meant<'a, E: Entry<'a>>()
+    ensures { (mode : Mode) → ParsesMeant E.HEADER (E.read mode) }
 {}
 
 /// A step that gives a record gives what a direct parse of the entry's bytes gives, and moves by the record's length.
