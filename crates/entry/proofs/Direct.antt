@@ -20,7 +20,7 @@ unfolding le.part
 part_long s at size h = length_part s.now at size h
 
 -- the bytes of an entry are those of its claim, where they hold it
-own_claim : (s : List ℕ) (at size : ℕ) → 4 ≤ size → le4 (le.part s at size) 0 ≡ le4 s at
+pub own_claim : (s : List ℕ) (at size : ℕ) → 4 ≤ size → le4 (le.part s at size) 0 ≡ le4 s at
 unfolding le4
 own_claim s at size h =
     simp (get_d_part s at size 0 0 (omega arith), get_d_part s at size 1 0 (omega arith), get_d_part s at size 2 0 (omega arith), get_d_part s at size 3 0 (omega arith), add-zero)

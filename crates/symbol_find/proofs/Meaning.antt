@@ -1,19 +1,21 @@
 -- What finding means: proved.
 use Rattle.std.proofs.Common.{ℕ, ◌≤◌, ◌≡◌, refl, sym, ap, ◌∙◌, Bool, true, false, List, [], ◌∷◌, ◌++◌, length, Bor, if◌then◌else◌}
-use Rattle.std.specs.Prelude.{ltb, ◌||◌, filter, take, Option, Some, None, Result, Ok, Err, ok_or}
+use Rattle.std.specs.Prelude.{ltb, ◌<◌, ◌||◌, All, filter, take, Option, Some, None, Result, Ok, Err, ok_or}
 use Rattle.std.specs.List.{find as first_of, list_any}
-use borrow.Author.Tests.{le-ltb}
+use Rattle.std.proofs.lemmas.List.Elements.{All-nil, All-cons, All-head, All-tail}
+use borrow.Author.Tests.{le-ltb, ltb-false, lt-ltb}
 use Rattle.le.proofs.Laws.{not-both}
 use Rattle.refusal.specs.Refusal.{limit}
 use Rattle.refusal.specs.declared.Mode.{Mode}
 use Rattle.refusal.specs.declared.Refusal.{Refusal}
-use Rattle.refusal.specs.declared.Refusal.TheVariants.{TooLarge}
+use Rattle.refusal.specs.declared.Refusal.TheVariants.{TooLarge, ZeroEntryLength, NameNotFound}
 use Rattle.names.specs.Names.{same_name}
 use Rattle.names.proofs.Laws.{same_either}
 use Rattle.entry.specs.Walk.{stands, steps}
 use Rattle.writing.specs.Writing.{Writes}
 use Rattle.walk.specs.Step.{step_at}
 use Rattle.walk.proofs.Theorems.{reads}
+use Rattle.walk.proofs.Back.{steps_back}
 use Rattle.symbol.specs.declared.AdsSymbolInfo.{AdsSymbolInfo}
 use Rattle.symbol.specs.Symbol.{symbol_of}
 use Rattle.symbol.specs.Head.{head_of}
@@ -22,7 +24,7 @@ use Rattle.index.specs.Index.{indexing}
 use Rattle.index.specs.Steps.{is_record, gives, BySteps}
 use Rattle.index.proofs.Meaning.{built}
 use Rattle.symbol_find.specs.Find.{has_name, is_named, find, find_indexed}
-use Rattle.symbol_find.specs.Meaning.{HasName, Finds, FoundIsFirst, RefusedIsNowhere, AnyCase, SameFind}
+use Rattle.symbol_find.specs.Meaning.{HasName, Nowhere, Finds, Answers, FoundIsFirst, RefusedIsNowhere, FindMeant, AnyCase, SameFind}
 use Rattle.symbol_find.proofs.Alike.{gives_alike, heads, symbols}
 
 -- the first of some places that passes a test
@@ -53,13 +55,30 @@ module _ (test : ℕ → Bool) (other : Refusal) where
       turn on true k = cc
       turn on false k = on k
 
+  -- the first that passes, where none before it does; and where none does, none is found
+  first_at : (before behind : List ℕ) (at : ℕ) → list_any test before ≡ false → test at ≡ true → first_of test (before ++ (at ∷ behind)) ≡ Some at
+  first_at [] behind at h e = simp e
+  first_at (x ∷ before) behind at h e = turn (λ k. first_at before behind at k e) (test x) h
+    where
+      turn : (list_any test before ≡ false → first_of test (before ++ (at ∷ behind)) ≡ Some at) → (t : Bool) → (t || list_any test before) ≡ false → (if t then Some x else first_of test (before ++ (at ∷ behind))) ≡ Some at
+      turn on true k = absurd (not-both refl k)
+      turn on false k = on k
+
+  first_none : (places : List ℕ) → list_any test places ≡ false → first_of test places ≡ None
+  first_none [] h = refl
+  first_none (x ∷ more) h = turn (first_none more) (test x) h
+    where
+      turn : (list_any test more ≡ false → first_of test more ≡ None) → (t : Bool) → (t || list_any test more) ≡ false → (if t then Some x else first_of test more) ≡ None
+      turn on true k = absurd (not-both refl k)
+      turn on false k = on k
+
 within : (b : Bool) (large : Refusal) (y : Result ℕ Refusal) (at : ℕ) → (if b then Err large else y) ≡ Ok at → y ≡ Ok at
 within true large y at h = cc
 within false large y at h = h
 
 module _ (mode : Mode) (s : Bor (List ℕ)) (name : List ℕ) where
   -- the symbol of a place with a name is what its entry gives when it is read by itself
-  has_of : (at : ℕ) → is_named mode s name at ≡ true → HasName mode s name at
+  pub has_of : (at : ℕ) → is_named mode s name at ≡ true → HasName mode s name at
   unfolding is_named
   has_of at h = by (step_at (symbol_of mode) s at).answer refl h
     where
@@ -70,32 +89,79 @@ module _ (mode : Mode) (s : Bor (List ℕ)) (name : List ℕ) where
           let r = reads (symbol_of mode) 30 (λ r. r.length) kind.four (kind.long mode) (kind.room mode) s at symbol e in
           record { symbol = symbol; read = r.answers; named = h }
 
-  finds : (places : List ℕ) (other : Refusal) (at : ℕ) → ok_or (first_of (is_named mode s name) places) other ≡ Ok at → Finds mode s name places at
-  finds places other at h =
+  -- and a place with a name is a step that gives its symbol
+  named_of : (at : ℕ) → length s.now ≤ limit → HasName mode s name at → is_named mode s name at ≡ true
+  unfolding is_named
+  named_of at small h = simp (steps_back (symbol_of mode) 30 (λ r. r.length) kind.four (kind.long mode) s at h.symbol small h.read) h.named
+
+  nowhere_of : (places : List ℕ) → length s.now ≤ limit → list_any (is_named mode s name) places ≡ false → Nowhere mode s name places
+  nowhere_of [] small h = All-nil _
+  nowhere_of (x ∷ more) small h = turn (nowhere_of more small) (is_named mode s name x) refl h
+    where
+      turn : (list_any (is_named mode s name) more ≡ false → Nowhere mode s name more) → (t : Bool) → is_named mode s name x ≡ t → (t || list_any (is_named mode s name) more) ≡ false → Nowhere mode s name (x ∷ more)
+      turn on true e k = absurd (not-both refl k)
+      turn on false e k = All-cons (λ at. ¬ HasName mode s name at) x more (λ has. not-both (named_of x small has) e) (on k)
+
+  none_named : (places : List ℕ) → Nowhere mode s name places → list_any (is_named mode s name) places ≡ false
+  none_named [] h = refl
+  none_named (x ∷ more) h = turn (none_named more (All-tail (λ at. ¬ HasName mode s name at) x more h)) (is_named mode s name x) refl
+    where
+      turn : list_any (is_named mode s name) more ≡ false → (t : Bool) → is_named mode s name x ≡ t → (t || list_any (is_named mode s name) more) ≡ false
+      turn on true e = absurd (All-head (λ at. ¬ HasName mode s name at) x more h (has_of x e))
+      turn on false e = on
+
+  finds : (places : List ℕ) (other : Refusal) (at : ℕ) → length s.now ≤ limit → ok_or (first_of (is_named mode s name) places) other ≡ Ok at → Finds mode s name places at
+  finds places other at small h =
       let f = first_is (is_named mode s name) other places at h in
-      record { before = f.before; behind = f.behind; among = f.among; has = has_of at f.passes; first = f.none }
+      record { before = f.before; behind = f.behind; among = f.among; has = has_of at f.passes; first = nowhere_of f.before small f.none }
+
+  answers : (places : List ℕ) (other : Refusal) (r : Result ℕ Refusal) → r ≡ (if ltb limit (length s.now) then Err (TooLarge (length s.now)) else ok_or (first_of (is_named mode s name) places) other) → Answers mode s name places other r
+  answers places other r e = record {
+    too_large = λ large. e ∙ simp (lt-ltb limit (length s.now) large);
+    found = λ at small f. e ∙ simp (le-ltb limit (length s.now) small, f.among, first_at (is_named mode s name) other f.before f.behind at (none_named f.before f.first) (named_of at small f.has));
+    nowhere = λ small none. e ∙ simp (le-ltb limit (length s.now) small, first_none (is_named mode s name) other places (none_named places none));
+  }
+
+small_of : (b : Bool) (n m : ℕ) (large : Refusal) (y : Result ℕ Refusal) (at : ℕ) → ltb n m ≡ b → (if b then Err large else y) ≡ Ok at → m ≤ n
+small_of true n m large y at e h = cc
+small_of false n m large y at e h = ltb-false n m e
 
 walked_first : (mode : Mode) (s : Bor (List ℕ)) (name : List ℕ) (at : ℕ) → find mode s name ≡ Ok at → Finds mode s name (steps s.now) at
 unfolding find
-walked_first mode s name at h = finds mode s name (steps s.now) _ at (within (ltb limit (length s.now)) (TooLarge (length s.now)) _ at h)
+walked_first mode s name at h = finds mode s name (steps s.now) _ at (small_of (ltb limit (length s.now)) limit (length s.now) (TooLarge (length s.now)) _ at refl h) (within (ltb limit (length s.now)) (TooLarge (length s.now)) _ at h)
 
 indexed_first : (mode : Mode) (s : Bor (List ℕ)) (slots name : List ℕ) (at : ℕ) → find_indexed mode s slots name ≡ Ok at → Finds mode s name slots at
 unfolding find_indexed
-indexed_first mode s slots name at h = finds mode s name slots _ at (within (ltb limit (length s.now)) (TooLarge (length s.now)) _ at h)
+indexed_first mode s slots name at h = finds mode s name slots _ at (small_of (ltb limit (length s.now)) limit (length s.now) (TooLarge (length s.now)) _ at refl h) (within (ltb limit (length s.now)) (TooLarge (length s.now)) _ at h)
 
 pub found_is_first : FoundIsFirst find find_indexed
 found_is_first = record { walk = walked_first; index = indexed_first }
 
-walked_nowhere : (mode : Mode) (s : Bor (List ℕ)) (name : List ℕ) (why : Refusal) → length s.now ≤ limit → find mode s name ≡ Err why → list_any (is_named mode s name) (steps s.now) ≡ false
+walked_nowhere : (mode : Mode) (s : Bor (List ℕ)) (name : List ℕ) (why : Refusal) → length s.now ≤ limit → find mode s name ≡ Err why → Nowhere mode s name (steps s.now)
 unfolding find
-walked_nowhere mode s name why small h = nowhere (is_named mode s name) _ (steps s.now) why (simp (le-ltb limit (length s.now) small) at h)
+walked_nowhere mode s name why small h = nowhere_of mode s name (steps s.now) small (nowhere (is_named mode s name) _ (steps s.now) why (simp (le-ltb limit (length s.now) small) at h))
 
-indexed_nowhere : (mode : Mode) (s : Bor (List ℕ)) (slots name : List ℕ) (why : Refusal) → length s.now ≤ limit → find_indexed mode s slots name ≡ Err why → list_any (is_named mode s name) slots ≡ false
+indexed_nowhere : (mode : Mode) (s : Bor (List ℕ)) (slots name : List ℕ) (why : Refusal) → length s.now ≤ limit → find_indexed mode s slots name ≡ Err why → Nowhere mode s name slots
 unfolding find_indexed
-indexed_nowhere mode s slots name why small h = nowhere (is_named mode s name) _ slots why (simp (le-ltb limit (length s.now) small) at h)
+indexed_nowhere mode s slots name why small h = nowhere_of mode s name slots small (nowhere (is_named mode s name) _ slots why (simp (le-ltb limit (length s.now) small) at h))
 
 pub refused_is_nowhere : RefusedIsNowhere find find_indexed
 refused_is_nowhere = record { walk = walked_nowhere; index = indexed_nowhere }
+
+walked_meant : (mode : Mode) (s : Bor (List ℕ)) (name : List ℕ) (other : Refusal) → (if list_any (stands s.now) (steps s.now) then ZeroEntryLength else NameNotFound) ≡ other → Answers mode s name (steps s.now) other (find mode s name)
+unfolding find
+walked_meant mode s name other e = answers mode s name (steps s.now) other (find mode s name) (simp e)
+
+indexed_meant : (mode : Mode) (s : Bor (List ℕ)) (slots name : List ℕ) → Answers mode s name slots NameNotFound (find_indexed mode s slots name)
+unfolding find_indexed
+indexed_meant mode s slots name = answers mode s name slots NameNotFound (find_indexed mode s slots name) refl
+
+pub find_meant : FindMeant find find_indexed
+find_meant = record {
+  stood = λ mode s name e. walked_meant mode s name ZeroEntryLength (simp e);
+  walk = λ mode s name e. walked_meant mode s name NameNotFound (simp e);
+  index = indexed_meant;
+}
 
 -- the case that a name is typed in makes no difference
 module _ (mode : Mode) (s : Bor (List ℕ)) (name typed : List ℕ) (same : same_name name typed ≡ true) where

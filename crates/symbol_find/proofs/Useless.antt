@@ -1,9 +1,8 @@
 -- Useless finding is shut out: by an upload of one symbol with no name, and by the empty one.
-use Rattle.std.proofs.Common.{ℕ, zero, suc, ◌≡◌, refl, true, List, [], ◌∷◌, ◌++◌, take, arith, Bor}
+use Rattle.std.proofs.Common.{ℕ, zero, suc, ◌≡◌, refl, subst, true, List, [], ◌∷◌, ◌++◌, take, arith, Bor}
 use Rattle.std.specs.Prelude.{Ok}
-use Rattle.std.specs.List.{list_any}
+use Rattle.std.proofs.lemmas.List.Elements.{All-head}
 use Rattle.le.specs.Le.{le2, le4}
-use Rattle.le.proofs.Laws.{not-both}
 use Rattle.part.specs.Slice.{part}
 use Rattle.refusal.specs.declared.Mode.TheVariants.{Present}
 use Rattle.entry.specs.Entry.{claim_at, claim_of}
@@ -14,7 +13,8 @@ use Rattle.le.specs.Same.{equal_bytes}
 use Rattle.symbol.specs.declared.AdsSymbolInfo.{AdsSymbolInfo}
 use Rattle.symbol.specs.Symbol.{guid_of, attributes_of, extended_of, refactor_infos_of, with_strings, ended_symbol, symbol_of}
 use Rattle.symbol_find.specs.Find.{is_named}
-use Rattle.symbol_find.specs.Meaning.{Finds, UselessShutOut}
+use Rattle.symbol_find.specs.Meaning.{HasName, Nowhere, Finds, UselessShutOut}
+use Rattle.symbol_find.proofs.Meaning.{has_of}
 
 abbrev lying : List ℕ → Bor (List ℕ)
 lying s = record { ref_ptr = (0, 0); now = s }
@@ -27,12 +27,15 @@ named_there : is_named Present one [] 0 ≡ true
 unfolding le2 le4 claim_at step_at fold folded same_name equal_bytes guid_of attributes_of extended_of refactor_infos_of with_strings ended_symbol symbol_of is_named
 named_there = refl
 
-walked_there : list_any (is_named Present one []) (steps one.now) ≡ true
-unfolding le4 claim_at steps steps_from
-walked_there = simp named_there
+has_there : HasName Present one [] 0
+has_there = has_of Present one [] 0 named_there
 
-slot_there : list_any (is_named Present one []) (0 ∷ []) ≡ true
-slot_there = simp named_there
+somewhere : (more : List ℕ) → Nowhere Present one [] (0 ∷ more) → ⊥
+somewhere more none = All-head (λ at. ¬ HasName Present one [] at) 0 more none has_there
+
+walked_there : steps one.now ≡ 0 ∷ []
+unfolding le4 claim_at steps steps_from
+walked_there = refl
 
 -- nothing has a name where there is nothing
 none_taken : (n : ℕ) → ◌≡◌ {A = List ℕ} (take n []) []
@@ -53,9 +56,9 @@ none_found name at f = among_none f.before f.behind at f.among
 pub useless_shut_out : UselessShutOut
 unfolding steps steps_from
 useless_shut_out = record {
-  refuses = λ why indexed r. not-both walked_there (r.walk Present one [] why (omega arith) refl);
+  refuses = λ why indexed r. somewhere [] (subst (Nowhere Present one []) walked_there (r.walk Present one [] why (omega arith) refl));
   answers = λ at indexed r. none_found [] at (r.walk Present (lying []) [] at refl);
-  refuses_slots = λ why walked r. not-both slot_there (r.index Present one (0 ∷ []) [] why (omega arith) refl);
+  refuses_slots = λ why walked r. somewhere [] (r.index Present one (0 ∷ []) [] why (omega arith) refl);
   answers_slots = λ at walked r. none_found [] at (r.index Present (lying []) [] [] at refl);
   answers_first = λ why walked r. let f = r.index Present (lying []) (0 ∷ []) [] 0 refl in none_read (part (lying []) 0 f.has.symbol.length) f.has.symbol (none_taken f.has.symbol.length) f.has.read;
 }

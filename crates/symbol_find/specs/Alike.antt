@@ -1,4 +1,4 @@
--- An index that looks at heads is that of the symbols.
+-- docs/FORMAT.md, "Index" and "Finding". An index that looks at heads is that of the symbols.
 use Rattle.std.specs.Prelude.{◌≡◌, List, ℕ}
 use Rattle.std.specs.Borrow.{Bor}
 use Rattle.refusal.specs.declared.Mode.{Mode}

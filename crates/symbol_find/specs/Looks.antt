@@ -1,4 +1,4 @@
--- What finding looks at before it reads an entry.
+-- docs/FORMAT.md, "Finding". What finding looks at before it reads an entry.
 use Rattle.std.specs.Prelude.{ℕ, ◌+◌, ◌*◌, Bool, false, List, ltb, eqb, length, if◌then◌else◌}
 use Rattle.le.specs.Le.{le2, part}
 use Rattle.names.specs.Near.{low, ends_near}

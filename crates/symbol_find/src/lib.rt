@@ -7,7 +7,7 @@ ghost use Rattle.symbol.specs.Head.{head_of};
 ghost use Rattle.symbol_find.specs.Looks.{look_of, looks_named};
 ghost use Rattle.symbol_find.specs.Unread.{unread_of, four, long, room, short, never_zero};
 ghost use Rattle.symbol_find.specs.Find.{has_name, is_named, find, find_indexed};
-ghost use Rattle.symbol_find.specs.Meaning.{FoundIsFirst, RefusedIsNowhere, AnyCase, SameFind, UselessShutOut};
+ghost use Rattle.symbol_find.specs.Meaning.{FoundIsFirst, RefusedIsNowhere, FindMeant, AnyCase, SameFind, UselessShutOut};
 ghost use Rattle.symbol_find.specs.Alike.{IndexedAlike};
 
 use refusal::{LIMIT, Mode, Refusal};
@@ -204,6 +204,11 @@ pub fn found_is_first()
 /// Where an upload within the limit is refused, no step of its walk has the name; through an index, no slot.
 pub fn refused_is_nowhere()
     ensures { RefusedIsNowhere find find_indexed }
+{}
+
+/// An upload above the limit is refused by 5; within it the first that has the name is answered; where none has it, it is 10 where a step of the walk stands, and else, as through an index, 13.
+pub fn find_meant()
+    ensures { FindMeant find find_indexed }
 {}
 
 /// A name in any case is found as in any other.
