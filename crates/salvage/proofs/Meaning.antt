@@ -6,7 +6,7 @@ use Rattle.std.proofs.lemmas.List.{length-map}
 use lib.ListN.{length-take, drop_of_length-le}
 use lib.Seq.{take_at, drop_at}
 use Rattle.std.specs.Prelude.{Some, Ok, Err, is_ok, leb, ltb, if◌then◌else◌}
-use borrow.Author.Tests.{leb-true, leb-false, ltb-false, le-ltb, eqb-true}
+use borrow.Author.Tests.{leb-true, leb-false, ltb-false, le-ltb, lt-ltb, eqb-true}
 use Rattle.le.specs.Le.{le4}
 use Rattle.le.specs.Le as le
 use Rattle.le.proofs.Laws.{not-both, drop-part}
@@ -28,11 +28,11 @@ use Rattle.walk.proofs.Theorems.{pieces_are}
 use Rattle.index.specs.Index.{starts}
 use Rattle.regrown.specs.Regrown.{Tells, Entry, Refused, lying}
 use Rattle.salvage.specs.declared.Salvaged.{Salvaged}
-use Rattle.salvage.specs.Both.{Writings, wrote, WritesBoth}
+use Rattle.salvage.specs.Both.{Writings, answer, wrote, WritesBoth}
 use Rattle.salvage.specs.Salvage.{run_of, kept, dropped, salvaging}
 use Rattle.salvage.specs.Meaning as meaning
-use Rattle.salvage.specs.Meaning.{relaid, told_at, Cover, Salvages, Wrote, Meant, SalvageMeant}
-use Rattle.salvage.proofs.Promise.{salvage_both}
+use Rattle.salvage.specs.Meaning.{relaid, told_at, Cover, Salvages, Wrote, Answers, Meant, SalvageMeant}
+use Rattle.salvage.proofs.Promise.{salvage_large, salvage_both}
 use Rattle.salvage.proofs.Entries as entries
 
 -- induction over the pieces of an upload, from the last one on
@@ -373,10 +373,23 @@ module _ {R S : Type 0} (read : Bor (List ℕ) → Result R Refusal) (length_of 
         let u = le-ltb (length runs) (length (dropped (pieces read s))) (omega (arith, few)) in
         w.said ∙ simp (salvage_both read s small, t, u)
 
+    answers : {out runs out' runs' : List ℕ} {r : Result Salvaged Refusal} → WritesBoth (salvaging read s) out runs out' runs' r → Answers out runs (kept s.now (pieces read s)) (dropped (pieces read s)) r
+    answers {out} {runs} w =
+        let bs : List ℕ = kept s.now (pieces read s) in
+        let ns : List ℕ = dropped (pieces read s) in
+        let both = salvage_both read s small in
+        record {
+          few_bytes = λ h. w.said ∙ simp (both, lt-ltb (length out) (length bs) h);
+          few_slots = λ h k. w.said ∙ simp (both, le-ltb (length out) (length bs) h, lt-ltb (length runs) (length ns) k);
+          enough = λ h k. w.said ∙ simp (both, le-ltb (length out) (length bs) h, le-ltb (length runs) (length ns) k);
+        }
+
   pub salvage_meant_of : SalvageMeant read length_of told Reason
   unfolding salvaging
   salvage_meant_of s out runs out' runs' r w =
       record {
+        too_large = λ large. w.said ∙ ap (λ x. answer x (length out) (length runs)) (salvage_large read s large);
+        within = λ small. (kept s.now (pieces read s), dropped (pieces read s), salvages s small, answers s small w);
         wrote_it = λ bytes slots e.
             let d = wrote_by (ltb limit (length s.now)) _ (kept s.now (pieces read s)) (dropped (pieces read s)) (subst (WritesBoth (salvaging read s) out runs out' runs') e w) in
             record {

@@ -5,6 +5,7 @@ use Rattle.le.specs.Le.{part}
 use Rattle.refusal.specs.Refusal.{limit}
 use Rattle.refusal.specs.declared.Figures.{Figures}
 use Rattle.refusal.specs.declared.Refusal.{Refusal}
+use Rattle.refusal.specs.declared.Refusal.TheVariants.{TooLarge, OutputTooSmall}
 use Rattle.entry.specs.Walk.{steps, walk}
 use Rattle.walk.specs.Step.{step_at}
 use Rattle.walk.specs.Theorems.{cursor_of}
@@ -22,6 +23,12 @@ relaid at [] = End at ∷ []
 relaid at (Entry r size next ∷ more) = Entry r size (at + size) ∷ relaid (at + size) more
 relaid at (Refused figures next ∷ more) = relaid at more
 relaid at (End next ∷ more) = relaid at more
+
+-- the answer where these bytes are to be kept and these slots to be listed, in cases of which exactly one holds: 6 for the upload, then 6 for the list, each with what is needed and what is lent; else what was written
+pub record Answers (out runs new slots : List ℕ) (r : Result Salvaged Refusal) : Type 0 where
+  pub few_bytes : length out < length new → r ≡ Err (OutputTooSmall (length new) (length out))
+  pub few_slots : length new ≤ length out → length runs < length slots → r ≡ Err (OutputTooSmall (length slots) (length runs))
+  pub enough : length new ≤ length out → length slots ≤ length runs → r ≡ Ok (wrote (length new) (length slots))
 
 -- `read` is a mode's reader of an entry's own bytes, `Reason` the numbers that a step within an upload of no more than the limit is refused with
 module _ {R S : Type 0} (read : Bor (List ℕ) → Result R Refusal) (length_of : R → ℕ) (told : R → S) (Reason : ℕ → Type 0) where
@@ -71,8 +78,10 @@ module _ {R S : Type 0} (read : Bor (List ℕ) → Result R Refusal) (length_of 
     pub salvages : Salvages s (take bytes out') (take slots runs')
     pub behind : (drop bytes out' ≡ drop bytes out) × (drop slots runs' ≡ drop slots runs)
 
-  -- and it does answer so of an upload within the limit, if it is lent as many bytes as the upload has and three slots for every step
+  -- above the limit 5; within it there is what is kept and what is listed, and they decide. It is done if it is lent as many bytes as the upload has and three slots for every step
   pub record Meant (s : Bor (List ℕ)) (out runs out' runs' : List ℕ) (r : Result Salvaged Refusal) : Type 0 where
+    pub too_large : limit < length s.now → r ≡ Err (TooLarge (length s.now))
+    pub within : length s.now ≤ limit → (new : List ℕ) × (slots : List ℕ) × Salvages s new slots × Answers out runs new slots r
     pub wrote_it : (bytes slots : ℕ) → r ≡ Ok (wrote bytes slots) → Wrote s out runs out' runs' bytes slots
     pub refused : (why : Refusal) → r ≡ Err why → (out' ≡ out) × (runs' ≡ runs)
     pub done_it : length s.now ≤ limit → length s.now ≤ length out → 3 * length (steps s.now) ≤ length runs → (bytes : ℕ) × (slots : ℕ) × (r ≡ Ok (wrote bytes slots))
