@@ -16,7 +16,7 @@ use Rattle.writing.specs.Writing.{answer, Writes}
 use Rattle.walk.specs.Pieces.{pieces}
 use Rattle.index.specs.Index.{starts, stopped, indexing}
 use Rattle.index.specs.Steps.{gives, BySteps}
-use Rattle.index.specs.Meaning.{Ascends, done, next, needed, StartsAscend, BuiltLength, IndexMeant}
+use Rattle.index.specs.Meaning.{Ascends, done, next, needed, StartsAscend, IsIndex, IndexMeant}
 use Rattle.index.proofs.Laws.{index_large, index_zero, index_starts}
 
 weaker : (least less : ℕ) {l : List ℕ} → less ≤ least → Ascends least l → Ascends less l
@@ -96,8 +96,8 @@ module _ {R : Type 0} (read : Bor (List ℕ) → Result R Refusal) (steps_are : 
   number_is : (s : Bor (List ℕ)) → length (starts (pieces read s)) ≡ needed read s
   number_is s = ap length (steps_are.starts-are s) ∙ length-filter (gives read s) (steps s.now)
 
-  pub built_length_of : BuiltLength read
-  built_length_of s old new n w =
+  index_of : (s : Bor (List ℕ)) (old new : List ℕ) (n : ℕ) → Writes (indexing read s) old new (Ok n) → IsIndex read s old new n
+  index_of s old new n w =
       let b = built read s old new n w in
       record { counts = sym b.long ∙ number_is s; fits = b.fits; holds = b.first ∙ steps_are.starts-are s; behind = b.rest }
 
@@ -113,6 +113,6 @@ module _ {R : Type 0} (read : Bor (List ℕ) → Result R Refusal) (steps_are : 
         zero_claim = λ small stood. w.said ∙ ap (λ x. answer x (length old)) (index_zero read s small (steps_are.stopped-is s ∙ stood));
         too_few = λ small none few. answered s old new r w small none ∙ simp (lt-ltb (length old) (needed read s) few);
         enough = λ small none fits. answered s old new r w small none ∙ simp (le-ltb (length old) (needed read s) fits);
-        built = λ n e. built_length_of s old new n (subst (Writes (indexing read s) old new) e w);
+        built = λ n e. index_of s old new n (subst (Writes (indexing read s) old new) e w);
         refused = λ why e. untouched (indexing read s) (subst (Writes (indexing read s) old new) e w);
       }

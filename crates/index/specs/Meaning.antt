@@ -1,4 +1,4 @@
--- What an index means.
+-- docs/FORMAT.md, "Index". What an index means.
 use Rattle.std.specs.Borrow.{Bor}
 use Rattle.std.specs.Prelude.{ℕ, suc, ◌<◌, ◌≤◌, ◌≡◌, true, false, List, [], ◌∷◌, Result, Ok, Err, length, take, drop, filter, count_by}
 use Rattle.std.specs.List.{list_any}
@@ -31,9 +31,6 @@ module _ {R : Type 0} (read : Bor (List ℕ) → Result R Refusal) where
     pub fits : n ≤ length new
     pub holds : take n new ≡ filter (gives read s) (steps s.now)
     pub behind : drop n new ≡ drop n old
-
-  abbrev pub BuiltLength : Type 0
-  BuiltLength = (s : Bor (List ℕ)) (old new : List ℕ) (n : ℕ) → Writes (indexing read s) old new (Ok n) → IsIndex s old new n
 
   -- the answer to each upload, in four cases of which exactly one holds: above the limit; a step of its walk stands; too few slots; none of these
   pub record Meant (s : Bor (List ℕ)) (old new : List ℕ) (r : Result ℕ Refusal) : Type 0 where

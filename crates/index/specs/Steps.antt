@@ -1,4 +1,4 @@
--- The same, by the steps of the walk: the walk's own definition of them, and what a step gives.
+-- docs/FORMAT.md, "Index". The same, by the steps of the walk: the walk's own definition of them, and what a step gives.
 use Rattle.std.specs.Borrow.{Bor}
 use Rattle.std.specs.Prelude.{ℕ, Result, ◌≡◌, Bool, true, false, List, filter, Some, None, Ok, Err}
 use Rattle.std.specs.List.{list_any}

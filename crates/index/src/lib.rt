@@ -9,7 +9,7 @@ ghost use Rattle.writing.specs.Writing.{Writes};
 ghost use Rattle.walk.specs.Pieces.{pieces};
 ghost use Rattle.index.specs.Index.{starts, tally_of, indexing};
 ghost use Rattle.index.specs.Steps.{BySteps};
-ghost use Rattle.index.specs.Meaning.{StartsAscend, BuiltLength, IndexMeant};
+ghost use Rattle.index.specs.Meaning.{StartsAscend, IndexMeant};
 
 use refusal::{LIMIT, Mode, Refusal};
 use walk::{Entry, Walker};
@@ -78,12 +78,7 @@ pub fn starts_ascend<'a, E: Entry<'a>>()
     ensures { (mode : Mode) → StartsAscend (E.read mode) }
 {}
 
-/// An index that was built has a slot for each step of the walk that gives a record, with its place, in order.
-pub fn built_length<'a, E: Entry<'a>>()
-    ensures { (mode : Mode) → BuiltLength (E.read mode) }
-{}
-
-/// An upload above the limit is refused by 5; within it one in which a step stands by 10; else too few slots by 6, with how many are needed and how many were lent; else the index is built. A refusal leaves the slots as they were.
+/// An upload above the limit is refused by 5; within it one in which a step stands by 10; else too few slots by 6, with how many are needed and how many were lent; else the index is built: a slot for each step of the walk that gives a record, with its place, in order. A refusal leaves the slots as they were.
 pub fn index_meant<'a, E: Entry<'a>>()
     ensures { (mode : Mode) → IndexMeant (E.read mode) }
 {}

@@ -114,8 +114,8 @@ module _ (mode : Mode) (e : Bor (List ℕ)) (name : List ℕ) where
   named_is l h = by (symbol_of mode e) refl
     where
       by : (t : Result AdsSymbolInfo Refusal) → symbol_of mode e ≡ t → has_name name (Some t) ≡ is_ok (map_ok head t)
-      by (Err why) f = refl
-      by (Ok r) f = let w = stands_of mode e r f in simp w.name (carried e.now name w.strings ∙ simp (l, h))
+      by (Err other) f = refl
+      by (Ok r) f = let w = stands_of mode e r f in simp w.name (carried e.now name w.strings ∙ simp l (simp h))
 
 -- the bytes from a place on look so where the entry there does
 looks_more : (k : ℕ) (l name : List ℕ) → looks_named (take k l) name ≡ true → looks_named l name ≡ true

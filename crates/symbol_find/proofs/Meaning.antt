@@ -10,7 +10,6 @@ use Rattle.refusal.specs.declared.Mode.{Mode}
 use Rattle.refusal.specs.declared.Refusal.{Refusal}
 use Rattle.refusal.specs.declared.Refusal.TheVariants.{TooLarge, ZeroEntryLength, NameNotFound}
 use Rattle.names.specs.Names.{same_name}
-use Rattle.names.proofs.Laws.{same_either}
 use Rattle.entry.specs.Walk.{stands, steps}
 use Rattle.writing.specs.Writing.{Writes}
 use Rattle.walk.specs.Step.{step_at}
@@ -21,10 +20,11 @@ use Rattle.symbol.specs.Symbol.{symbol_of}
 use Rattle.symbol.specs.Head.{head_of}
 use Rattle.symbol.specs.Kind as kind
 use Rattle.index.specs.Index.{indexing}
-use Rattle.index.specs.Steps.{is_record, gives, BySteps}
+use Rattle.index.specs.Steps.{gives, BySteps}
 use Rattle.index.proofs.Meaning.{built}
 use Rattle.symbol_find.specs.Find.{has_name, is_named, find, find_indexed}
 use Rattle.symbol_find.specs.Meaning.{HasName, Nowhere, Finds, Answers, FoundIsFirst, RefusedIsNowhere, FindMeant, AnyCase, SameFind}
+use Rattle.symbol_find.proofs.Named.{same_of, answer_either, named_record}
 use Rattle.symbol_find.proofs.Alike.{gives_alike, heads, symbols}
 
 -- the first of some places that passes a test
@@ -87,7 +87,7 @@ module _ (mode : Mode) (s : Bor (List ℕ)) (name : List ℕ) where
       by (Some (Err why)) e h = absurd (not-both h refl)
       by (Some (Ok symbol)) e h =
           let r = reads (symbol_of mode) 30 (λ r. r.length) kind.four (kind.long mode) (kind.room mode) s at symbol e in
-          record { symbol = symbol; read = r.answers; named = h }
+          record { symbol = symbol; read = r.answers; named = same_of name symbol h }
 
   -- and a place with a name is a step that gives its symbol
   named_of : (at : ℕ) → length s.now ≤ limit → HasName mode s name at → is_named mode s name at ≡ true
@@ -165,14 +165,9 @@ find_meant = record {
 
 -- the case that a name is typed in makes no difference
 module _ (mode : Mode) (s : Bor (List ℕ)) (name typed : List ℕ) (same : same_name name typed ≡ true) where
-  answer_either : (t : Option (Result AdsSymbolInfo Refusal)) → has_name typed t ≡ has_name name t
-  answer_either None = refl
-  answer_either (Some (Err why)) = refl
-  answer_either (Some (Ok symbol)) = sym (same_either name typed symbol.name.now same)
-
   either : is_named mode s typed ≡ is_named mode s name
   unfolding is_named
-  either = λ i at. answer_either (step_at (symbol_of mode) s at).answer i
+  either = λ i at. answer_either name typed same (step_at (symbol_of mode) s at).answer i
 
   walked_either : find mode s typed ≡ find mode s name
   unfolding find
@@ -199,12 +194,7 @@ module _ (test weaker : ℕ → Bool) (passes : (at : ℕ) → test at ≡ true 
 
 named_gives : (mode : Mode) (s : Bor (List ℕ)) (name : List ℕ) (at : ℕ) → is_named mode s name at ≡ true → gives (symbol_of mode) s at ≡ true
 unfolding is_named
-named_gives mode s name at = by (step_at (symbol_of mode) s at).answer
-  where
-    by : (t : Option (Result AdsSymbolInfo Refusal)) → has_name name t ≡ true → is_record t ≡ true
-    by None h = h
-    by (Some (Err why)) h = h
-    by (Some (Ok symbol)) h = refl
+named_gives mode s name at = named_record name (step_at (symbol_of mode) s at).answer
 
 module _ {R : Type 0} (read : Bor (List ℕ) → Result R Refusal) (by_steps : BySteps read) (mode : Mode) (s : Bor (List ℕ)) (name : List ℕ)
     (accepts : (at : ℕ) → is_named mode s name at ≡ true → gives read s at ≡ true) where
