@@ -9,3 +9,4 @@ pub mod Inside
 pub mod Asked
 pub mod Left
 pub mod Stopped
+pub mod Read
