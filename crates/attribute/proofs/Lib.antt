@@ -10,3 +10,4 @@ pub mod Asked
 pub mod Left
 pub mod Stopped
 pub mod Read
+pub mod BlockMeant

@@ -16,7 +16,7 @@ pub record IsGood (s : List ℕ) : Type 0 where
 
 -- so many good ones stand one behind another from one place to another
 pub data Good (s : List ℕ) : ℕ → ℕ → ℕ → Type 0 where
-  none : (at : ℕ) → Good s at at 0
+  none : {at : ℕ} → Good s at at 0
   one_more : {from at many : ℕ} → IsGood (drop from s) → Good s (from + size (drop from s)) at many → Good s from at (suc many)
 
 -- a block passes that is its count of good ones. Else it is 9, with the count and how many good ones stand at its start: either there are fewer, and behind them

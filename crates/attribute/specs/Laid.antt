@@ -30,5 +30,5 @@ parts s = record { name = part s 2 (name_length s.now); value = part s (3 + name
 
 -- of whole attributes one behind another, from a place on: where one begins before which so many stand
 pub data Stands (s : List ℕ) : ℕ → ℕ → ℕ → Type 0 where
-  here : (at : ℕ) → Stands s at at 0
+  here : {at : ℕ} → Stands s at at 0
   behind : {from at before : ℕ} → size (drop from s) ≤ length (drop from s) → Stands s (from + size (drop from s)) at before → Stands s from at (suc before)
