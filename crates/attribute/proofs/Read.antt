@@ -1,6 +1,6 @@
 -- What is read of an attribute, by its bytes: proved.
 use Rattle.std.proofs.Common.{◌≡◌, ◌⊎◌, inl, inr, ℕ, zero, suc, ◌+◌, ◌<◌, ◌≤◌, Bool, true, false, List, [], ◌∷◌, length, drop, Ok, Err, Result, refl, sym, ap, ap₂, ◌∙◌, subst, arith, length-drop, Bor}
-use Rattle.std.specs.Prelude.{eqb, ltb}
+use Rattle.std.specs.Prelude.{eqb, ltb, slice_get, Some}
 use Rattle.std.proofs.lemmas.List.Elements.{All-nil, All-cons}
 use native.Mathlib.Nat.{add-zero, zero-add, add_assoc}
 use borrow.Author.Tests.{ltb-true, ltb-false, eqb-true, eqb-false}
@@ -14,9 +14,10 @@ use Rattle.refusal.specs.declared.Refusal.TheVariants.{UnexpectedLength, TooShor
 use Rattle.refusal.proofs.EndBytes.{ended_none}
 use Rattle.refusal.proofs.EndsMeant.{first_refused}
 use Rattle.attribute.specs.declared.AdsAttribute.{AdsAttribute}
-use Rattle.attribute.specs.Attribute.{first_of, alone, ends}
+use Rattle.attribute.specs.Attribute.{first_of, listed, after_listed, alone, ends}
 use Rattle.attribute.specs.Laid.{size, name_end, value_end, byte, parts, Stands, here, behind}
-use Rattle.attribute.specs.Read.{First, first_short, first_cut, first_whole, Alone, too_large, short, cut, name_refused, value_refused, accepted, Ended, EndsRead, all_zero, at_name, at_value, AttributesRead}
+use Rattle.attribute.specs.Read.{First, first_short, first_cut, first_whole, Alone, too_large, short, cut, name_refused, value_refused, accepted, Ended, EndsRead, all_zero, at_name, at_value, IsListed, AttributesRead}
+use Rattle.attribute.proofs.Laws.{listed_more, listed_stop, listed_none, after_more, after_stop, after_none}
 use Rattle.attribute.proofs.Again.{n_of, v_of, first_here, ends_here, two_zero, after_after, after_zero}
 
 module _ (s : Bor (List ℕ)) where
@@ -147,9 +148,101 @@ ends_read : (left : ℕ) (w : Bor (List ℕ)) (place from : ℕ) → EndsRead w.
 ends_read zero w place from = all_zero (nothing_ended w.now from) (ends_none (after w from) (place + from))
 ends_read (suc left) w place from = by_first w place from left (first_read (after w from)) (ends_read left w place (from + size (drop from w.now)))
 
+-- the attributes that are listed from a place on
+record ListedFrom (w : Bor (List ℕ)) (from count : ℕ) : Type 0 where
+  end : ℕ
+  many : ℕ
+  stands : Stands w.now from end many
+  most : many ≤ count
+  ends : (many ≡ count) ⊎ (length (drop end w.now) < size (drop end w.now))
+  long : length (listed (after w from) count) ≡ many
+  rest : after_listed (after w from) count ≡ after w end
+  each : (at before : ℕ) → Stands w.now from at before → before < many → slice_get (listed (after w from) count) before ≡ Some (parts (after w at))
+
+nothing_listed : (w : Bor (List ℕ)) (from : ℕ) → ListedFrom w from 0
+nothing_listed w from = record {
+  end = from;
+  many = 0;
+  stands = here;
+  most = omega arith;
+  ends = inl refl;
+  long = ap length (listed_none (after w from));
+  rest = after_none (after w from);
+  each = λ at before st l. absurd (omega arith);
+}
+
+module _ (w : Bor (List ℕ)) (from left : ℕ) where
+  abbrev q : Bor (List ℕ)
+  q = after w from
+
+  stop_here : (why : Refusal) → first_of q ≡ Err why → length q.now < size q.now → ListedFrom w from (suc left)
+  stop_here why e h = record {
+    end = from;
+    many = 0;
+    stands = here;
+    most = omega arith;
+    ends = inr h;
+    long = ap length (listed_stop q left why e);
+    rest = after_stop q left why e;
+    each = λ at before st l. absurd (omega arith);
+  }
+
+  module _ (h : size q.now ≤ length q.now) (e : first_of q ≡ Ok (parts q, after q (size q.now))) where
+    listed_is : listed q (suc left) ≡ parts q ∷ listed (after w (from + size q.now)) left
+    listed_is = listed_more q left (parts q, after q (size q.now)) e ∙ ap (λ (x : Bor (List ℕ)). parts q ∷ listed x left) (after_after w from (size q.now))
+
+    after_is : after_listed q (suc left) ≡ after_listed (after w (from + size q.now)) left
+    after_is = after_more q left (parts q, after q (size q.now)) e ∙ ap (λ (x : Bor (List ℕ)). after_listed x left) (after_after w from (size q.now))
+
+    module _ (r : ListedFrom w (from + size q.now) left) where
+      each_at : (at before : ℕ) → Stands w.now from at before → before < suc r.many → slice_get (listed q (suc left)) before ≡ Some (parts (after w at))
+      each_at at zero here l = ap (λ (x : List AdsAttribute). slice_get x 0) listed_is
+      each_at at (suc before) (behind t st) l = ap (λ (x : List AdsAttribute). slice_get x (suc before)) listed_is ∙ r.each at before st (omega arith)
+
+      listed_on : ListedFrom w from (suc left)
+      listed_on = record {
+        end = r.end;
+        many = suc r.many;
+        stands = behind h r.stands;
+        most = let m = r.most in omega arith;
+        ends = by_end r.ends;
+        long = ap length listed_is ∙ ap suc r.long;
+        rest = after_is ∙ r.rest;
+        each = each_at;
+      }
+        where
+          by_end : (r.many ≡ left) ⊎ (length (drop r.end w.now) < size (drop r.end w.now)) → (suc r.many ≡ suc left) ⊎ (length (drop r.end w.now) < size (drop r.end w.now))
+          by_end (inl z) = inl (ap suc z)
+          by_end (inr z) = inr z
+
+  listed_by : First q → ((k : ℕ) → ListedFrom w k left) → ListedFrom w from (suc left)
+  listed_by (first_short h e) on = stop_here _ e (omega arith)
+  listed_by (first_cut h k e) on = stop_here _ e k
+  listed_by (first_whole h e) on = listed_on h e (on (from + size q.now))
+
+listed_read : (count : ℕ) (w : Bor (List ℕ)) (from : ℕ) → ListedFrom w from count
+listed_read zero w from = nothing_listed w from
+listed_read (suc left) w from = listed_by w from left (first_read (after w from)) (λ k. listed_read left w k)
+
+listed_whole : (s : Bor (List ℕ)) (count : ℕ) → IsListed s count
+listed_whole s count =
+    let r = listed_read count s 0 in
+    let z = after_zero s in
+    record {
+      end = r.end;
+      many = r.many;
+      stands = r.stands;
+      most = r.most;
+      ends = r.ends;
+      long = ap (λ (x : Bor (List ℕ)). length (listed x count)) z ∙ r.long;
+      rest = ap (λ (x : Bor (List ℕ)). after_listed x count) z ∙ r.rest;
+      each = λ at before st l. ap (λ (x : Bor (List ℕ)). slice_get (listed x count) before) z ∙ r.each at before st l;
+    }
+
 pub attributes_read : AttributesRead
 attributes_read = record {
   first = first_read;
   alone = λ mode s. alone_read mode s (ltb limit (length s.now)) refl;
+  listed = listed_whole;
   ends = λ s place count. subst (λ r. EndsRead s.now place 0 count r) (ap₂ (λ (x : Bor (List ℕ)) (k : ℕ). ended (ends x k count)) (sym (after_zero s)) (add-zero place)) (ends_read count s place 0);
 }

@@ -1,5 +1,5 @@
 -- docs/FORMAT.md, "Attributes", "Direct reading" and "Modes": what is read of an attribute, by its bytes.
-use Rattle.std.specs.Prelude.{ℕ, ◌+◌, ◌<◌, ◌≤◌, ◌≡◌, ◌⊎◌, List, Result, Ok, Err, length, drop}
+use Rattle.std.specs.Prelude.{ℕ, ◌+◌, ◌<◌, ◌≤◌, ◌≡◌, ◌⊎◌, List, Some, Result, Ok, Err, slice_get, length, drop}
 use Rattle.std.specs.Borrow.{Bor}
 use Rattle.part.specs.Slice.{after}
 use Rattle.refusal.specs.EndBytes.{ended}
@@ -7,7 +7,7 @@ use Rattle.refusal.specs.declared.Mode.{Mode}
 use Rattle.refusal.specs.declared.Mode.TheVariants.{Present, Checked}
 use Rattle.refusal.specs.declared.Refusal.{Refusal}
 use Rattle.refusal.specs.declared.Refusal.TheVariants.{UnexpectedLength, TooShort, TooLarge, EndByte}
-use Rattle.attribute.specs.Attribute.{first_of, alone, ends}
+use Rattle.attribute.specs.Attribute.{first_of, listed, after_listed, alone, ends}
 use Rattle.attribute.specs.Laid.{size, name_end, value_end, byte, parts, Stands}
 
 -- one at the start of some bytes, and the bytes after it: under 4 bytes 2, under the whole 1
@@ -43,7 +43,19 @@ pub data EndsRead (s : List ℕ) (place from most : ℕ) (r : Result Unit Refusa
       → (byte (drop at s) (value_end (drop at s)) ≡ 0 → ⊥)
       → r ≡ Err (EndByte (place + at + value_end (drop at s)) (byte (drop at s) (value_end (drop at s)))) → EndsRead s place from most r
 
+-- at most so many are listed, up to one that is not whole: where they end, how many they are, and each of them
+pub record IsListed (s : Bor (List ℕ)) (count : ℕ) : Type 0 where
+  pub end : ℕ
+  pub many : ℕ
+  pub stands : Stands s.now 0 end many
+  pub most : many ≤ count
+  pub ends : (many ≡ count) ⊎ (length (drop end s.now) < size (drop end s.now))
+  pub long : length (listed s count) ≡ many
+  pub rest : after_listed s count ≡ after s end
+  pub each : (at before : ℕ) → Stands s.now 0 at before → before < many → slice_get (listed s count) before ≡ Some (parts (after s at))
+
 pub record AttributesRead : Type 0 where
   pub first : (s : Bor (List ℕ)) → First s
   pub alone : (mode : Mode) (s : Bor (List ℕ)) → Alone mode s
+  pub listed : (s : Bor (List ℕ)) (count : ℕ) → IsListed s count
   pub ends : (s : Bor (List ℕ)) (place count : ℕ) → EndsRead s.now place 0 count (ended (ends s place count))

@@ -1,6 +1,6 @@
 -- What is read of a refactor record and of a chain, by their bytes: proved.
 use Rattle.std.proofs.Common.{◌≡◌, ◌⊎◌, inl, inr, ℕ, zero, suc, ◌+◌, ◌<◌, ◌≤◌, Bool, true, false, List, [], ◌∷◌, length, drop, Ok, Err, Result, refl, sym, ap, ap₂, ◌∙◌, subst, arith, length-drop, Bor}
-use Rattle.std.specs.Prelude.{eqb, ltb}
+use Rattle.std.specs.Prelude.{eqb, ltb, slice_get, Some}
 use Rattle.std.proofs.lemmas.List.Elements.{All-nil}
 use native.Mathlib.Nat.{zero-add}
 use borrow.Author.Tests.{ltb-true, ltb-false, eqb-true, eqb-false}
@@ -15,10 +15,11 @@ use Rattle.refusal.specs.declared.Refusal.TheVariants.{TooShort, EndByte}
 use Rattle.refusal.proofs.EndsMeant.{first_refused}
 use Rattle.refactor.specs.declared.AdsRefactorInfo.{AdsRefactorInfo}
 use Rattle.refactor.specs.declared.RefactorInfos.{RefactorInfos}
-use Rattle.refactor.specs.Refactor.{first_of, alone, chained, chain_of, infos_of}
+use Rattle.refactor.specs.Refactor.{first_of, alone, listed, chained, chain_of, infos_of}
 use Rattle.refactor.specs.Laid.{size, name_end, byte, counted, followed, parts, Stands, here, behind}
 use Rattle.refactor.specs.Read.{First, first_short, first_cut, first_whole, Alone, too_large, short, cut, name_refused, accepted, Chain, chain_short, chain_cut, chain_whole, RefactorsRead}
-use Rattle.refactor.proofs.Again.{n_of, first_here, length_name, after_after}
+use Rattle.refactor.proofs.Again as again
+use Rattle.refactor.proofs.Again.{n_of, first_here, length_name, listed_here, after_after}
 use Rattle.refactor.proofs.Chains.{end_passes}
 use Rattle.refactor.proofs.Inside.{after_zero}
 
@@ -130,5 +131,23 @@ chain_by s (whole_from at before st k l e) = chain_whole at before st k l (simp 
 chain_read : (s : Bor (List ℕ)) → Chain s
 chain_read s = chain_by s (subst (λ x. From s 0 0 (chained x 0 (length s.now))) (sym (after_zero s)) (from_here (length s.now) s 0 0 (omega arith)))
 
+-- a record of a chain, by the number of those before it
+behind_one : (w : Bor (List ℕ)) (from : ℕ) → (again.here (after w from)).1 ≡ after w (from + size (drop from w.now))
+behind_one w from = ap (after (after w from)) (omega arith) ∙ after_after w from (size (drop from w.now))
+
+each_at : (w : Bor (List ℕ)) (from at before count : ℕ) → Stands w.now from at before → before < count → size (drop at w.now) ≤ length (drop at w.now)
+    → slice_get (listed (after w from) count) before ≡ Some (parts (after w at))
+each_at w from at before zero st l h = absurd (omega arith)
+each_at w from at zero (suc count) here l h = ap (λ (x : List AdsRefactorInfo). slice_get x 0) (listed_here (after w from) count (omega arith))
+each_at w from at (suc before) (suc count) (behind t b st) l h =
+    ap (λ (x : List AdsRefactorInfo). slice_get x (suc before)) (listed_here (after w from) count (omega arith))
+    ∙ ap (λ (x : Bor (List ℕ)). slice_get (listed x count) before) (behind_one w from)
+    ∙ each_at w (from + size (drop from w.now)) at before count st (omega arith) h
+
 pub refactors_read : RefactorsRead
-refactors_read = record { first = first_read; alone = λ mode s. alone_read mode s (ltb limit (length s.now)) refl; chain = chain_read }
+refactors_read = record {
+  first = first_read;
+  alone = λ mode s. alone_read mode s (ltb limit (length s.now)) refl;
+  chain = chain_read;
+  listed = λ s count at before st l h. ap (λ (x : Bor (List ℕ)). slice_get (listed x count) before) (after_zero s) ∙ each_at s 0 at before count st l h;
+}

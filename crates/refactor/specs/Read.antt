@@ -1,11 +1,11 @@
 -- docs/FORMAT.md, "Refactor records", "Direct reading" and "Modes": what is read of a refactor record and of a chain, by their bytes.
-use Rattle.std.specs.Prelude.{ℕ, suc, ◌+◌, ◌<◌, ◌≤◌, ◌≡◌, ◌⊎◌, false, List, Ok, Err, length, drop}
+use Rattle.std.specs.Prelude.{ℕ, suc, ◌+◌, ◌<◌, ◌≤◌, ◌≡◌, ◌⊎◌, false, List, Some, Ok, Err, slice_get, length, drop}
 use Rattle.std.specs.Borrow.{Bor}
 use Rattle.part.specs.Slice.{after}
 use Rattle.refusal.specs.declared.Mode.{Mode}
 use Rattle.refusal.specs.declared.Mode.TheVariants.{Present, Checked}
 use Rattle.refusal.specs.declared.Refusal.TheVariants.{TooShort, TooLarge, EndByte}
-use Rattle.refactor.specs.Refactor.{first_of, infos_of, alone}
+use Rattle.refactor.specs.Refactor.{first_of, infos_of, alone, listed}
 use Rattle.refactor.specs.Laid.{size, name_end, byte, followed, parts, Stands}
 
 -- one at the start of some bytes, and the bytes after it: 2 under 7 bytes, and under the whole
@@ -35,3 +35,5 @@ pub record RefactorsRead : Type 0 where
   pub first : (s : Bor (List ℕ)) → First s
   pub alone : (mode : Mode) (s : Bor (List ℕ)) → Alone mode s
   pub chain : (s : Bor (List ℕ)) → Chain s
+  pub listed : (s : Bor (List ℕ)) (count at before : ℕ) → Stands s.now 0 at before → before < count → size (drop at s.now) ≤ length (drop at s.now)
+      → slice_get (listed s count) before ≡ Some (parts (after s at))
