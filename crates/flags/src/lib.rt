@@ -3,6 +3,7 @@
 
 ghost use Rattle.std.specs.Prelude.{◌≡◌};
 ghost use Rattle.flags.specs.RoundTrip.{WordsComeBack};
+ghost use Rattle.flags.specs.WordsRead.{WordsRead};
 ghost use Rattle.flags.specs.SymbolBits.{SymbolBits};
 ghost use Rattle.flags.specs.ExtendedBits.{ExtendedBits};
 ghost use Rattle.flags.specs.TypeBits.{TypeBits};
@@ -35,4 +36,9 @@ pub fn flags_named()
     ensures symbol { SymbolBits }
     ensures extended { ExtendedBits }
     ensures field { TypeBits }
+{}
+
+/// A flag word that is read alone is 5 above the limit, then 1 at another length than its own, and else the number in its bytes.
+pub fn words_read()
+    ensures { WordsRead }
 {}
