@@ -1,5 +1,5 @@
 -- docs/FORMAT.md, "Numbers": what a number in bytes is, and which bytes a part has.
-use Rattle.std.specs.Prelude.{ℕ, ◌+◌, ◌*◌, ◌-◌, ◌^◌, ◌<◌, ◌≤◌, ◌≡◌, List, [], ◌∷◌, length, get_or, take, drop}
+use Rattle.std.specs.Prelude.{ℕ, ◌+◌, ◌*◌, ◌^◌, ◌<◌, ◌≤◌, ◌≡◌, List, [], ◌∷◌, length, get_or, take, drop}
 use Rattle.std.specs.List.{All}
 use Rattle.le.specs.Le.{le2, le4, bytes2, bytes4, part}
 

@@ -1,5 +1,5 @@
 -- A part of a slice by its bytes, and where it lies: proved.
-use Rattle.std.proofs.Common.{ℕ, ◌+◌, ◌≤◌, ◌<◌, ◌≡◌, List, length, take, drop, get_or, refl, ◌∙◌, arith, length-drop, Bor}
+use Rattle.std.proofs.Common.{ℕ, ◌+◌, ◌≤◌, ◌≡◌, List, length, drop, refl, ◌∙◌, arith, length-drop, Bor}
 use lib.Seq.{length-take-le, get_or-take, get_or-drop}
 use Rattle.part.specs.Slice.{part, after}
 use Rattle.part.specs.Meant.{IsPiece, PiecesMeant}

@@ -1,13 +1,13 @@
 -- What the checks of a writer, what it writes and its promise mean: proved.
-use Rattle.std.proofs.Common.{ℕ, ◌+◌, ◌<◌, ◌≤◌, ◌≡◌, refl, sym, ap, ◌∙◌, Bool, true, false, List, [], ◌++◌, length, get_or, take, drop, Ok, Err, Result, arith, length-append, append-nil}
-use Rattle.std.specs.Prelude.{ltb, if◌then◌else◌}
-use borrow.Author.Tests.{lt-ltb, le-ltb, ltb-true, ltb-false}
+use Rattle.std.proofs.Common.{ℕ, ◌+◌, ◌≤◌, ◌≡◌, refl, sym, ap, ◌∙◌, Bool, true, false, List, [], ◌++◌, length, get_or, take, drop, Ok, Err, Result, arith, append-nil}
+use Rattle.std.specs.Prelude.{ltb}
+use borrow.Author.Tests.{ltb-true, ltb-false}
 use lib.Seq.{take_at, drop_at}
-use Rattle.le.specs.Le.{le2, le4, part, bytes2, bytes4}
+use Rattle.le.specs.Le.{le2, part}
 use Rattle.le.proofs.Laws.{le2-bytes2, le4-bytes4}
 use Rattle.refusal.specs.declared.Refusal.{Refusal}
 use Rattle.refusal.specs.Refusal.{limit}
-use Rattle.writing.specs.Checks.{count_checked, strings_checked, room_checked}
+use Rattle.writing.specs.Checks.{strings_checked, room_checked}
 use Rattle.writing.specs.Layout.{lengths_bytes, strings_bytes, attributes_bytes, entry_bytes}
 use Rattle.writing.specs.Writing.{Writes}
 use Rattle.writing.specs.Meant.{CountChecked, too_long, fits, StringsChecked, name_too_long, type_too_long, comment_too_long, all_fit, RoomChecked, too_large, too_small, has_room, ChecksMeant, StringsLaid, LengthsLaid, AttributesLaid, EntryLaid, LayoutsMeant, Written, refused, no_room, whole, WritesMeant}

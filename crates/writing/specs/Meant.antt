@@ -1,5 +1,5 @@
 -- docs/FORMAT.md, "Writing": what the checks of a writer, what it writes and its promise mean.
-use Rattle.std.specs.Prelude.{ℕ, ◌+◌, ◌<◌, ◌≤◌, ◌≡◌, Bool, true, false, List, [], length, get_or, take, drop, Result, Ok, Err}
+use Rattle.std.specs.Prelude.{ℕ, ◌+◌, ◌<◌, ◌≤◌, ◌≡◌, true, false, List, [], length, get_or, take, drop, Result, Ok, Err}
 use Rattle.le.specs.Le.{le2, le4, part}
 use Rattle.refusal.specs.declared.Refusal.{Refusal}
 use Rattle.refusal.specs.declared.Refusal.TheVariants.{TooLong, TooLarge, OutputTooSmall}
