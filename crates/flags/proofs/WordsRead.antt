@@ -1,5 +1,5 @@
 -- Flag words that are read alone: proved.
-use Rattle.std.proofs.Common.{ℕ, ◌≡◌, refl, Bool, true, false, List, length, Ok, Err}
+use Rattle.std.proofs.Common.{ℕ, ◌≡◌, refl, Bool, true, false, List, length}
 use Rattle.std.specs.Prelude.{eqb, ltb}
 use borrow.Author.Tests.{ltb-true, ltb-false, eqb-true, eqb-false}
 use Rattle.le.specs.Le.{le2, le4}
