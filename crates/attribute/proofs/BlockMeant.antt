@@ -1,22 +1,19 @@
 -- Which blocks of attributes are refused, and how an attribute is written: proved.
-use Rattle.std.proofs.Common.{◌≡◌, ℕ, zero, suc, ◌+◌, ◌-◌, ◌<◌, ◌≤◌, Bool, true, false, List, [], ◌∷◌, ◌++◌, length, take, drop, get_or, Ok, Err, Result, refl, sym, ap, ap₂, ◌∙◌, subst, arith, length-drop, append-nil, Bor}
+use Rattle.std.proofs.Common.{◌≡◌, ℕ, zero, suc, ◌+◌, ◌-◌, ◌<◌, ◌≤◌, Bool, true, false, List, [], length, take, drop, Ok, Err, Result, refl, sym, ap, ◌∙◌, subst, arith, length-drop, append-nil, Bor}
 use Rattle.std.specs.Prelude.{eqb, ltb}
-use lib.Seq.{take_at}
 use borrow.Author.Tests.{ltb-true, ltb-false, eqb-true, eqb-false}
 use Rattle.le.specs.Le.{part}
 use Rattle.part.specs.Slice.{after}
-use Rattle.part.specs.Outcome.{outcome}
 use Rattle.refusal.specs.declared.Refusal.{Refusal}
-use Rattle.refusal.specs.declared.Refusal.TheVariants.{BadBlock, TooLong}
-use Rattle.attribute.specs.Attribute.{first_of}
+use Rattle.refusal.specs.declared.Refusal.TheVariants.{BadBlock}
 use Rattle.attribute.specs.Block.{good_of, exact}
-use Rattle.attribute.specs.Told.{Told, told_of}
-use Rattle.attribute.specs.Writing.{attribute_bytes, length_checked, lengths_checked, attribute_writing}
-use Rattle.attribute.specs.Laid.{size, name_end, value_end, byte}
+use Rattle.attribute.specs.Told.{Told}
+use Rattle.attribute.specs.Writing.{attribute_bytes, lengths_checked}
+use Rattle.attribute.specs.Laid.{size, byte}
 use Rattle.attribute.specs.BlockMeant.{IsGood, Good, none, one_more, BlockMeant, passes, longer, fewer, IsLaid, Written, name_too_long, value_too_long, written, AttributesRefused}
 use Rattle.attribute.proofs.Again as again
 use Rattle.attribute.proofs.Again.{n_of, v_of, here, good_here, after_after, after_zero}
-use Rattle.attribute.proofs.Fit.{is_written, exact_turn, exact_end, good_turn}
+use Rattle.attribute.proofs.Fit.{is_written, exact_turn, good_turn}
 use Rattle.attribute.proofs.Written as writes
 
 -- a good one by the bytes is what the block's reader takes for good

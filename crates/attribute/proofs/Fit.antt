@@ -85,7 +85,7 @@ module _ (a : Told) (more : List ℕ) (s : Bor (List ℕ)) (e : s.now ≡ attrib
   }
 
 -- a good one is read alone in whatever mode
-pub two_good : (s : Bor (List ℕ)) → IsGood s (here s).1 → ended (ends s 0 1) ≡ Ok tt
+two_good : (s : Bor (List ℕ)) → IsGood s (here s).1 → ended (ends s 0 1) ≡ Ok tt
 unfolding ended ends
 two_good s g =
     let v : get_or s.now (2 + n_of s + 1 + v_of s) 0 ≡ 0 = ap (λ (k : ℕ). get_or s.now k 0) (omega arith) ∙ g.value in
@@ -132,7 +132,7 @@ pub exact_turn : (s : Bor (List ℕ)) (count left : ℕ) → IsGood s (here s).1
 unfolding exact
 exact_turn s count left g = simp (good_turn s g)
 
-pub exact_end : (s : Bor (List ℕ)) (count : ℕ) → length s.now ≡ 0 → exact s count 0 ≡ Ok tt
+exact_end : (s : Bor (List ℕ)) (count : ℕ) → length s.now ≡ 0 → exact s count 0 ≡ Ok tt
 unfolding exact
 exact_end s count h = simp (eq-eqb (length s.now) 0 h)
 

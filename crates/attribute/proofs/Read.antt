@@ -1,5 +1,5 @@
 -- What is read of an attribute, by its bytes: proved.
-use Rattle.std.proofs.Common.{◌≡◌, ◌⊎◌, inl, inr, ℕ, zero, suc, ◌+◌, ◌<◌, ◌≤◌, Bool, true, false, List, [], ◌∷◌, length, drop, Ok, Err, Result, refl, sym, ap, ap₂, ◌∙◌, subst, arith, length-drop, Bor}
+use Rattle.std.proofs.Common.{◌≡◌, ◌⊎◌, inl, inr, ℕ, zero, suc, ◌+◌, ◌<◌, ◌≤◌, Bool, true, false, List, [], ◌∷◌, length, drop, Ok, Err, Result, refl, sym, ap, ap₂, ◌∙◌, subst, arith, Bor}
 use Rattle.std.specs.Prelude.{eqb, ltb, slice_get, Some}
 use Rattle.std.proofs.lemmas.List.Elements.{All-nil, All-cons}
 use native.Mathlib.Nat.{add-zero, zero-add, add_assoc}
@@ -10,11 +10,11 @@ use Rattle.refusal.specs.EndBytes.{ended}
 use Rattle.refusal.specs.declared.Mode.{Mode}
 use Rattle.refusal.specs.declared.Mode.TheVariants.{Present, Checked}
 use Rattle.refusal.specs.declared.Refusal.{Refusal}
-use Rattle.refusal.specs.declared.Refusal.TheVariants.{UnexpectedLength, TooShort, EndByte}
+use Rattle.refusal.specs.declared.Refusal.TheVariants.{UnexpectedLength, EndByte}
 use Rattle.refusal.proofs.EndBytes.{ended_none}
 use Rattle.refusal.proofs.EndsMeant.{first_refused}
 use Rattle.attribute.specs.declared.AdsAttribute.{AdsAttribute}
-use Rattle.attribute.specs.Attribute.{first_of, listed, after_listed, alone, ends}
+use Rattle.attribute.specs.Attribute.{first_of, listed, after_listed, ends}
 use Rattle.attribute.specs.Laid.{size, name_end, value_end, byte, parts, Stands, here, behind}
 use Rattle.attribute.specs.Read.{First, first_short, first_cut, first_whole, Alone, too_large, short, cut, name_refused, value_refused, accepted, Ended, EndsRead, all_zero, at_name, at_value, IsListed, AttributesRead}
 use Rattle.attribute.proofs.Laws.{listed_more, listed_stop, listed_none, after_more, after_stop, after_none}

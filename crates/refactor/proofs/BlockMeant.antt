@@ -1,5 +1,5 @@
 -- Which blocks of refactor records are refused, and what is written: proved.
-use Rattle.std.proofs.Common.{◌≡◌, ℕ, zero, suc, ◌+◌, ◌-◌, ◌<◌, ◌≤◌, Bool, true, false, List, [], ◌++◌, length, take, drop, get_or, Ok, Err, Result, refl, sym, ap, ap₂, ◌∙◌, subst, arith, length-drop, length-append, append-nil, Bor}
+use Rattle.std.proofs.Common.{◌≡◌, ℕ, zero, suc, ◌+◌, ◌-◌, ◌<◌, ◌≤◌, Bool, true, false, List, [], ◌++◌, length, take, drop, Ok, Err, refl, sym, ap, ◌∙◌, subst, arith, length-drop, append-nil, Bor}
 use Rattle.std.specs.Prelude.{eqb, ltb, Option, Some, None}
 use Rattle.std.specs.Bool.{beq}
 use borrow.Author.Tests.{ltb-true, ltb-false, eqb-true, eqb-false}
@@ -7,17 +7,15 @@ use Rattle.le.specs.Le.{part, bytes2}
 use Rattle.le.proofs.Laws.{le2-bytes2}
 use Rattle.part.specs.Slice.{after}
 use Rattle.refusal.specs.Refusal.{limit}
-use Rattle.refusal.specs.declared.Refusal.{Refusal}
-use Rattle.refusal.specs.declared.Refusal.TheVariants.{BadBlock, TooLong, TooLarge}
+use Rattle.refusal.specs.declared.Refusal.TheVariants.{BadBlock, TooLarge}
 use Rattle.writing.specs.Checks.{entry_checked}
 use Rattle.refactor.specs.Block.{good_of, exact, block_checked}
-use Rattle.refactor.specs.Writing.{packed_of, info_bytes, info_writing, entries_writing}
-use Rattle.refactor.specs.Fit.{Former}
-use Rattle.refactor.specs.Laid.{size, name_end, byte}
+use Rattle.refactor.specs.Writing.{packed_of, info_bytes}
+use Rattle.refactor.specs.Laid.{size}
 use Rattle.refactor.specs.BlockMeant.{IsGood, Good, none, one_more, BlockMeant, passes, longer, fewer, IsLaid, Written, name_too_long, written, Entries, too_many, bad, too_large, entries, RefactorsRefused}
 use Rattle.refactor.proofs.Again as again
 use Rattle.refactor.proofs.Again.{n_of, here, good_here, after_after}
-use Rattle.refactor.proofs.Fit.{IsWritten, stands, good_is, exact_on}
+use Rattle.refactor.proofs.Fit.{stands, good_is, exact_on}
 use Rattle.refactor.proofs.Inside.{after_zero}
 use Rattle.refactor.proofs.Written as writes
 

@@ -1,11 +1,11 @@
 -- What is read of a refactor record and of a chain, by their bytes: proved.
-use Rattle.std.proofs.Common.{◌≡◌, ◌⊎◌, inl, inr, ℕ, zero, suc, ◌+◌, ◌<◌, ◌≤◌, Bool, true, false, List, [], ◌∷◌, length, drop, Ok, Err, Result, refl, sym, ap, ap₂, ◌∙◌, subst, arith, length-drop, Bor}
+use Rattle.std.proofs.Common.{◌≡◌, inl, inr, ℕ, zero, suc, ◌+◌, ◌<◌, ◌≤◌, Bool, true, false, List, [], ◌∷◌, length, drop, Ok, Err, Result, refl, sym, ap, ap₂, ◌∙◌, subst, arith, length-drop, Bor}
 use Rattle.std.specs.Prelude.{eqb, ltb, slice_get, Some, if◌then◌else◌}
 use Rattle.std.proofs.lemmas.List.Elements.{All-nil}
 use native.Mathlib.Nat.{zero-add, add-zero, add_assoc}
 use borrow.Author.Tests.{ltb-true, ltb-false, eqb-true, eqb-false}
 use Rattle.le.proofs.Laws.{not-both}
-use Rattle.part.specs.Slice.{part, after}
+use Rattle.part.specs.Slice.{after}
 use Rattle.part.specs.Outcome.{and_then}
 use Rattle.refusal.specs.Refusal.{limit}
 use Rattle.refusal.specs.EndBytes.{ended}
@@ -16,9 +16,8 @@ use Rattle.refusal.specs.declared.Refusal.TheVariants.{TooShort, EndByte}
 use Rattle.refusal.proofs.EndBytes.{ended_passed, ended_none}
 use Rattle.refusal.proofs.EndsMeant.{first_refused}
 use Rattle.refactor.specs.declared.AdsRefactorInfo.{AdsRefactorInfo}
-use Rattle.refactor.specs.declared.RefactorInfos.{RefactorInfos}
-use Rattle.refactor.specs.Refactor.{first_of, alone, chain_alone, listed, chained, chain_of, infos_of, ends, ends_from}
-use Rattle.refactor.specs.Laid.{size, name_end, byte, counted, followed, parts, Stands, here, behind}
+use Rattle.refactor.specs.Refactor.{first_of, alone, listed, chained, chain_of, ends, ends_from}
+use Rattle.refactor.specs.Laid.{size, name_end, byte, followed, parts, Stands, here, behind}
 use Rattle.refactor.specs.Read.{First, first_short, first_cut, first_whole, Alone, too_large, short, cut, name_refused, accepted, Chain, chain_short, chain_cut, chain_whole, AllEnded, Ended, EndsRead, all_zero, at_name, ChainAlone, chain_large, chain_present, chain_refused, chain_ended, RefactorsRead}
 use Rattle.refactor.proofs.Again as again
 use Rattle.refactor.proofs.Again.{n_of, first_here, length_name, listed_here, after_after}
