@@ -124,11 +124,11 @@ attributes_read_back mode a = record {
 }
 
 -- one turn of a block whose first attribute is good
-good_turn : (s : Bor (List ℕ)) → IsGood s (here s).1 → good_of s ≡ Ok (here s).1
+pub good_turn : (s : Bor (List ℕ)) → IsGood s (here s).1 → good_of s ≡ Ok (here s).1
 unfolding good_of
 good_turn s g = simp (first_here s g.there, two_good s g)
 
-exact_turn : (s : Bor (List ℕ)) (count left : ℕ) → IsGood s (here s).1 → exact s count (suc left) ≡ exact (here s).1 count left
+pub exact_turn : (s : Bor (List ℕ)) (count left : ℕ) → IsGood s (here s).1 → exact s count (suc left) ≡ exact (here s).1 count left
 unfolding exact
 exact_turn s count left g = simp (good_turn s g)
 

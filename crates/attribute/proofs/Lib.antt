@@ -9,3 +9,5 @@ pub mod Inside
 pub mod Asked
 pub mod Left
 pub mod Stopped
+pub mod Read
+pub mod BlockMeant

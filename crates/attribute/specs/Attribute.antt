@@ -1,4 +1,4 @@
--- An attribute: name length, value length (1 byte each), name, end byte, value, end byte.
+-- docs/FORMAT.md, "Attributes": name length, value length (1 byte each), name, end byte, value, end byte.
 use Rattle.std.specs.Prelude.{ℕ, zero, suc, ◌+◌, ◌-◌, ◌≡◌, List, [], ◌∷◌, ◌++◌, ok_or, find, nat_eq, Option, Some, None, Result, Ok, Err, eqb, ltb, length, get_or, slice_get, if◌then◌else◌}
 use Rattle.std.specs.Iterator.{YieldsFirst}
 use Rattle.std.specs.Cmp.Lexicographic.{pointwise}

@@ -1,4 +1,4 @@
--- A block of attributes as writers of entries take it.
+-- docs/FORMAT.md, "Writing": a block of attributes as writers of entries take it.
 use Rattle.std.specs.Prelude.{ℕ, zero, suc, ◌-◌, List, Result, Ok, Err, eqb, length, if◌then◌else◌}
 use Rattle.std.specs.Borrow.{Bor}
 use Rattle.part.specs.Outcome.{outcome, and_then}

@@ -1,4 +1,4 @@
--- What the writer of attributes writes is read back in whatever mode, wherever it stands, makes good blocks, and nothing else does.
+-- docs/FORMAT.md, "Fit records": what the writer of attributes writes is read back in whatever mode, wherever it stands, makes good blocks, and nothing else does.
 use Rattle.std.specs.Prelude.{ℕ, ◌≤◌, ◌≡◌, List, [], ◌∷◌, ◌++◌, Ok, length}
 use Rattle.std.specs.List.{All}
 use Rattle.std.specs.Borrow.{Bor}

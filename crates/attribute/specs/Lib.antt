@@ -7,3 +7,6 @@ pub mod Modes
 pub mod Inside
 pub mod Asked
 pub mod Stopped
+pub mod Laid
+pub mod Read
+pub mod BlockMeant

@@ -1,4 +1,4 @@
--- What attributes tell, wherever they lie: their names and values.
+-- docs/FORMAT.md, "Fit records": what attributes tell, wherever they lie: their names and values.
 use Rattle.std.specs.Prelude.{ℕ, ◌≡◌, List, ◌++◌, map, None, Ok, length}
 use Rattle.std.specs.Borrow.{Bor}
 use Rattle.part.specs.Slice.{after}

@@ -1,6 +1,8 @@
 //! Theorems. Each is the contract of a function that does nothing, so that none goes unnoticed if its proof does.
 ghost use Rattle.attribute.specs.Told.{BlocksRead};
 ghost use Rattle.attribute.specs.Modes.{AttributesModes};
+ghost use Rattle.attribute.specs.Read.{AttributesRead};
+ghost use Rattle.attribute.specs.BlockMeant.{AttributesRefused};
 ghost use Rattle.attribute.specs.Inside.{AttributesInside};
 ghost use Rattle.attribute.specs.Stopped.{AttributesStopped};
 ghost use Rattle.attribute.specs.Asked.{AttributesShown, AttributesNamed, OneNamed};
@@ -61,4 +63,15 @@ pub fn attributes_named()
 /// A question for a name has one answer.
 pub fn one_named()
     ensures { OneNamed }
+{}
+
+/// What is read of an attribute and what is refused, with its figures, by the bytes alone; and which end byte of some
+/// attributes refuses.
+pub fn attributes_read()
+    ensures { AttributesRead }
+{}
+
+/// Why a block is refused, and how many good attributes stand at its start; why an attribute is not written, and how it is.
+pub fn attributes_refused()
+    ensures { AttributesRefused }
 {}

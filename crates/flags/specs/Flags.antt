@@ -1,4 +1,4 @@
--- The three flag words, read from data of any length.
+-- docs/FORMAT.md, "Direct reading": the three flag words, read from data of any length.
 use Rattle.std.specs.Prelude.{ℕ, List, Result, Ok, Err, ltb, eqb, length, if◌then◌else◌}
 use Rattle.le.specs.Le.{le2, le4}
 use Rattle.refusal.specs.Refusal.{limit}

@@ -1,4 +1,4 @@
--- Flag words and their bytes.
+-- docs/FORMAT.md, "Numbers": flag words and their bytes.
 use Rattle.std.specs.Prelude.{ℕ, ◌≡◌, ◌<◌, ◌^◌, Ok}
 use Rattle.le.specs.Le.{bytes2, bytes4}
 use Rattle.flags.specs.Flags.{symbol_flags_of, symbol2_flags_of, type_flags_of}

@@ -3,6 +3,10 @@
 
 ghost use Rattle.std.specs.Prelude.{◌≡◌};
 ghost use Rattle.flags.specs.RoundTrip.{WordsComeBack};
+ghost use Rattle.flags.specs.WordsRead.{WordsRead};
+ghost use Rattle.flags.specs.SymbolBits.{SymbolBits};
+ghost use Rattle.flags.specs.ExtendedBits.{ExtendedBits};
+ghost use Rattle.flags.specs.TypeBits.{TypeBits};
 ghost use Rattle.le.specs.Le.{bytes4};
 
 pub mod index_group;
@@ -20,7 +24,21 @@ pub(crate) fn bytes_of_u32(x: u32) -> [u8; 4]
     [a, b, c, d]
 }
 
-/// The theorem, as the contract of a function that does nothing: a word's own bytes are read back as that word, with every bit kept.
+// Theorems. Each is the contract of a function that does nothing, so that none goes unnoticed if its proof does.
+
+/// A word's own bytes are read back as that word, with every bit kept.
 pub fn words_come_back()
     ensures { WordsComeBack }
+{}
+
+/// Each flag of the three words has the value that the maker's header gives it.
+pub fn flags_named()
+    ensures symbol { SymbolBits }
+    ensures extended { ExtendedBits }
+    ensures field { TypeBits }
+{}
+
+/// A flag word that is read alone is 5 above the limit, then 1 at another length than its own, and else the number in its bytes.
+pub fn words_read()
+    ensures { WordsRead }
 {}

@@ -1,4 +1,4 @@
--- What a promise allows is one: a part of a slice, and what an inner writer does.
+-- docs/FORMAT.md, "Numbers" and "Writing": what a promise allows is one: a part of a slice, and what an inner writer does.
 use Rattle.std.specs.Prelude.{ℕ, ◌≡◌, List}
 use Rattle.std.specs.Borrow.{Bor}
 use Rattle.le.specs.Place.{Behind}

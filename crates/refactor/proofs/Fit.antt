@@ -90,6 +90,7 @@ module _ (f : Former) (has_next : Bool) (fits : Fits f) (more : List ℕ) (s : B
   within = within_mask f.count has_next
 
   pub stands : IsWritten packed f.name more s
+  unfolding packed_of
   stands = is_written packed f.name more s e (let w = and_le_r packed mask in let v = within in omega (arith, w, v)) fits.name
 
   pub packed_good : le4 s.now 0 ≡ (here s).0.refactor_count
@@ -99,6 +100,7 @@ module _ (f : Former) (has_next : Bool) (fits : Fits f) (more : List ℕ) (s : B
   follows_is = ap (λ (x : ℕ). has x follower) stands.packed_is ∙ told_follower f.count has_next
 
   pub told_is : told_of (here s).0 ≡ written f has_next
+  unfolding packed_of
   told_is =
       let c : (here s).0.refactor_count ≡ packed = sym packed_good ∙ stands.packed_is in
       rw (c, follows_is, stands.name_is) refl
@@ -116,10 +118,11 @@ short_name : (f : Former) → Fits f → count_checked (length f.name) ≡ Ok tt
 short_name f h = simp (le-ltb 65535 (length f.name) h.name)
 
 only_fits : (f : Former) (has_next : Bool) (bytes : List ℕ) → info_writing f.count has_next f.name ≡ Ok bytes → Fits f × (bytes ≡ bytes_of f has_next)
-unfolding info_writing
+unfolding info_writing packed_of
 only_fits f has_next bytes h = (record { name = grind arith }, grind arith)
 
 pub refactors_read_back : RefactorsReadBack
+unfolding packed_of
 refactors_read_back mode f has_next = record {
   written = λ h. passes f.count has_next f.name (short_name f h);
   only = only_fits f has_next;
@@ -135,12 +138,12 @@ refactors_read_back mode f has_next = record {
 
 -- a record that is there, has nothing else packed and its end byte: it is good where it tells a follower rightly
 module _ (s : Bor (List ℕ)) (there : n_of s + 7 ≤ length s.now) (packed : le4 s.now 0 ≡ (here s).0.refactor_count) (end : get_or s.now (6 + n_of s) 0 ≡ 0) where
-  good_is : (follows b : Bool) → beq (here s).0.next_refactor_info follows ≡ b → good_of s follows ≡ (if b then Some (here s).1 else None)
+  pub good_is : (follows b : Bool) → beq (here s).0.next_refactor_info follows ≡ b → good_of s follows ≡ (if b then Some (here s).1 else None)
   unfolding good_of
   good_is follows true h = simp (first_here s there, eq-eqb (le4 s.now 0) (here s).0.refactor_count packed, h, length_name s there, end)
   good_is follows false h = simp (first_here s there, eq-eqb (le4 s.now 0) (here s).0.refactor_count packed, h)
 
-  exact_on : (count left : ℕ) → beq (here s).0.next_refactor_info (ltb 0 left) ≡ true → exact s count (suc left) ≡ exact (here s).1 count left
+  pub exact_on : (count left : ℕ) → beq (here s).0.next_refactor_info (ltb 0 left) ≡ true → exact s count (suc left) ≡ exact (here s).1 count left
   unfolding exact
   exact_on count left h = simp (good_is (ltb 0 left) true h)
 
@@ -262,7 +265,7 @@ followed_is [] n h = rw (← h) refl
 followed_is (f ∷ fs) n h = sym (lt-ltb 0 n (omega arith))
 
 chain_more : (f : Former) (fs : List Former) (n : ℕ) → length fs ≡ n → packed_of f.count (ltb 0 n) ≡ f.count → chain_bytes (f ∷ fs) ≡ info_bytes f.count f.name ++ chain_bytes fs
-unfolding chain_bytes
+unfolding chain_bytes packed_of
 chain_more f fs n h k = rw (followed_is fs n h, k) refl
 
 pub long_formers : (rs : List Told) → length (formers rs) ≡ length rs

@@ -17,7 +17,7 @@ use Rattle.refactor.proofs.Again.{n_of, here, fits, first_here, length_name, aft
 part_after : (s : Bor (List ℕ)) (k at n : ℕ) → part (after s k) at n ≡ part s (k + at) n
 part_after s k at n = ap₂ (λ (x : ℕ) (y : List ℕ). record { ref_ptr = (s.ref_ptr.0, x); now = take n y }) (add_assoc s.ref_ptr.1 k at) (drop-drop at k s.now)
 
-after_zero : (s : Bor (List ℕ)) → s ≡ after s 0
+pub after_zero : (s : Bor (List ℕ)) → s ≡ after s 0
 after_zero s = ap (λ (x : ℕ). record { ref_ptr = (s.ref_ptr.0, x); now = s.now }) (sym (add-zero s.ref_ptr.1))
 
 pub each_more : {X : Type 0} (P : X → Type 0) (x : X) (xs : List X) → P x → All P xs → All P (x ∷ xs)

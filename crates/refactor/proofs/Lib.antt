@@ -8,3 +8,5 @@ pub mod Fit
 pub mod Left
 pub mod Chains
 pub mod Accepted
+pub mod Read
+pub mod BlockMeant

@@ -1,4 +1,4 @@
--- A block of refactor records as writers of entries take it.
+-- docs/FORMAT.md, "Writing": a block of refactor records as writers of entries take it.
 use Rattle.std.specs.Prelude.{ℕ, zero, suc, ◌+◌, ◌-◌, Bool, false, List, Option, Some, None, Result, Ok, Err, eqb, ltb, length, get_or, if◌then◌else◌}
 use Rattle.std.specs.Bool.{beq}
 use Rattle.std.specs.Borrow.{Bor}

@@ -1,5 +1,5 @@
 -- docs/FORMAT.md, "Fit records": what the writer of refactor records writes is read back in whatever mode, wherever it stands, makes good blocks, and nothing else does.
-use Rattle.std.specs.Prelude.{ℕ, ◌+◌, ◌-◌, ◌<◌, ◌≤◌, ◌≡◌, Bool, true, false, List, [], ◌∷◌, ◌++◌, map, Ok, Err, length, if◌then◌else◌}
+use Rattle.std.specs.Prelude.{ℕ, ◌+◌, ◌-◌, ◌<◌, ◌≤◌, ◌≡◌, Bool, true, false, List, [], ◌∷◌, ◌++◌, map, Ok, Err, length, bit_and, bit_or, if◌then◌else◌}
 use Rattle.std.specs.List.{All}
 use Rattle.std.specs.Borrow.{Bor}
 use Rattle.le.specs.Le.{bytes2, has}
@@ -8,10 +8,10 @@ use Rattle.refusal.specs.Refusal.{limit}
 use Rattle.refusal.specs.declared.Mode.{Mode}
 use Rattle.refusal.specs.declared.Refusal.TheVariants.{BadBlock}
 use Rattle.refactor.specs.declared.AdsRefactorInfo.{AdsRefactorInfo}
-use Rattle.refactor.specs.Refactor.{follower, first_of, alone, chain_alone, listed}
+use Rattle.refactor.specs.Refactor.{first_of, alone, chain_alone, listed}
 use Rattle.refactor.specs.Told.{Told, told_of, told}
 use Rattle.refactor.specs.Block.{block_checked}
-use Rattle.refactor.specs.Writing.{packed_of, info_bytes, info_writing, entries_writing}
+use Rattle.refactor.specs.Writing.{info_bytes, info_writing, entries_writing}
 
 -- what a record is written from
 pub record Former : Type 0 where
@@ -22,12 +22,16 @@ pub record Former : Type 0 where
 pub record Fits (f : Former) : Type 0 where
   pub name : length f.name ≤ 65535
 
+-- the count within its mask, and the follower's bit where a record follows
+abbrev pub packed : ℕ → Bool → ℕ
+packed count has_next = if has_next then bit_or (bit_and count 0x01111111) 0x01000000 else bit_and count 0x01111111
+
 abbrev pub bytes_of : Former → Bool → List ℕ
-bytes_of f has_next = info_bytes (packed_of f.count has_next) f.name
+bytes_of f has_next = info_bytes (packed f.count has_next) f.name
 
 -- what is told of it then: the mask holds the follower's bit, so that a count that has it tells a follower too
 abbrev pub written : Former → Bool → Told
-written f has_next = record { count = packed_of f.count has_next; followed = if has_next then true else has f.count follower; name = f.name }
+written f has_next = record { count = packed f.count has_next; followed = if has_next then true else has f.count 0x01000000; name = f.name }
 
 -- bytes that begin as a record was written are read as it, in a mode, and only its bytes are taken
 pub record IsBack (mode : Mode) (f : Former) (has_next : Bool) (s : Bor (List ℕ)) : Type 0 where
@@ -65,7 +69,7 @@ last_count (f ∷ next ∷ more) = last_count (next ∷ more)
 
 -- they are a good block of their count, unless the last one's count has the follower's bit: then all but the last are good, refusal 9. The block tells them
 pub record IsBlock (fs : List Former) (block : Bor (List ℕ)) : Type 0 where
-  pub passes : block_checked (length fs) block ≡ (if has (last_count fs) follower then Err (BadBlock (length fs) (length fs - 1)) else Ok tt)
+  pub passes : block_checked (length fs) block ≡ (if has (last_count fs) 0x01000000 then Err (BadBlock (length fs) (length fs - 1)) else Ok tt)
   pub tells : told (listed block (length fs)) ≡ chain_written fs
 
 abbrev pub RefactorBlocks : Type 0
@@ -93,13 +97,13 @@ pub record IsChainBack (mode : Mode) (fs : List Former) (s : Bor (List ℕ)) : T
   pub tells : told (listed s (length fs)) ≡ chain_written fs
 
 abbrev pub ChainsReadBack : Type 0
-ChainsReadBack = (mode : Mode) (fs : List Former) (s : Bor (List ℕ)) (more : List ℕ) → 0 < length fs → All Fits fs → has (last_count fs) follower ≡ false
+ChainsReadBack = (mode : Mode) (fs : List Former) (s : Bor (List ℕ)) (more : List ℕ) → 0 < length fs → All Fits fs → has (last_count fs) 0x01000000 ≡ false
     → s.now ≡ chain_bytes fs ++ more → length s.now ≤ limit → IsChainBack mode fs s
 
 -- a block that is written behind its count: records that fit, the last without the follower's bit, as many as the count, which fits its 2 bytes; the whole is within the limit
 pub record IsEntries (fs : List Former) (count : ℕ) (block : Bor (List ℕ)) : Type 0 where
   pub fit : All Fits fs
-  pub last : has (last_count fs) follower ≡ false
+  pub last : has (last_count fs) 0x01000000 ≡ false
   pub is : block.now ≡ chain_bytes fs
   pub long : length fs ≡ count
   pub counted : count ≤ 65535

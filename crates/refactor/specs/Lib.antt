@@ -6,3 +6,6 @@ pub mod Writing
 pub mod Modes
 pub mod Inside
 pub mod Fit
+pub mod Laid
+pub mod Read
+pub mod BlockMeant

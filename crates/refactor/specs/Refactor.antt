@@ -1,4 +1,4 @@
--- A refactor record, which tells a former name: packed 4, name length 2, name, end byte. A chain is records up to the first that none follows.
+-- docs/FORMAT.md, "Refactor records": packed 4, name length 2, name, end byte. A chain is records up to the first that none follows.
 use Rattle.std.specs.Prelude.{ℕ, zero, suc, ◌+◌, ◌-◌, ◌≡◌, List, [], ◌∷◌, slice_get, ok_or, Option, Some, None, Result, Ok, Err, eqb, ltb, length, get_or, bit_and, if◌then◌else◌}
 use Rattle.std.specs.Iterator.{YieldsFirst}
 use Rattle.std.specs.Borrow.{Bor}

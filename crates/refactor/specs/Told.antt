@@ -1,4 +1,4 @@
--- What refactor records tell, wherever they lie: a count, whether another follows, and a former name.
+-- docs/FORMAT.md, "Fit records": what refactor records tell, wherever they lie: a count, whether another follows, and a former name.
 use Rattle.std.specs.Prelude.{ℕ, ◌<◌, ◌≡◌, Bool, List, ◌++◌, map, Ok, length}
 use Rattle.std.specs.Borrow.{Bor}
 use Rattle.part.specs.Slice.{after}

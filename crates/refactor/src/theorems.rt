@@ -1,6 +1,8 @@
 //! Theorems. Each is the contract of a function that does nothing, so that none goes unnoticed if its proof does.
 ghost use Rattle.refactor.specs.Told.{BlocksRead};
 ghost use Rattle.refactor.specs.Chains.{ChainsRefused};
+ghost use Rattle.refactor.specs.Read.{RefactorsRead};
+ghost use Rattle.refactor.specs.BlockMeant.{RefactorsRefused};
 ghost use Rattle.refactor.specs.Modes.{EntriesReadBack, RefactorsModes, ChainsModes};
 ghost use Rattle.refactor.specs.Inside.{RefactorsInside, ChainsCounted, RefactorsShown};
 ghost use Rattle.refactor.specs.Fit.{RefactorsReadBack, RefactorBlocks, RefactorsFixed, RefactorBlocksMade, ChainsReadBack, EntriesWritten};
@@ -77,4 +79,15 @@ pub fn chains_read_back()
 /// A block is written behind its count exactly where it is the block of records that fit, as many as the count says.
 pub fn entries_written()
     ensures { EntriesWritten }
+{}
+
+/// What is read of a record and of a chain, and what is refused, with its figures, by the bytes alone.
+pub fn refactors_read()
+    ensures { RefactorsRead }
+{}
+
+/// Why a block is refused, and how many good records stand at its start; why a record, and a block behind its count, is not
+/// written, and how it is.
+pub fn refactors_refused()
+    ensures { RefactorsRefused }
 {}

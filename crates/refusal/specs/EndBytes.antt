@@ -1,4 +1,4 @@
--- End bytes of strings, each with its place, in the order in which they are met.
+-- docs/FORMAT.md, "Modes": end bytes of strings, each with its place, in the order in which they are met.
 use Rattle.std.specs.Prelude.{ℕ, List, [], ◌∷◌, Result, Ok, Err, eqb, if◌then◌else◌}
 use Rattle.refusal.specs.declared.Refusal.{Refusal}
 use Rattle.refusal.specs.declared.Refusal.TheVariants.{EndByte}

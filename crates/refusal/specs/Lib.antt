@@ -1,4 +1,5 @@
 pub mod Refusal
 pub mod EndBytes
 pub mod EndsMeant
+pub mod FiguresMeant
 pub mod Text

@@ -1,4 +1,4 @@
--- How a refusal is told in words.
+-- docs/FORMAT.md, "Refusals": how a refusal is told in words.
 use Rattle.std.specs.Prelude.{ℕ, List, ◌++◌, codes, decimal}
 use Rattle.refusal.specs.declared.Refusal.{Refusal}
 use Rattle.refusal.specs.declared.Refusal.TheVariants.{

@@ -6,6 +6,7 @@ ghost use Rattle.refusal.specs.Refusal.{figures_of, numbered};
 ghost use Rattle.refusal.specs.Text.{text_of};
 ghost use Rattle.refusal.specs.EndBytes.{ended};
 ghost use Rattle.refusal.specs.EndsMeant.{EndsMeant};
+ghost use Rattle.refusal.specs.FiguresMeant.{FiguresMeant};
 
 use std::error::Error;
 use std::fmt;
@@ -183,9 +184,14 @@ pub fn check_end(place: usize, byte: u8) -> Result<(), Refusal>
     Ok(())
 }
 
-// The theorem, as the contract of a function that does nothing.
+// Theorems. Each is the contract of a function that does nothing, so that none goes unnoticed if its proof does.
 
 /// The look at end bytes passes exactly where all are 0, and else it refuses the first that is not.
 pub fn ends_meant()
     ensures { EndsMeant }
+{}
+
+/// A number from 1 to 16 and its two figures tell which refusal it is and what it is made of.
+pub fn figures_meant()
+    ensures { FiguresMeant }
 {}

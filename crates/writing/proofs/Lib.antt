@@ -2,3 +2,4 @@ pub mod Laws
 pub mod Entry
 pub mod Laid
 pub mod Done
+pub mod Meant

@@ -2,3 +2,4 @@ pub mod Writing
 pub mod Layout
 pub mod Checks
 pub mod One
+pub mod Meant

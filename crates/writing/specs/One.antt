@@ -1,4 +1,4 @@
--- What a writer's promise allows is one answer, and one buffer afterwards.
+-- docs/FORMAT.md, "Writing": what a writer's promise allows is one answer, and one buffer afterwards.
 use Rattle.std.specs.Prelude.{ℕ, ◌≡◌, List, Result}
 use Rattle.refusal.specs.declared.Refusal.{Refusal}
 use Rattle.writing.specs.Writing.{Writes}

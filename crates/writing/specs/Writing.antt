@@ -1,4 +1,4 @@
--- What is to be written, whatever buffer is lent, and what a writer then answers and leaves in the buffer.
+-- docs/FORMAT.md, "Writing": what is to be written, whatever buffer is lent, and what a writer then answers and leaves in the buffer.
 use Rattle.std.specs.Prelude.{ℕ, ◌≡◌, List, ◌++◌, ltb, length, drop, Result, Ok, Err, if◌then◌else◌}
 use Rattle.refusal.specs.declared.Refusal.{Refusal}
 use Rattle.refusal.specs.declared.Refusal.TheVariants.{OutputTooSmall}

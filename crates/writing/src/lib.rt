@@ -5,6 +5,7 @@ ghost use Rattle.std.specs.Prelude.{◌≡◌, true, ◌+◌, ◌≤◌, length}
 ghost use Rattle.le.specs.Put.{Wrote};
 ghost use Rattle.writing.specs.Layout.{lengths_bytes, string_bytes, strings_bytes, attributes_bytes};
 ghost use Rattle.writing.specs.One.{OneWriting};
+ghost use Rattle.writing.specs.Meant.{ChecksMeant, LayoutsMeant, WritesMeant};
 ghost use Rattle.writing.specs.Checks.{count_checked, strings_checked, size_checked, room_checked, IsShort};
 
 use refusal::{LIMIT, Refusal};
@@ -115,7 +116,26 @@ pub fn put_attributes(out: &mut [u8], at: usize, flagged: bool, count: usize, bl
     at
 }
 
+// Theorems. Each is the contract of a function that does nothing, so that none goes unnoticed if its proof does.
+
 /// Two answers and two buffers that one promise of a writer allows are equal.
 pub fn one_writing()
     ensures { OneWriting }
+{}
+
+/// What is too long is 7, the first of three strings first; then 5 above the limit, then 6.
+pub fn checks_meant()
+    ensures { ChecksMeant }
+{}
+
+/// Where the parts of an entry stand: its length, the lengths of its strings, each string with an end byte of 0, a count and
+/// a block.
+pub fn layouts_meant()
+    ensures { LayoutsMeant }
+{}
+
+/// What a promise to write says: a refusal, and 6 where too little is lent, leave the buffer, and what is written stands from
+/// place 0 on, with nothing behind it changed.
+pub fn writes_meant()
+    ensures { WritesMeant }
 {}
