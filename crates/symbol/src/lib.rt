@@ -56,6 +56,11 @@ pub struct AdsSymbolInfo<'a> {
     pub unread: &'a [u8],
 }
 
+impl AdsSymbolInfo<'_> {
+    /// The bytes of a header: no entry has fewer.
+    pub const MIN_LENGTH: usize = 30;
+}
+
 #[inline(always)]
 fn read_guid(rest: &[u8], flagged: bool) -> (Option<[u8; 16]>, &[u8])
     ensures { result ≡ guid_of rest.entry flagged }
@@ -211,7 +216,7 @@ impl<'a> Entry<'a> for AdsSymbolInfo<'a> {
     fn header() -> usize
         ensures { result ≡ 30 }
     {
-        30
+        AdsSymbolInfo::MIN_LENGTH
     }
 
     #[tactic(auto, using(crate::proofs::Within::within), unfolding(crate::specs::Symbol::symbol_of, crate::specs::Symbol::ended_symbol))]
@@ -287,7 +292,7 @@ impl<'a> Entry<'a> for SymbolHead<'a> {
     fn header() -> usize
         ensures { result ≡ 30 }
     {
-        30
+        AdsSymbolInfo::MIN_LENGTH
     }
 
     #[tactic(auto, unfolding(crate::specs::Head::head_of, crate::specs::Symbol::symbol_of, crate::specs::Symbol::ended_symbol, crate::specs::Symbol::with_strings))]
