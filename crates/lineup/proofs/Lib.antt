@@ -1,1 +1,2 @@
 pub mod LineUp
+pub mod Symbols

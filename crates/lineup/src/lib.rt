@@ -2,10 +2,16 @@
 #![tactic(auto)]
 
 ghost use Rattle.lineup.specs.LineUp.{LineUp};
+ghost use Rattle.lineup.specs.Symbols.{SymbolsLineUp};
 
 // The theorems. Each is the contract of a function that does nothing, so that none goes unnoticed if its proof does.
 
 /// L1 to L12 of the line-up table, in its numbers and figures, of the present mode.
 pub fn line_up()
     ensures { LineUp }
+{}
+
+/// A symbol in which every number is another, read and written, and the least ones of each flag that has a section.
+pub fn symbols_line_up()
+    ensures { SymbolsLineUp }
 {}
