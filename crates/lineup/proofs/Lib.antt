@@ -1,2 +1,3 @@
 pub mod LineUp
 pub mod Symbols
+pub mod Fields

@@ -14,23 +14,23 @@ use Rattle.symbol.specs.Told.{Told, told_of}
 use Rattle.symbol.specs.Writing.{symbol_written}
 use Rattle.symbol.specs.declared.writer.NewSymbol.{NewSymbol}
 
-abbrev name : List ℕ
+abbrev pub name : List ℕ
 name = 0x41 ∷ 0x42 ∷ []
 
-abbrev type_name : List ℕ
+abbrev pub type_name : List ℕ
 type_name = 0x43 ∷ 0x44 ∷ 0x45 ∷ []
 
-abbrev comment : List ℕ
+abbrev pub comment : List ℕ
 comment = 0x46 ∷ []
 
-abbrev guid : List ℕ
+abbrev pub guid : List ℕ
 guid = 0xA0 ∷ 0xA1 ∷ 0xA2 ∷ 0xA3 ∷ 0xA4 ∷ 0xA5 ∷ 0xA6 ∷ 0xA7 ∷ 0xA8 ∷ 0xA9 ∷ 0xAA ∷ 0xAB ∷ 0xAC ∷ 0xAD ∷ 0xAE ∷ 0xAF ∷ []
 
 -- two attributes, in 8 and in 7 bytes: "a" is "bcd", and "ef" is "g"
-abbrev block : List ℕ
+abbrev pub block : List ℕ
 block = (1 ∷ 3 ∷ 0x61 ∷ 0 ∷ 0x62 ∷ 0x63 ∷ 0x64 ∷ 0 ∷ []) ++ (2 ∷ 1 ∷ 0x65 ∷ 0x66 ∷ 0 ∷ 0x67 ∷ 0 ∷ [])
 
-abbrev told_attributes : List attributes.Told
+abbrev pub told_attributes : List attributes.Told
 told_attributes = record { name = 0x61 ∷ []; value = 0x62 ∷ 0x63 ∷ 0x64 ∷ [] } ∷ record { name = 0x65 ∷ 0x66 ∷ []; value = 0x67 ∷ [] } ∷ []
 
 -- two former names, "h" and "ij", behind packed counts of which these are the highest bytes, and the others alike

@@ -1,6 +1,7 @@
 //! The line-up table: nothing to run, but one theorem about the definitions.
 #![tactic(auto)]
 
+ghost use Rattle.lineup.specs.Fields.{FieldsLineUp};
 ghost use Rattle.lineup.specs.LineUp.{LineUp};
 ghost use Rattle.lineup.specs.Symbols.{SymbolsLineUp};
 
@@ -14,4 +15,9 @@ pub fn line_up()
 /// A symbol in which every number is another, read and written, and the least ones of each flag that has a section.
 pub fn symbols_line_up()
     ensures { SymbolsLineUp }
+{}
+
+/// A field in which every number is another, read and written, and the least ones of each flag that has a section.
+pub fn fields_line_up()
+    ensures { FieldsLineUp }
 {}
