@@ -1,3 +1,4 @@
 pub mod LineUp
 pub mod Symbols
 pub mod Fields
+pub mod Types

@@ -4,6 +4,7 @@
 ghost use Rattle.lineup.specs.Fields.{FieldsLineUp};
 ghost use Rattle.lineup.specs.LineUp.{LineUp};
 ghost use Rattle.lineup.specs.Symbols.{SymbolsLineUp};
+ghost use Rattle.lineup.specs.Types.{TypesLineUp};
 
 // The theorems. Each is the contract of a function that does nothing, so that none goes unnoticed if its proof does.
 
@@ -20,4 +21,9 @@ pub fn symbols_line_up()
 /// A field in which every number is another, read and written, and the least ones of each flag that has a section.
 pub fn fields_line_up()
     ensures { FieldsLineUp }
+{}
+
+/// A data type in which every number is another, its array record, and where its members stand, down to depth 4.
+pub fn types_line_up()
+    ensures { TypesLineUp }
 {}
