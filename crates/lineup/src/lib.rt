@@ -3,6 +3,7 @@
 
 ghost use Rattle.lineup.specs.Fields.{FieldsLineUp};
 ghost use Rattle.lineup.specs.LineUp.{LineUp};
+ghost use Rattle.lineup.specs.Refusals.{RefusalsLineUp};
 ghost use Rattle.lineup.specs.Symbols.{SymbolsLineUp};
 ghost use Rattle.lineup.specs.Types.{TypesLineUp};
 
@@ -26,4 +27,9 @@ pub fn fields_line_up()
 /// A data type in which every number is another, its array record, and where its members stand, down to depth 4.
 pub fn types_line_up()
     ensures { TypesLineUp }
+{}
+
+/// The least cases of the refusals that L1 to L12 have not, by number and figures.
+pub fn refusals_line_up()
+    ensures { RefusalsLineUp }
 {}
