@@ -4,7 +4,7 @@
 ghost use Rattle.std.specs.Prelude.{◌≡◌, ◌+◌, ◌≤◌, length};
 ghost use Rattle.le.specs.Le.{has};
 ghost use Rattle.part.specs.Slice.{part, after};
-ghost use Rattle.symbol.specs.Symbol.{type_guid_flag, attributes_flag, extended_flags_flag, refactor_info_flag, guid_of, attributes_of, extended_of, refactor_infos_of, extended_word, IsWithin, with_strings, refactor_ends, symbol_ended, symbol_of};
+ghost use Rattle.symbol.specs.Symbol.{type_guid_flag, attributes_flag, extended_flags_flag, refactor_info_flag, guid_of, attributes_of, extended_of, refactor_infos_of, extended_word, IsWithin, with_strings, refactor_ends, symbol_ended, strings_there, symbol_of};
 ghost use Rattle.refusal.specs.EndBytes.{ended};
 ghost use Rattle.symbol.specs.Head.{head_of};
 ghost use Rattle.symbol.specs.Kind.{four, long, room, short, never_zero, head_long, head_room, head_short, head_never_zero};
@@ -107,6 +107,17 @@ fn read_refactor_infos(rest: &[u8], flagged: bool) -> (RefactorInfos<'_>, &[u8])
         count: 0,
     };
     (none, rest)
+}
+
+// Whether a header and strings that need so many bytes are there.
+#[inline(always)]
+fn check_strings(needed: usize, available: usize) -> Result<(), Refusal>
+    ensures { result ≡ strings_there needed available }
+{
+    if available < needed {
+        return Err(Refusal::EntryLengthMismatch { needed, available });
+    }
+    Ok(())
 }
 
 #[inline(always)]
@@ -233,12 +244,7 @@ impl<'a> Entry<'a> for AdsSymbolInfo<'a> {
         let type_name = le::u16_at(own, 26) as usize;
         let comment = le::u16_at(own, 28) as usize;
         let needed = 33 + name + type_name + comment;
-        if length < needed {
-            return Err(Refusal::EntryLengthMismatch {
-                needed,
-                available: length,
-            });
-        }
+        check_strings(needed, length)?;
         let symbol = with_strings(own, name, type_name, comment);
         if mode == Mode::Checked {
             check_ends(own, &symbol)?;
@@ -316,12 +322,7 @@ impl<'a> Entry<'a> for SymbolHead<'a> {
         let type_name = le::u16_at(own, 26) as usize;
         let comment = le::u16_at(own, 28) as usize;
         let needed = 33 + name + type_name + comment;
-        if length < needed {
-            return Err(Refusal::EntryLengthMismatch {
-                needed,
-                available: length,
-            });
-        }
+        check_strings(needed, length)?;
         Ok(head_with(own, name))
     }
 }
