@@ -1,4 +1,4 @@
--- What a symbol tells, wherever it lies, and what is meant by one that is written.
+-- docs/FORMAT.md, "Symbol entries" and "Fit records": what a symbol tells, wherever it lies, and what is meant by one that is written.
 use Rattle.std.specs.Prelude.{ℕ, ◌<◌, ◌≡◌, List, Option, Some, None, length, if◌then◌else◌}
 use Rattle.std.specs.Borrow.{Bor}
 use Rattle.refusal.specs.declared.Mode.{Mode}
