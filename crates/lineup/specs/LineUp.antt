@@ -29,7 +29,7 @@ entry37 =
     ∷ 0x5A ∷ 0 ∷ 0x49 ∷ 0x4E ∷ 0x54 ∷ 0 ∷ 0 ∷ []
 
 -- an answer, a refusal by its number and figures
-abbrev figured : {R : Type 0} → Result R Refusal → Result R Figures
+abbrev pub figured : {R : Type 0} → Result R Refusal → Result R Figures
 figured (Ok r) = Ok r
 figured (Err why) = Err (figures_of why)
 

@@ -208,8 +208,8 @@ ended_still Checked m e r q h =
     by (Err why) = refl
 
 read_by : (mode : Mode) (m : ℕ × ℕ) (e : Bor (List ℕ)) (n t k : ℕ) (why other : Refusal) (b c : Bool)
-    → map_ok still (if b then Err why else if c then Err other else ended_symbol mode (moved m e) (with_strings (moved m e) n t k))
-    ≡ map_ok still (if b then Err why else if c then Err other else ended_symbol mode e (with_strings e n t k))
+    → map_ok still (if b then Err why else and_then (if◌then◌else◌ {A = Result Unit Refusal} c (Err other) (Ok tt)) (λ _. ended_symbol mode (moved m e) (with_strings (moved m e) n t k)))
+    ≡ map_ok still (if b then Err why else and_then (if◌then◌else◌ {A = Result Unit Refusal} c (Err other) (Ok tt)) (λ _. ended_symbol mode e (with_strings e n t k)))
 read_by mode m e n t k why other true c = refl
 read_by mode m e n t k why other false true = refl
 read_by mode m e n t k why other false false = ended_still mode m e _ _ (strings_still m e n t k)

@@ -1,8 +1,8 @@
--- By which refusal a symbol is refused that is not written: proved.
+-- By which refusal a symbol is refused that is not written, and that it is: proved.
 use Rattle.std.proofs.Common.{ℕ, ◌<◌, ◌≤◌, ◌≡◌, refl, sym, ap, ◌∙◌, Bool, true, false, length, Ok, Err, Result, arith, subst}
 use Rattle.std.specs.Prelude.{is_some, eqb, ltb, if◌then◌else◌}
 use Rattle.std.specs.Bool.{beq}
-use borrow.Author.Tests.{ltb-true}
+use borrow.Author.Tests.{ltb-true, le-ltb, lt-ltb}
 use Rattle.le.specs.Le.{has}
 use Rattle.part.specs.Outcome.{and_then}
 use Rattle.refusal.specs.Refusal.{limit}
@@ -16,10 +16,11 @@ use Rattle.symbol.specs.declared.writer.NewSymbol.{NewSymbol}
 use Rattle.symbol.specs.Symbol.{type_guid_flag, attributes_flag, extended_flags_flag, refactor_info_flag}
 use Rattle.symbol.specs.Told.{IsTyped}
 use Rattle.symbol.specs.Writing.{flagged, agree, symbol_bytes, sections_checked, symbol_checked, symbol_written}
+use Rattle.symbol.specs.Writable.{size_of}
 use Rattle.symbol.specs.Barred.{HasGoodParts, GuidAgrees, AttributesAgree, ExtendedAgree, ChainAgrees, IsBarred, name, type_name, comment, count, attributes, refactor_infos, guid, unflagged_attributes, unflagged_word, chain, size, SymbolsBarred}
 use Rattle.symbol.proofs.Accepted.{agreed}
 use Rattle.symbol.proofs.Sections.{same_test}
-use Rattle.symbol.proofs.Writable.{unflagged_none, test_same, none_unflagged, size_is}
+use Rattle.symbol.proofs.Writable.{unflagged_none, test_same, none_unflagged, strings_pass, size_is}
 
 -- of two checks the first refuses, or it passes and the second does
 data Split {B : Type 0} (a : Result Unit Refusal) (b : Result B Refusal) (why : Refusal) : Type 0 where
@@ -168,5 +169,123 @@ module _ (n : NewSymbol) (why : Refusal) where
       by (here e) = checks_barred e
       by (there p e) = size_barred typed (passed p) (split _ _ why e)
 
+-- what is told where a check refuses, and where it passes
+refused_here : {A B : Type 0} (a : Result A Refusal) (next : A → Result B Refusal) (why : Refusal) → a ≡ Err why → and_then a next ≡ Err why
+refused_here (Ok x) next why h = cc
+refused_here (Err w) next why h = let same : w ≡ why = cc in ap Err same
+
+passed_to : {B : Type 0} (a : Result Unit Refusal) (b t : Result B Refusal) → a ≡ Ok tt → b ≡ t → and_then a (λ _. b) ≡ t
+passed_to (Ok u) b t h e = e
+passed_to (Err w) b t h e = cc
+
+count_refused : (actual : ℕ) → 65535 < actual → count_checked actual ≡ Err (TooLong 65535 actual)
+count_refused actual h = simp (lt-ltb 65535 actual h)
+
+count_fits : (actual : ℕ) → actual ≤ 65535 → count_checked actual ≡ Ok tt
+count_fits actual h = simp (le-ltb 65535 actual h)
+
+disagree : (b : Bool) (section : ℕ) → (b ≡ true → ⊥) → agree b section ≡ Err (SectionsDisagree section)
+disagree true section h = absurd (h refl)
+disagree false section h = refl
+
+agrees : (b : Bool) (section : ℕ) → b ≡ true → agree b section ≡ Ok tt
+agrees true section h = refl
+agrees false section h = cc
+
+module _ (n : NewSymbol) where
+  abbrev unsuitable : Refusal → Type 0
+  unsuitable why = symbol_checked n ≡ Err why
+
+  by_strings : (why : Refusal) → strings_checked n.name.now n.type_name.now n.comment.now ≡ Err why → unsuitable why
+  unfolding symbol_checked
+  by_strings why h = refused_here _ _ why h
+
+  by_count : (why : Refusal) → IsShort n.name.now n.type_name.now n.comment.now → count_checked n.attributes.count ≡ Err why → unsuitable why
+  unfolding symbol_checked
+  by_count why s h = passed_to _ _ _ (strings_pass _ _ _ s) (refused_here _ _ why h)
+
+  by_attributes : (why : Refusal) → IsShort n.name.now n.type_name.now n.comment.now → n.attributes.count ≤ 65535 → attributes_checked n why ≡ Err why → unsuitable why
+  unfolding symbol_checked
+  by_attributes why s l h = passed_to _ _ _ (strings_pass _ _ _ s) (passed_to _ _ _ (count_fits _ l) (refused_here _ _ why h))
+
+  by_records : (why : Refusal) → IsShort n.name.now n.type_name.now n.comment.now → n.attributes.count ≤ 65535 → attributes_checked n why ≡ Ok tt → records_checked n why ≡ Err why → unsuitable why
+  unfolding symbol_checked
+  by_records why s l a h = passed_to _ _ _ (strings_pass _ _ _ s) (passed_to _ _ _ (count_fits _ l) (passed_to _ _ _ a (refused_here _ _ why h)))
+
+  by_sections : (t : Result Unit Refusal) → HasGoodParts n → sections_checked n ≡ t → symbol_checked n ≡ t
+  unfolding symbol_checked
+  by_sections t g h = passed_to _ _ _ (strings_pass _ _ _ g.short) (passed_to _ _ _ (count_fits _ g.few) (passed_to _ _ _ g.attributes (passed_to _ _ _ g.refactor_infos h)))
+
+  -- the tests of the sections that agree
+  guid_agrees : GuidAgrees n → agree (beq (is_some n.guid) (flagged n type_guid_flag)) 1 ≡ Ok tt
+  guid_agrees g = agrees _ 1 (test_same (is_some n.guid) (flagged n type_guid_flag) g)
+
+  attributes_agree : AttributesAgree n → agree (if flagged n attributes_flag then true else eqb (length n.attributes.bytes.now) 0) 2 ≡ Ok tt
+  attributes_agree a = agrees _ 2 (none_unflagged (flagged n attributes_flag) (length n.attributes.bytes.now) a)
+
+  extended_agree : ExtendedAgree n → agree (if flagged n extended_flags_flag then true else eqb n.extended_flags.0 0) 3 ≡ Ok tt
+  extended_agree x = agrees _ 3 (none_unflagged (flagged n extended_flags_flag) n.extended_flags.0 x)
+
+  no_guid : (GuidAgrees n → ⊥) → sections_checked n ≡ Err (SectionsDisagree 1)
+  unfolding sections_checked
+  no_guid h = refused_here _ _ _ (disagree _ 1 (λ e. h (same_test (is_some n.guid) (flagged n type_guid_flag) e)))
+
+  no_attributes : GuidAgrees n → (AttributesAgree n → ⊥) → sections_checked n ≡ Err (SectionsDisagree 2)
+  unfolding sections_checked
+  no_attributes g h = passed_to _ _ _ (guid_agrees g) (refused_here _ _ _ (disagree _ 2 (λ e. h (unflagged_none (flagged n attributes_flag) (length n.attributes.bytes.now) e))))
+
+  no_word : GuidAgrees n → AttributesAgree n → (ExtendedAgree n → ⊥) → sections_checked n ≡ Err (SectionsDisagree 3)
+  unfolding sections_checked
+  no_word g a h = passed_to _ _ _ (guid_agrees g) (passed_to _ _ _ (attributes_agree a) (refused_here _ _ _ (disagree _ 3 (λ e. h (unflagged_none (flagged n extended_flags_flag) n.extended_flags.0 e)))))
+
+  no_chain : GuidAgrees n → AttributesAgree n → ExtendedAgree n → (ChainAgrees n → ⊥) → sections_checked n ≡ Err (SectionsDisagree 4)
+  unfolding sections_checked
+  no_chain g a x h =
+      passed_to _ _ _ (guid_agrees g)
+      (passed_to _ _ _ (attributes_agree a) (passed_to _ _ _ (extended_agree x) (disagree _ 4 (λ e. h (same_test (ltb 0 n.refactor_infos.count) (has n.extended_flags.0 refactor_info_flag) e)))))
+
+  all_agree : GuidAgrees n → AttributesAgree n → ExtendedAgree n → ChainAgrees n → sections_checked n ≡ Ok tt
+  unfolding sections_checked
+  all_agree g a x c =
+      passed_to _ _ _ (guid_agrees g)
+      (passed_to _ _ _ (attributes_agree a) (passed_to _ _ _ (extended_agree x) (agrees _ 4 (test_same (ltb 0 n.refactor_infos.count) (has n.extended_flags.0 refactor_info_flag) c))))
+
+  too_large_told : IsTyped n → GuidAgrees n → limit < size_of n → entry_checked (symbol_bytes n) ≡ Err (TooLarge (size_of n))
+  unfolding entry_checked
+  too_large_told t g h = refused_here (size_checked (length (symbol_bytes n))) (λ _. Ok (symbol_bytes n)) (TooLarge (size_of n)) (rw (size_is n t g) (simp (lt-ltb limit (size_of n) h)))
+
+  checked_first : (why : Refusal) → symbol_checked n ≡ Err why → symbol_written n ≡ Err why
+  unfolding symbol_written
+  checked_first why h = refused_here _ _ why h
+
+  then_sized : (why : Refusal) → symbol_checked n ≡ Ok tt → entry_checked (symbol_bytes n) ≡ Err why → symbol_written n ≡ Err why
+  unfolding symbol_written
+  then_sized why p h = passed_to _ _ _ p h
+
+  name_too_long : (why : Refusal) → count_checked (length n.name.now) ≡ Err why → strings_checked n.name.now n.type_name.now n.comment.now ≡ Err why
+  unfolding strings_checked
+  name_too_long why h = refused_here _ _ why h
+
+  type_too_long : (why : Refusal) → length n.name.now ≤ 65535 → count_checked (length n.type_name.now) ≡ Err why → strings_checked n.name.now n.type_name.now n.comment.now ≡ Err why
+  unfolding strings_checked
+  type_too_long why a h = passed_to _ _ _ (count_fits _ a) (refused_here _ _ why h)
+
+  comment_too_long : (why : Refusal) → length n.name.now ≤ 65535 → length n.type_name.now ≤ 65535 → count_checked (length n.comment.now) ≡ Err why → strings_checked n.name.now n.type_name.now n.comment.now ≡ Err why
+  unfolding strings_checked
+  comment_too_long why a b h = passed_to _ _ _ (count_fits _ a) (passed_to _ _ _ (count_fits _ b) h)
+
+  told : IsTyped n → {why : Refusal} → IsBarred n why → symbol_written n ≡ Err why
+  told t (name h) = checked_first _ (by_strings _ (name_too_long _ (count_refused _ h)))
+  told t (type_name a h) = checked_first _ (by_strings _ (type_too_long _ a (count_refused _ h)))
+  told t (comment a b h) = checked_first _ (by_strings _ (comment_too_long _ a b (count_refused _ h)))
+  told t (count s h) = checked_first _ (by_count _ s (count_refused _ h))
+  told t (attributes s l h) = checked_first _ (by_attributes _ s l h)
+  told t (refactor_infos s l a h) = checked_first _ (by_records _ s l a h)
+  told t (guid g h) = checked_first _ (by_sections _ g (no_guid h))
+  told t (unflagged_attributes g a h) = checked_first _ (by_sections _ g (no_attributes a h))
+  told t (unflagged_word g a b h) = checked_first _ (by_sections _ g (no_word a b h))
+  told t (chain g a b x h) = checked_first _ (by_sections _ g (no_chain a b x h))
+  told t (size g a b x c h) = then_sized _ (by_sections _ g (all_agree a b x c)) (too_large_told t a h)
+
 pub symbols_barred : SymbolsBarred
-symbols_barred n why t h = barred n why t h
+symbols_barred n why t = (barred n why t, told n t)

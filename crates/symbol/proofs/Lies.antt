@@ -293,9 +293,9 @@ module _ (e : Bor (List ℕ)) (n t k : ℕ) (h : 33 + n + t + k ≤ length e.now
   pub guid_end : place_in e guid_and_rest.1 ≡ strings_size + (if is_some guid_and_rest.0 then 16 else 0)
   guid_end = omega (arith, strings_end, h, length-drop (33 + n + t + k) e.now, guid_size (after e (33 + n + t + k)) (has (le2 e.now 20) type_guid_flag))
 
-inside : (e : Bor (List ℕ)) (n t k : ℕ) → 33 + n + t + k ≤ length e.now → IsInside e (with_strings e n t k)
+inside : (e : Bor (List ℕ)) (n t k : ℕ) → 33 + n + t + k ≤ length e.now → n ≡ le2 e.now 24 → t ≡ le2 e.now 26 → k ≡ le2 e.now 28 → IsInside e (with_strings e n t k)
 unfolding with_strings
-inside e n t k h =
+inside e n t k h name_is type_is comment_is =
     let w : ℕ = le2 e.now 20 in
     let s : Bor (List ℕ) = after e (33 + n + t + k) in
     let g = guid_of s (has w type_guid_flag) in
@@ -312,6 +312,15 @@ inside e n t k h =
     let bg : place_in e g.1 ≡ behind_guid (with_strings e n t k) = omega (arith, guid_end e n t k h) in
     record {
       long = refl;
+      index_group = refl;
+      index_offset = refl;
+      size = refl;
+      data_type_id = refl;
+      flags = refl;
+      high = refl;
+      name_length = ln ∙ name_is;
+      type_name_length = lt ∙ type_is;
+      comment_length = lk ∙ comment_is;
       name = string_of e 30 n (omega arith);
       type_name = string_at e (part e (31 + n) t) (31 + n) (31 + length (part e 30 n).now) (omega (arith, ln)) (string_of e (31 + n) t (omega arith));
       comment = string_at e (part e (32 + n + t) k) (32 + n + t) (32 + length (part e 30 n).now + length (part e (31 + n) t).now) (omega (arith, ln, lt)) (string_of e (32 + n + t) k (omega arith));
@@ -330,7 +339,7 @@ inside e n t k h =
 
 pub symbols_inside : SymbolsInside
 symbols_inside mode e r h =
-    subst (IsInside e) (accepted_is mode e r h) (inside e (le2 e.now 24) (le2 e.now 26) (le2 e.now 28) (accepted_room mode e r h))
+    subst (IsInside e) (accepted_is mode e r h) (inside e (le2 e.now 24) (le2 e.now 26) (le2 e.now 28) (accepted_room mode e r h) refl refl refl)
 
 -- a chain has as many records as it counts
 with_counted : (e : Bor (List ℕ)) (n t k : ℕ) → length (refactor.listed (with_strings e n t k).refactor_infos.bytes (with_strings e n t k).refactor_infos.count) ≡ (with_strings e n t k).refactor_infos.count

@@ -1,12 +1,14 @@
 -- No section refuses an entry: proved.
-use Rattle.std.proofs.Common.{ℕ, zero, suc, ◌+◌, ◌≤◌, ◌≡◌, refl, sym, ap, ◌∙◌, Bool, true, false, List, length, drop, Ok, Err, Result, arith, Bor, subst, length-drop}
+use Rattle.std.proofs.Common.{ℕ, zero, suc, ◌+◌, ◌<◌, ◌≤◌, ◌≡◌, refl, sym, ap, ◌∙◌, Bool, true, false, List, length, drop, Ok, Err, Result, arith, Bor, subst, length-drop}
 use Rattle.std.specs.Prelude.{leb, if◌then◌else◌}
-use borrow.Author.Tests.{le-ltb}
+use borrow.Author.Tests.{le-ltb, lt-ltb}
 use Rattle.le.specs.Le.{le2, has}
 use Rattle.part.specs.Slice.{after}
 use Rattle.part.specs.Outcome.{and_then}
+use Rattle.refusal.specs.declared.Mode.{Mode}
 use Rattle.refusal.specs.declared.Mode.TheVariants.{Present}
 use Rattle.refusal.specs.declared.Refusal.{Refusal}
+use Rattle.refusal.specs.declared.Refusal.TheVariants.{EntryLengthMismatch}
 use Rattle.attribute.specs.declared.AdsAttribute.{AdsAttribute}
 use Rattle.attribute.specs.declared.Attributes.{Attributes}
 use Rattle.attribute.specs.Attribute as attribute
@@ -18,7 +20,8 @@ use Rattle.refactor.proofs.Chains.{chains_refused}
 use Rattle.symbol.specs.declared.AdsSymbolInfo.{AdsSymbolInfo}
 use Rattle.symbol.specs.Symbol.{place_in, type_guid_flag, attributes_flag, extended_flags_flag, refactor_info_flag, extended_word, guid_of, attributes_of, extended_of, refactor_infos_of, with_strings, ended_symbol, symbol_of}
 use Rattle.symbol.specs.Inside.{IsTail, behind_guid}
-use Rattle.symbol.specs.ReadOn.{HasStrings, Shows, all, up_to, IsReadOn, SymbolsReadOn}
+use Rattle.symbol.specs.Kind.{short}
+use Rattle.symbol.specs.ReadOn.{needed, HasStrings, Shows, all, up_to, IsReadOn, SymbolsReadOn}
 use Rattle.symbol.proofs.Laws.{accepted_is, accepted_room}
 use Rattle.symbol.proofs.Lies.{left_there, guid_end, guid_rest, two_from}
 
@@ -112,8 +115,14 @@ accepted e h =
     let k : ℕ = le2 e.now 28 in
     (with_strings e n t k, simp (le-ltb (length e.now) 30 (omega (arith, h)), le-ltb (length e.now) (33 + n + t + k) h))
 
+no_strings : (mode : Mode) (e : Bor (List ℕ)) → 30 ≤ length e.now → length e.now < needed e → symbol_of mode e ≡ Err (EntryLengthMismatch (needed e) (length e.now))
+unfolding symbol_of
+no_strings mode e h l = simp (le-ltb (length e.now) 30 h, lt-ltb (length e.now) (needed e) l)
+
 pub symbols_read_on : SymbolsReadOn
 symbols_read_on e = record {
+  no_header = λ mode h. short mode e h;
+  no_strings = λ mode h l. no_strings mode e h l;
   accepted = accepted e;
   only = λ mode r h. let room = accepted_room mode e r h in (room, subst (IsReadOn e) (accepted_is mode e r h) (read_on e (le2 e.now 24) (le2 e.now 26) (le2 e.now 28) room));
 }

@@ -45,7 +45,7 @@ module _ (e : Bor (List ℕ)) (why : Refusal) (P : Mode → ℕ → Type 0) (two
   by_mode Checked r h = subst (P Checked) (sym (by_test r (symbol_ended e r) refl h)) sixteen
 
   by_room : (mode : Mode) (n t k : ℕ) (b c : Bool)
-      → (if b then Err (TooShort 30 (length e.now)) else if c then Err (EntryLengthMismatch (33 + n + t + k) (length e.now)) else ended_symbol mode e (with_strings e n t k)) ≡ Err why → P mode (number_of why)
+      → (if b then Err (TooShort 30 (length e.now)) else and_then (if◌then◌else◌ {A = Result Unit Refusal} c (Err (EntryLengthMismatch (33 + n + t + k) (length e.now))) (Ok tt)) (λ _. ended_symbol mode e (with_strings e n t k))) ≡ Err why → P mode (number_of why)
   by_room mode n t k true c h = let is : TooShort 30 (length e.now) ≡ why = cc in subst (λ w. P mode (number_of w)) is (two mode)
   by_room mode n t k false true h = let is : EntryLengthMismatch (33 + n + t + k) (length e.now) ≡ why = cc in subst (λ w. P mode (number_of w)) is (three mode)
   by_room mode n t k false false h = by_mode mode (with_strings e n t k) h

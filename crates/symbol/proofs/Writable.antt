@@ -134,7 +134,7 @@ length_guid (Some guid) false s h = cc
 length_guid None true s h = cc
 length_guid None false s h = refl
 
-strings_pass : (name type comment : List ℕ) → IsShort name type comment → strings_checked name type comment ≡ Ok tt
+pub strings_pass : (name type comment : List ℕ) → IsShort name type comment → strings_checked name type comment ≡ Ok tt
 unfolding strings_checked
 strings_pass name type comment h = simp (le-ltb 65535 (length name) h.name_fits, le-ltb 65535 (length type) h.type_fits, le-ltb 65535 (length comment) h.comment_fits)
 

@@ -1,5 +1,5 @@
 -- docs/FORMAT.md, "Writing": by which refusal a symbol is refused that is not written.
-use Rattle.std.specs.Prelude.{◌<◌, ◌≤◌, ◌≡◌, false, is_some, Ok, Err, ltb, length}
+use Rattle.std.specs.Prelude.{◌<◌, ◌≤◌, ◌≡◌, ◌↔◌, false, is_some, Ok, Err, ltb, length}
 use Rattle.le.specs.Le.{has}
 use Rattle.refusal.specs.Refusal.{limit}
 use Rattle.refusal.specs.declared.Refusal.{Refusal}
@@ -8,9 +8,8 @@ use Rattle.attribute.specs.Block as attribute
 use Rattle.refactor.specs.Block as refactor
 use Rattle.writing.specs.Checks.{IsShort}
 use Rattle.symbol.specs.declared.writer.NewSymbol.{NewSymbol}
-use Rattle.symbol.specs.Symbol.{type_guid_flag, attributes_flag, extended_flags_flag, refactor_info_flag}
 use Rattle.symbol.specs.Told.{IsTyped}
-use Rattle.symbol.specs.Writing.{flagged, symbol_written}
+use Rattle.symbol.specs.Writing.{symbol_written}
 use Rattle.symbol.specs.Writable.{size_of}
 
 module _ (n : NewSymbol) where
@@ -23,16 +22,16 @@ module _ (n : NewSymbol) where
 
   -- each section agrees with its flag
   abbrev pub GuidAgrees : Type 0
-  GuidAgrees = is_some n.guid ≡ flagged n type_guid_flag
+  GuidAgrees = is_some n.guid ≡ has n.flags.0 0x0008
 
   abbrev pub AttributesAgree : Type 0
-  AttributesAgree = flagged n attributes_flag ≡ false → length n.attributes.bytes.now ≡ 0
+  AttributesAgree = has n.flags.0 0x1000 ≡ false → length n.attributes.bytes.now ≡ 0
 
   abbrev pub ExtendedAgree : Type 0
-  ExtendedAgree = flagged n extended_flags_flag ≡ false → n.extended_flags.0 ≡ 0
+  ExtendedAgree = has n.flags.0 0x8000 ≡ false → n.extended_flags.0 ≡ 0
 
   abbrev pub ChainAgrees : Type 0
-  ChainAgrees = ltb 0 n.refactor_infos.count ≡ has n.extended_flags.0 refactor_info_flag
+  ChainAgrees = ltb 0 n.refactor_infos.count ≡ has n.extended_flags.0 0x0004
 
   -- why one is refused: the first that holds, in this order
   pub data IsBarred : Refusal → Type 0 where
@@ -50,5 +49,6 @@ module _ (n : NewSymbol) where
     chain : HasGoodParts → GuidAgrees → AttributesAgree → ExtendedAgree → (ChainAgrees → ⊥) → IsBarred (SectionsDisagree 4)
     size : HasGoodParts → GuidAgrees → AttributesAgree → ExtendedAgree → ChainAgrees → limit < size_of n → IsBarred (TooLarge (size_of n))
 
+-- by this refusal exactly where this is the first that holds
 abbrev pub SymbolsBarred : Type 0
-SymbolsBarred = (n : NewSymbol) (why : Refusal) → IsTyped n → symbol_written n ≡ Err why → IsBarred n why
+SymbolsBarred = (n : NewSymbol) (why : Refusal) → IsTyped n → ((symbol_written n ≡ Err why) ↔ IsBarred n why)

@@ -1,4 +1,4 @@
--- What a walk asks of a kind of entry, of symbols and of their heads.
+-- docs/FORMAT.md, "Walking": what a walk asks of a kind of entry, of symbols and of their heads.
 use Rattle.std.proofs.Common.{ℕ, ◌<◌, ◌≤◌, ◌≡◌, refl, sym, ap, ◌∙◌, List, length, arith, Bor}
 use Rattle.std.specs.Prelude.{false, Result, Ok, Err}
 use borrow.Author.Tests.{lt-ltb}

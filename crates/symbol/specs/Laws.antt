@@ -1,4 +1,4 @@
--- What the definitions of a symbol mean together.
+-- docs/FORMAT.md, "Symbol entries": what the definitions of a symbol mean together.
 use Rattle.std.specs.Prelude.{ℕ, ◌≡◌, List, Ok, length}
 use Rattle.std.specs.Borrow.{Bor}
 use Rattle.refusal.specs.declared.Mode.{Mode}

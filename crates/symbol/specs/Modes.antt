@@ -12,7 +12,7 @@ use Rattle.attribute.specs.Attribute as attribute
 use Rattle.refactor.specs.declared.AdsRefactorInfo.{AdsRefactorInfo}
 use Rattle.refactor.specs.Refactor as refactor
 use Rattle.symbol.specs.declared.AdsSymbolInfo.{AdsSymbolInfo}
-use Rattle.symbol.specs.Symbol.{refactor_info_flag, extended_word, symbol_of}
+use Rattle.symbol.specs.Symbol.{extended_word, symbol_of}
 
 -- the place in an entry behind one of its strings, and whether 0 stands there
 abbrev pub end_in : Bor (List ℕ) → Bor (List ℕ) → ℕ
@@ -39,7 +39,7 @@ abbrev pub strings_of : AdsSymbolInfo → List (Bor (List ℕ))
 strings_of r =
     r.name ∷ r.type_name ∷ r.comment
     ∷ (attribute_strings (attribute.listed r.attributes.bytes r.attributes.count)
-    ++ (if has (extended_word r.extended_flags) refactor_info_flag then met_names r.refactor_infos.bytes else []))
+    ++ (if has (extended_word r.extended_flags) 0x0004 then met_names r.refactor_infos.bytes else []))
 
 -- the checked mode accepts exactly what the present mode accepts and is ended, and reads it alike; what the present mode refuses it refuses alike; anything
 -- else it refuses by the first end byte that is not 0

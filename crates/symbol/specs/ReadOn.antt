@@ -5,16 +5,20 @@ use Rattle.le.specs.Le.{le2, has}
 use Rattle.refusal.specs.declared.Mode.{Mode}
 use Rattle.refusal.specs.declared.Mode.TheVariants.{Present}
 use Rattle.refusal.specs.declared.Refusal.{Refusal}
+use Rattle.refusal.specs.declared.Refusal.TheVariants.{TooShort, EntryLengthMismatch}
 use Rattle.attribute.specs.Attribute as attribute
 use Rattle.refactor.specs.Chains.{IsRefused}
 use Rattle.refactor.specs.Refactor as refactor
 use Rattle.symbol.specs.declared.AdsSymbolInfo.{AdsSymbolInfo}
-use Rattle.symbol.specs.Symbol.{attributes_flag, refactor_info_flag, extended_word, symbol_of}
+use Rattle.symbol.specs.Symbol.{extended_word, symbol_of}
 use Rattle.symbol.specs.Inside.{behind_guid, is_there}
 
--- a header and three strings, by the lengths in it
+-- how many bytes a header and three strings need, by the lengths in it, and whether they are there
+abbrev pub needed : Bor (List ℕ) → ℕ
+needed e = 33 + le2 e.now 24 + le2 e.now 26 + le2 e.now 28
+
 abbrev pub HasStrings : Bor (List ℕ) → Type 0
-HasStrings e = 33 + le2 e.now 24 + le2 e.now 26 + le2 e.now 28 ≤ length e.now
+HasStrings e = needed e ≤ length e.now
 
 -- so many attributes are shown as are announced, or so many as stand before the first that is refused
 pub data Shows (s : Bor (List ℕ)) (announced count : ℕ) : Type 0 where
@@ -22,7 +26,7 @@ pub data Shows (s : Bor (List ℕ)) (announced count : ℕ) : Type 0 where
   up_to : (why : Refusal) → count < announced → attribute.first_of (attribute.after_listed s count) ≡ Err why → Shows s announced count
 
 abbrev pub announced : Bor (List ℕ) → AdsSymbolInfo → ℕ
-announced e r = if is_there e r attributes_flag (behind_guid r) 2 then le2 e.now (behind_guid r) else 0
+announced e r = if is_there e 0x1000 (behind_guid r) 2 then le2 e.now (behind_guid r) else 0
 
 -- no records, and nothing moved
 pub record NoChain (r : AdsSymbolInfo) : Type 0 where
@@ -30,7 +34,7 @@ pub record NoChain (r : AdsSymbolInfo) : Type 0 where
   pub unread : r.unread ≡ r.refactor_infos.bytes
 
 abbrev pub is_flagged : AdsSymbolInfo → Bool
-is_flagged r = has (extended_word r.extended_flags) refactor_info_flag
+is_flagged r = has (extended_word r.extended_flags) 0x0004
 
 pub record IsReadOn (e : Bor (List ℕ)) (r : AdsSymbolInfo) : Type 0 where
   pub attributes : Shows r.attributes.bytes (announced e r) r.attributes.count
@@ -39,8 +43,11 @@ pub record IsReadOn (e : Bor (List ℕ)) (r : AdsSymbolInfo) : Type 0 where
   pub dropped : (why : Refusal) → IsRefused r.refactor_infos.bytes why → NoChain r
   pub unflagged : is_flagged r ≡ false → NoChain r
 
--- in the present mode an entry is read exactly where its strings are there, in either as far as its sections go
+-- in the present mode an entry is read exactly where its strings are there, in either as far as its sections go. Without a header it is refused with 2, and with a
+-- header and without its strings with 3, in either mode, whatever its end bytes are
 pub record ReadsOn (e : Bor (List ℕ)) : Type 0 where
+  pub no_header : (mode : Mode) → length e.now < 30 → symbol_of mode e ≡ Err (TooShort 30 (length e.now))
+  pub no_strings : (mode : Mode) → 30 ≤ length e.now → length e.now < needed e → symbol_of mode e ≡ Err (EntryLengthMismatch (needed e) (length e.now))
   pub accepted : HasStrings e → (r : AdsSymbolInfo) × (symbol_of Present e ≡ Ok r)
   pub only : (mode : Mode) (r : AdsSymbolInfo) → symbol_of mode e ≡ Ok r → HasStrings e × IsReadOn e r
 

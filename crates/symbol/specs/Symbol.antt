@@ -1,4 +1,4 @@
--- A symbol entry: a header of 30 bytes; name, type and comment, each with one end byte; then the sections that its flags name.
+-- docs/FORMAT.md, "Symbol entries": a header of 30 bytes; name, type and comment, each with one end byte; then the sections that its flags name.
 use Rattle.std.specs.Prelude.{ℕ, ◌+◌, ◌-◌, ◌≤◌, Bool, List, [], ◌∷◌, Option, Some, None, Result, Ok, Err, ltb, leb, length, take, get_or, if◌then◌else◌}
 use Rattle.std.specs.Borrow.{Bor}
 use Rattle.le.specs.Le.{le2, le4, has}
@@ -116,6 +116,10 @@ symbol_ended e r = and_then (ended (string_ends e r)) (λ _. and_then (ended (at
 unfoldable pub ended_symbol : Mode → Bor (List ℕ) → AdsSymbolInfo → Result AdsSymbolInfo Refusal
 ended_symbol mode e r = and_then (in_mode mode (symbol_ended e r)) (λ _. Ok r)
 
+-- 3 where a header and strings need more bytes than are there
+abbrev pub strings_there : ℕ → ℕ → Result Unit Refusal
+strings_there needed available = if ltb available needed then Err (EntryLengthMismatch needed available) else Ok tt
+
 -- of an entry's own bytes, in a mode: 2 for a header that is not there, 3 for strings that are not, then 16
 unfoldable pub symbol_of : Mode → Bor (List ℕ) → Result AdsSymbolInfo Refusal
 symbol_of mode e =
@@ -123,5 +127,4 @@ symbol_of mode e =
     let t : ℕ = le2 e.now 26 in
     let k : ℕ = le2 e.now 28 in
     if ltb (length e.now) 30 then Err (TooShort 30 (length e.now))
-    else if ltb (length e.now) (33 + n + t + k) then Err (EntryLengthMismatch (33 + n + t + k) (length e.now))
-    else ended_symbol mode e (with_strings e n t k)
+    else and_then (strings_there (33 + n + t + k) (length e.now)) (λ _. ended_symbol mode e (with_strings e n t k))

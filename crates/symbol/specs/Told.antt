@@ -1,4 +1,4 @@
--- What a symbol tells, wherever it lies, and what is meant by one that is written.
+-- docs/FORMAT.md, "Symbol entries" and "Fit records": what a symbol tells, wherever it lies, and what is meant by one that is written.
 use Rattle.std.specs.Prelude.{ℕ, ◌<◌, ◌≡◌, List, Option, Some, None, length, if◌then◌else◌}
 use Rattle.std.specs.Borrow.{Bor}
 use Rattle.refusal.specs.declared.Mode.{Mode}
@@ -13,8 +13,8 @@ use Rattle.refactor.specs.Refactor as refactor
 use Rattle.refactor.specs.Told as refactors
 use Rattle.symbol.specs.declared.AdsSymbolInfo.{AdsSymbolInfo}
 use Rattle.symbol.specs.declared.writer.NewSymbol.{NewSymbol}
-use Rattle.symbol.specs.Symbol.{extended_flags_flag, symbol_of}
-use Rattle.symbol.specs.Writing.{flagged}
+use Rattle.symbol.specs.Symbol.{symbol_of}
+use Rattle.le.specs.Le.{has}
 
 pub record Told : Type 0 where
   pub index_group : IndexGroup
@@ -66,7 +66,7 @@ meant n extra =
       comment = n.comment.now;
       guid = n.guid;
       attributes = attributes.told (attribute.listed n.attributes.bytes n.attributes.count);
-      extended_flags = if flagged n extended_flags_flag then Some n.extended_flags else None;
+      extended_flags = if has n.flags.0 0x8000 then Some n.extended_flags else None;
       refactor_infos = refactors.told (refactor.listed n.refactor_infos.bytes n.refactor_infos.count);
       unread = extra;
     }
@@ -85,20 +85,6 @@ pub record IsTyped (n : NewSymbol) : Type 0 where
   pub high : n.high < 65536
   pub extended_flags : n.extended_flags.0 < 4294967296
   pub guid : IsSixteen n.guid
-
--- and no more than they say: the largest number that each of them holds is typed
-pub record IsLargest (n : NewSymbol) : Type 0 where
-  pub index_group : n.index_group.0 ≡ 0xFFFFFFFF
-  pub index_offset : n.index_offset.0 ≡ 0xFFFFFFFF
-  pub size : n.size ≡ 0xFFFFFFFF
-  pub data_type_id : n.data_type_id ≡ 0xFFFFFFFF
-  pub flags : n.flags.0 ≡ 0xFFFF
-  pub high : n.high ≡ 0xFFFF
-  pub extended_flags : n.extended_flags.0 ≡ 0xFFFFFFFF
-  pub guid : IsSixteen n.guid
-
-abbrev pub LargestTyped : Type 0
-LargestTyped = (n : NewSymbol) → IsLargest n → IsTyped n
 
 -- what a symbol tells does not depend on where it lies
 abbrev pub SymbolsAnywhere : Type 0

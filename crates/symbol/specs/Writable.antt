@@ -9,9 +9,8 @@ use Rattle.refactor.specs.Refactor.{follower}
 use Rattle.refactor.specs.Fit as refactor
 use Rattle.writing.specs.Checks.{IsShort}
 use Rattle.symbol.specs.declared.writer.NewSymbol.{NewSymbol}
-use Rattle.symbol.specs.Symbol.{type_guid_flag, attributes_flag, extended_flags_flag, refactor_info_flag}
 use Rattle.symbol.specs.Told.{IsTyped}
-use Rattle.symbol.specs.Writing.{flagged, symbol_bytes, symbol_written}
+use Rattle.symbol.specs.Writing.{symbol_bytes, symbol_written}
 
 -- so many attributes one after another, each within its length fields
 pub record AreAttributes (count : ℕ) (block : List ℕ) : Type 0 where
@@ -32,9 +31,9 @@ pub record AreRecords (count : ℕ) (block : List ℕ) : Type 0 where
 abbrev pub size_of : NewSymbol → ℕ
 size_of n =
     33 + length n.name.now + length n.type_name.now + length n.comment.now
-    + (if flagged n type_guid_flag then 16 else 0)
-    + (if flagged n attributes_flag then length n.attributes.bytes.now + 2 else 0)
-    + (if flagged n extended_flags_flag then 4 else 0)
+    + (if has n.flags.0 0x0008 then 16 else 0)
+    + (if has n.flags.0 0x1000 then length n.attributes.bytes.now + 2 else 0)
+    + (if has n.flags.0 0x8000 then 4 else 0)
     + length n.refactor_infos.bytes.now
 
 pub record IsWritable (n : NewSymbol) : Type 0 where
@@ -43,10 +42,10 @@ pub record IsWritable (n : NewSymbol) : Type 0 where
   pub attributes : AreAttributes n.attributes.count n.attributes.bytes.now
   pub refactor_infos : AreRecords n.refactor_infos.count n.refactor_infos.bytes.now
   -- each section is flagged where it is given, a GUID and a chain also given where they are flagged
-  pub guid_flagged : is_some n.guid ≡ flagged n type_guid_flag
-  pub attributes_flagged : flagged n attributes_flag ≡ false → length n.attributes.bytes.now ≡ 0
-  pub extended_flagged : flagged n extended_flags_flag ≡ false → n.extended_flags.0 ≡ 0
-  pub chain_flagged : ltb 0 n.refactor_infos.count ≡ has n.extended_flags.0 refactor_info_flag
+  pub guid_flagged : is_some n.guid ≡ has n.flags.0 0x0008
+  pub attributes_flagged : has n.flags.0 0x1000 ≡ false → length n.attributes.bytes.now ≡ 0
+  pub extended_flagged : has n.flags.0 0x8000 ≡ false → n.extended_flags.0 ≡ 0
+  pub chain_flagged : ltb 0 n.refactor_infos.count ≡ has n.extended_flags.0 0x0004
   pub within : size_of n ≤ limit
 
 -- what a symbol's types say of its blocks

@@ -4,7 +4,7 @@
 ghost use Rattle.std.specs.Prelude.{◌≡◌, ◌+◌, ◌≤◌, length};
 ghost use Rattle.le.specs.Le.{has};
 ghost use Rattle.part.specs.Slice.{part, after};
-ghost use Rattle.symbol.specs.Symbol.{type_guid_flag, attributes_flag, extended_flags_flag, refactor_info_flag, guid_of, attributes_of, extended_of, refactor_infos_of, extended_word, IsWithin, with_strings, refactor_ends, symbol_ended, symbol_of};
+ghost use Rattle.symbol.specs.Symbol.{type_guid_flag, attributes_flag, extended_flags_flag, refactor_info_flag, guid_of, attributes_of, extended_of, refactor_infos_of, extended_word, IsWithin, with_strings, refactor_ends, symbol_ended, strings_there, symbol_of};
 ghost use Rattle.refusal.specs.EndBytes.{ended};
 ghost use Rattle.symbol.specs.Head.{head_of};
 ghost use Rattle.symbol.specs.Kind.{four, long, room, short, never_zero, head_long, head_room, head_short, head_never_zero};
@@ -56,6 +56,11 @@ pub struct AdsSymbolInfo<'a> {
     pub unread: &'a [u8],
 }
 
+impl AdsSymbolInfo<'_> {
+    /// The bytes of a header: no entry has fewer.
+    pub const MIN_LENGTH: usize = 30;
+}
+
 #[inline(always)]
 fn read_guid(rest: &[u8], flagged: bool) -> (Option<[u8; 16]>, &[u8])
     ensures { result ≡ guid_of rest.entry flagged }
@@ -102,6 +107,17 @@ fn read_refactor_infos(rest: &[u8], flagged: bool) -> (RefactorInfos<'_>, &[u8])
         count: 0,
     };
     (none, rest)
+}
+
+// Whether a header and strings that need so many bytes are there.
+#[inline(always)]
+fn check_strings(needed: usize, available: usize) -> Result<(), Refusal>
+    ensures { result ≡ strings_there needed available }
+{
+    if available < needed {
+        return Err(Refusal::EntryLengthMismatch { needed, available });
+    }
+    Ok(())
 }
 
 #[inline(always)]
@@ -211,7 +227,7 @@ impl<'a> Entry<'a> for AdsSymbolInfo<'a> {
     fn header() -> usize
         ensures { result ≡ 30 }
     {
-        30
+        AdsSymbolInfo::MIN_LENGTH
     }
 
     #[tactic(auto, using(crate::proofs::Within::within), unfolding(crate::specs::Symbol::symbol_of, crate::specs::Symbol::ended_symbol))]
@@ -228,12 +244,7 @@ impl<'a> Entry<'a> for AdsSymbolInfo<'a> {
         let type_name = le::u16_at(own, 26) as usize;
         let comment = le::u16_at(own, 28) as usize;
         let needed = 33 + name + type_name + comment;
-        if length < needed {
-            return Err(Refusal::EntryLengthMismatch {
-                needed,
-                available: length,
-            });
-        }
+        check_strings(needed, length)?;
         let symbol = with_strings(own, name, type_name, comment);
         if mode == Mode::Checked {
             check_ends(own, &symbol)?;
@@ -287,7 +298,7 @@ impl<'a> Entry<'a> for SymbolHead<'a> {
     fn header() -> usize
         ensures { result ≡ 30 }
     {
-        30
+        AdsSymbolInfo::MIN_LENGTH
     }
 
     #[tactic(auto, unfolding(crate::specs::Head::head_of, crate::specs::Symbol::symbol_of, crate::specs::Symbol::ended_symbol, crate::specs::Symbol::with_strings))]
@@ -311,12 +322,7 @@ impl<'a> Entry<'a> for SymbolHead<'a> {
         let type_name = le::u16_at(own, 26) as usize;
         let comment = le::u16_at(own, 28) as usize;
         let needed = 33 + name + type_name + comment;
-        if length < needed {
-            return Err(Refusal::EntryLengthMismatch {
-                needed,
-                available: length,
-            });
-        }
+        check_strings(needed, length)?;
         Ok(head_with(own, name))
     }
 }

@@ -3,20 +3,29 @@ ghost use Rattle.symbol.specs.Laws.{SymbolsWhole};
 ghost use Rattle.symbol.specs.Inside.{SymbolsInside};
 ghost use Rattle.symbol.specs.Modes.{SymbolsModes};
 ghost use Rattle.symbol.specs.Shown.{SymbolsShown, SymbolsNamed};
-ghost use Rattle.symbol.specs.Told.{LargestTyped, SymbolsAnywhere};
+ghost use Rattle.symbol.specs.Head.{HeadsRead};
+ghost use Rattle.symbol.specs.Told.{IsTyped, SymbolsAnywhere};
 ghost use Rattle.symbol.specs.Writable.{SymbolsWritten};
 ghost use Rattle.symbol.specs.Barred.{SymbolsBarred};
 ghost use Rattle.symbol.specs.ReadOn.{SymbolsReadOn};
 ghost use Rattle.symbol.specs.ReadBack.{SymbolsReadBack};
+
+use crate::NewSymbol;
 
 /// A symbol that is accepted has room for its strings and lists, and shows as many attributes as it counts.
 pub fn symbols_whole()
     ensures { SymbolsWhole }
 {}
 
-/// Every part of a symbol lies in its entry, in layout order, each string with its end byte.
+/// Every number of a symbol stands at its place in the header, and every part lies in the entry, in layout order, each string with
+/// its end byte.
 pub fn symbols_inside()
     ensures { SymbolsInside }
+{}
+
+/// A head is read exactly where its symbol is, with the same length and name, and refused alike.
+pub fn heads_read()
+    ensures { HeadsRead }
 {}
 
 /// The checked mode accepts what the present mode accepts where 0 follows every string that is met, and reads it alike; what
@@ -35,9 +44,9 @@ pub fn symbols_named()
     ensures { SymbolsNamed }
 {}
 
-/// No more is asked of what a symbol is written from than its types say: the largest number of each width is typed.
-pub fn largest_typed()
-    ensures { LargestTyped }
+/// What the theorems ask of the numbers of a symbol that is written, and of its GUID, every `NewSymbol` has.
+pub fn symbols_typed(symbol: NewSymbol<'_>)
+    ensures { IsTyped symbol.entry }
 {}
 
 /// What a symbol tells is told by its bytes, wherever they lie.
@@ -51,12 +60,13 @@ pub fn symbols_written()
     ensures { SymbolsWritten }
 {}
 
-/// A symbol that is not written is refused by the first of these that fails, with its number and figures.
+/// A symbol is refused by a number and figures exactly where this is the first of the checks that fails.
 pub fn symbols_barred()
     ensures { SymbolsBarred }
 {}
 
-/// No section refuses an entry: in the present mode it is read where its strings are there. A refused attribute ends the list, a
+/// No section refuses an entry: in the present mode it is read where its strings are there; where they are not, it is refused with 2
+/// or 3 and its figures in either mode. A refused attribute ends the list, a
 /// chain that meets a refused record is dropped whole, and reading goes on where the section ends.
 pub fn symbols_read_on()
     ensures { SymbolsReadOn }

@@ -1,4 +1,4 @@
--- The theorems around the one that written symbols come back.
+-- docs/FORMAT.md, "Fit records": the theorems around the one that written symbols come back.
 use Rattle.std.specs.Prelude.{ℕ, ◌<◌, ◌≤◌, ◌≡◌, List, Result, Ok, ok_or, find, nat_eq, length, take}
 use Rattle.std.specs.Cmp.Lexicographic.{pointwise}
 use Rattle.std.specs.List.{All}
