@@ -30,8 +30,8 @@ strings_met e =
 abbrev pub strings_of : AdsFieldInfo → List (Bor (List ℕ))
 strings_of r = r.name ∷ r.type_name ∷ r.comment ∷ attribute_strings (shown r)
 
--- an entry whose header or strings are not there is refused alike, and so is or is read alike one in which every string that is met is ended; any other is
--- refused by the first that is not. So what the checked mode accepts is ended, and is what the present mode accepts
+-- an entry whose header or strings are not there is refused alike in both modes. One in which every string that is met is ended is read, or refused, alike; any
+-- other is refused by the first that is not. So what the checked mode accepts is ended, and is what the present mode accepts
 pub record IsOfModes (e : Bor (List ℕ)) : Type 0 where
   pub early : (HasStrings e → ⊥) → field_of Checked e ≡ field_of Present e
   pub alike : HasStrings e → All (IsEnded e) (strings_met e) → field_of Checked e ≡ field_of Present e
