@@ -14,7 +14,7 @@ pub record Accepted (p : NewField) : Type 0 where
   pub block : flagged p attributes_flag ≡ true → block_checked p.attributes.count p.attributes.bytes ≡ Ok tt
   pub small : length (field_bytes p) ≤ limit
 
-attributes_passed : (p : NewField) → attributes_checked p ≡ Ok tt → flagged p attributes_flag ≡ true → (p.attributes.count ≤ 65535) × (block_checked p.attributes.count p.attributes.bytes ≡ Ok tt)
+pub attributes_passed : (p : NewField) → attributes_checked p ≡ Ok tt → flagged p attributes_flag ≡ true → (p.attributes.count ≤ 65535) × (block_checked p.attributes.count p.attributes.bytes ≡ Ok tt)
 unfolding attributes_checked
 attributes_passed p h f = let w = both_passed _ (simp f at h) in (count_passed _ w.1.0, w.1.1)
 

@@ -21,12 +21,11 @@ use Rattle.attribute.proofs.Again.{after_after}
 use Rattle.attribute.proofs.Laws.{listed_more, listed_stop, after_more, after_none, nothing_listed, nothing_after}
 use Rattle.field.specs.declared.front.Front.{Front}
 use Rattle.field.specs.Skip.{ahead, after_items}
-use Rattle.field.specs.Front.{with_strings}
+use Rattle.field.specs.Front.{with_strings, front_by_header}
 use Rattle.field.specs.Tail.{type_guid_flag, copy_mask_flag, method_infos_flag, attributes_flag, guid_of, after_mask, after_methods, attributes_of, complete}
 use Rattle.field.specs.Field.{joined, behind_items, field_of}
-use Rattle.field.specs.Modes.{front_by_header}
 use Rattle.field.specs.Laid.{IsItem, Parts, section, guid_told, flags_of, IsLaid, Shows, all, ended, refused, field_with, FieldsLaid}
-use Rattle.field.proofs.Modes.{read_is}
+use Rattle.field.proofs.Tested.{read_is}
 
 -- some bytes of an entry from a place on
 record At (e : Bor (List ℕ)) (p : ℕ) (bytes : List ℕ) : Type 0 where

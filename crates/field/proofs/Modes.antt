@@ -1,29 +1,32 @@
 -- A field in the two modes: proved.
-use Rattle.std.proofs.Common.{ℕ, zero, suc, ◌+◌, ◌-◌, ◌<◌, ◌≤◌, ◌≡◌, refl, sym, ap, ◌∙◌, Bool, true, false, List, [], ◌∷◌, ◌++◌, length, get_or, Ok, Err, Result, arith, Bor}
-use Rattle.std.specs.Prelude.{eqb, ltb}
+use Rattle.std.proofs.Common.{ℕ, zero, suc, ◌+◌, ◌-◌, ◌≤◌, ◌≡◌, refl, sym, ap, ap₂, ◌∙◌, Bool, true, false, List, [], ◌∷◌, ◌++◌, map, length, get_or, min, Ok, Err, Result, arith, Bor}
+use Rattle.std.specs.Prelude.{eqb, leb, ltb, if◌then◌else◌}
 use Rattle.std.specs.List.{All}
-use Rattle.std.proofs.lemmas.List.Elements.{All-nil, All-cons, All-append}
-use borrow.Author.Tests.{le-ltb, ltb-false}
-use Rattle.std.proofs.lemmas.List.{get_or-drop}
-use Rattle.le.specs.Le.{le2, has}
+use borrow.Author.Tests.{le-ltb, ltb-false, ltb-true, leb-true}
+use Rattle.std.proofs.lemmas.List.{get_or-drop, map-append}
+use Rattle.le.specs.Le.{le2, le4, has}
+use Rattle.part.specs.Slice.{part, after}
 use Rattle.part.specs.Outcome.{and_then}
 use Rattle.refusal.specs.EndBytes.{ended, in_mode}
-use Rattle.refusal.specs.EndsMeant.{AllZero}
-use Rattle.refusal.proofs.EndsMeant.{zero_passes, passed_zero, first_refused}
 use Rattle.refusal.specs.declared.Mode.{Mode}
 use Rattle.refusal.specs.declared.Mode.TheVariants.{Present, Checked}
 use Rattle.refusal.specs.declared.Refusal.{Refusal}
-use Rattle.refusal.specs.declared.Refusal.TheVariants.{EndByte}
+use Rattle.refusal.specs.declared.Refusal.TheVariants.{TooShort, EntryLengthMismatch}
 use Rattle.attribute.specs.declared.AdsAttribute.{AdsAttribute}
-use Rattle.attribute.specs.Attribute.{first_of, ends}
-use Rattle.attribute.proofs.Again.{n_of, v_of, here, fits, ends_here}
+use Rattle.attribute.specs.Attribute.{first_of, listed, ends}
+use Rattle.attribute.proofs.Again.{n_of, v_of, here, fits, first_here, ends_here, length_name, length_value}
+use Rattle.attribute.proofs.Laws.{listed_more, listed_stop, listed_none, listed_again}
 use Rattle.field.specs.declared.AdsFieldInfo.{AdsFieldInfo}
-use Rattle.field.specs.declared.front.Front.{Front}
-use Rattle.field.specs.Front.{with_strings, string_ends, front_of}
-use Rattle.field.specs.Tail.{type_guid_flag, guid_of, sections_of, complete, attribute_ends, tail_of}
-use Rattle.field.specs.Field.{joined, behind_items, field_of}
-use Rattle.field.specs.Modes.{front_by_header, HasStrings, end_bytes, end_bytes_of, IsByteOf, IsOfModes, FieldsModes}
-use Rattle.field.proofs.Within.{IsEndOf, length_end, end_after, end_after_at, tail_at, accepted_is, record_is, name_long, type_long, comment_long, list_is}
+use Rattle.field.specs.Front.{with_strings, string_ends, front_of, front_by_header, HasStrings}
+use Rattle.field.specs.Field.{field_of}
+use Rattle.field.specs.Within.{shown}
+use Rattle.field.specs.Placed.{attributes_at, attributes_there}
+use Rattle.field.specs.Ended.{end_in, IsEnded, attribute_strings}
+use Rattle.field.specs.Modes.{strings_met, strings_of, IsOfModes, FieldsModes}
+use Rattle.field.proofs.Within.{IsEndOf, end_after, end_after_at, accepted_is, record_is, name_long, type_long, comment_long, list_is, length_end}
+use Rattle.field.proofs.Tested.{strings_tested, attributes_tested, list_whole, read_is}
+use Rattle.field.proofs.Placed.{placed}
+use Rattle.field.proofs.Ended.{end_of, refused_by, tested, passes, passed, refuses}
 
 both_by : (x : ℕ × ℕ) (xs ys : List (ℕ × ℕ)) → ended (xs ++ ys) ≡ and_then (ended xs) (λ _. ended ys) → (t : Bool) → eqb x.1 0 ≡ t
     → ended (x ∷ (xs ++ ys)) ≡ and_then (ended (x ∷ xs)) (λ _. ended ys)
@@ -36,73 +39,56 @@ unfolding ended
 both [] ys = refl
 both (x ∷ xs) ys = both_by x xs ys (both xs ys) (eqb x.1 0) refl
 
--- the end bytes of attributes at the end of an entry are its bytes
-byte_at : {e s : Bor (List ℕ)} (i : IsEndOf e s) (at k : ℕ) → i.at ≡ at → k < length s.now → IsByteOf e (at + k, get_or s.now k 0)
-byte_at {e} {s} i at k a h =
-    let l = length_end i in
-    record {
-      there = omega (arith, i.fits);
-      is = ap (λ (m : ℕ). get_or e.now (m + k) 0) (sym a) ∙ sym (get_or-drop i.at e.now k 0) ∙ sym (ap (λ (s : Bor (List ℕ)). get_or s.now k 0) i.is);
-    }
-
-no_ends : (s : Bor (List ℕ)) (at count : ℕ) (why : Refusal) → first_of s ≡ Err why → ends s at count ≡ []
+no_ends : (s : Bor (List ℕ)) (at left : ℕ) (why : Refusal) → first_of s ≡ Err why → ends s at (suc left) ≡ []
 unfolding ends
-no_ends s at zero why f = refl
-no_ends s at (suc left) why f = simp f
+no_ends s at left why f = simp f
 
 none_asked : (s : Bor (List ℕ)) (at : ℕ) → ends s at 0 ≡ []
 unfolding ends
 none_asked s at = refl
 
-attribute_bytes : {e : Bor (List ℕ)} (s : Bor (List ℕ)) (at count : ℕ) (i : IsEndOf e s) → i.at ≡ at → All (IsByteOf e) (ends s at count)
-attribute_bytes {e} s at zero i a = rw (none_asked s at) (All-nil (IsByteOf e))
-attribute_bytes {e} s at (suc left) i a = by_first (λ q next j b. attribute_bytes q next left j b) (first_of s) refl
+no_strings : attribute_strings [] ≡ []
+unfolding attribute_strings
+no_strings = refl
+
+two_strings : (a : AdsAttribute) (more : List AdsAttribute) → attribute_strings (a ∷ more) ≡ a.name ∷ a.value ∷ attribute_strings more
+unfolding attribute_strings
+two_strings a more = refl
+
+-- the end byte of a string at the end of an entry, counted from there and from the entry's start
+end_here : {e s : Bor (List ℕ)} (i : IsEndOf e s) (q : Bor (List ℕ)) (at d k : ℕ) → i.at ≡ at → q.ref_ptr.1 ≡ s.ref_ptr.1 + d → d + length q.now ≡ k → (at + k, get_or s.now k 0) ≡ end_of e q
+end_here {e} {s} i q at d k a g h =
+    let m : s.ref_ptr.1 ≡ e.ref_ptr.1 + i.at = ap (λ (x : Bor (List ℕ)). x.ref_ptr.1) i.is in
+    let p : q.ref_ptr.1 - e.ref_ptr.1 + length q.now ≡ at + k = omega arith in
+    let b : get_or s.now k 0 ≡ get_or e.now (at + k) 0 = ap (λ (x : Bor (List ℕ)). get_or x.now k 0) i.is ∙ get_or-drop i.at e.now k 0 ∙ ap (λ (x : ℕ). get_or e.now (x + k) 0) a in
+    ap (λ (y : ℕ). (at + k, y)) b ∙ ap (λ (x : ℕ). (x, get_or e.now x 0)) (sym p)
+
+ends_are : {e : Bor (List ℕ)} (s : Bor (List ℕ)) (at count : ℕ) (i : IsEndOf e s) → i.at ≡ at → ends s at count ≡ map (end_of e) (attribute_strings (listed s count))
+ends_are {e} s at zero i a = rw (none_asked s at, listed_none s, no_strings) refl
+ends_are {e} s at (suc left) i a = by_first (λ q next j b. ends_are q next left j b) (first_of s) refl
   where
-    by_first : ((q : Bor (List ℕ)) (next : ℕ) (j : IsEndOf e q) → j.at ≡ next → All (IsByteOf e) (ends q next left))
-        → (w : Result (AdsAttribute × Bor (List ℕ)) Refusal) → first_of s ≡ w → All (IsByteOf e) (ends s at (suc left))
-    by_first on (Err why) f = rw (no_ends s at (suc left) why f) (All-nil (IsByteOf e))
+    by_first : ((q : Bor (List ℕ)) (next : ℕ) (j : IsEndOf e q) → j.at ≡ next → ends q next left ≡ map (end_of e) (attribute_strings (listed q left)))
+        → (w : Result (AdsAttribute × Bor (List ℕ)) Refusal) → first_of s ≡ w → ends s at (suc left) ≡ map (end_of e) (attribute_strings (listed s (suc left)))
+    by_first on (Err why) f = rw (no_ends s at left why f, listed_stop s left why f, no_strings) refl
     by_first on (Ok p) f =
         let t = fits s p f in
-        let name : ℕ × ℕ = (at + (2 + n_of s), get_or s.now (2 + n_of s) 0) in
-        let value : ℕ × ℕ = (at + (2 + n_of s + 1 + v_of s), get_or s.now (2 + n_of s + 1 + v_of s) 0) in
-        let more : List (ℕ × ℕ) = ends (here s).1 (at + (2 + n_of s + 1 + v_of s) + 1) left in
-        let rest : All (IsByteOf e) more = on (here s).1 (at + (2 + n_of s + 1 + v_of s) + 1) (end_after (n_of s + v_of s + 4) t i) (omega (arith, a, end_after_at (n_of s + v_of s + 4) t i)) in
-        rw (ends_here s at left t)
-        (All-cons (IsByteOf e) name (value ∷ more) (byte_at i at (2 + n_of s) a (omega arith)) (All-cons (IsByteOf e) value more (byte_at i at (2 + n_of s + 1 + v_of s) a (omega arith)) rest))
+        let q : AdsAttribute × Bor (List ℕ) = here s in
+        let n = length_name s t in
+        let v = length_value s t in
+        let next : ℕ = at + (2 + n_of s + 1 + v_of s) + 1 in
+        let name = end_here i q.0.name at 2 (2 + n_of s) a refl (ap (λ (x : ℕ). 2 + x) n) in
+        let value = end_here i q.0.value at (n_of s + 3) (2 + n_of s + 1 + v_of s) a refl (omega (arith, v)) in
+        ends_here s at left t
+        ∙ ap₂ (λ (x y : ℕ × ℕ). x ∷ y ∷ ends q.1 next left) name value
+        ∙ ap (λ (l : List (ℕ × ℕ)). end_of e q.0.name ∷ end_of e q.0.value ∷ l) (on q.1 next (end_after (n_of s + v_of s + 4) t i) (omega (arith, a, end_after_at (n_of s + v_of s + 4) t i)))
+        ∙ sym (ap (map (end_of e)) (ap attribute_strings (listed_more s left q (first_here s t)) ∙ two_strings q.0 (listed q.1 left)))
 
-string_bytes : (e : Bor (List ℕ)) (n t k : ℕ) → 45 + n + t + k ≤ length e.now → All (IsByteOf e) (string_ends e.now n t k)
-string_bytes e n t k h =
-    let byte : (at : ℕ) → at < length e.now → IsByteOf e (at, get_or e.now at 0) = λ at l. record { there = l; is = refl } in
-    let comment : ℕ × ℕ = (44 + n + t + k, get_or e.now (44 + n + t + k) 0) in
-    let type : ℕ × ℕ = (43 + n + t, get_or e.now (43 + n + t) 0) in
-    let name : ℕ × ℕ = (42 + n, get_or e.now (42 + n) 0) in
-    All-cons (IsByteOf e) name (type ∷ comment ∷ []) (byte (42 + n) (omega arith))
-    (All-cons (IsByteOf e) type (comment ∷ []) (byte (43 + n + t) (omega arith)) (All-cons (IsByteOf e) comment [] (byte (44 + n + t + k) (omega arith)) (All-nil (IsByteOf e))))
+-- one test after another
+either : {B : Type 0} (x y : Result Unit Refusal) (z : Result B Refusal) → and_then x (λ _. and_then y (λ _. z)) ≡ and_then (and_then x (λ _. y)) (λ _. z)
+either (Ok u) y z = refl
+either (Err why) y z = refl
 
--- reading with a test in front of what stands behind it
-front_then : {A B : Type 0} (x : Result Unit Refusal) (f : A) (next : A → Result B Refusal) → and_then (and_then x (λ _. Ok f)) next ≡ and_then x (λ _. next f)
-front_then (Ok u) f next = refl
-front_then (Err why) f next = refl
-
-tail_then : {A B : Type 0} (y c : Result Unit Refusal) (t : A) (of : A → B) → and_then (and_then y (λ _. and_then c (λ _. Ok t))) (λ t. Ok (of t)) ≡ and_then y (λ _. and_then c (λ _. Ok (of t)))
-tail_then (Ok u) (Ok v) t of = refl
-tail_then (Ok u) (Err why) t of = refl
-tail_then (Err why) c t of = refl
-
-both_passed : {B : Type 0} (x y : Result Unit Refusal) (z : Result B Refusal) (r : B) → and_then x (λ _. and_then y (λ _. z)) ≡ Ok r → (x ≡ Ok tt) × ((y ≡ Ok tt) × (z ≡ Ok r))
-both_passed (Ok u) (Ok v) z r h = (refl, (refl, h))
-both_passed (Ok u) (Err why) z r h = cc
-both_passed (Err why) y z r h = cc
-
-one_refused : {B : Type 0} (x y : Result Unit Refusal) (z : Result B Refusal) (why : Refusal) → and_then x (λ _. y) ≡ Err why → and_then x (λ _. and_then y (λ _. z)) ≡ Err why
-one_refused (Ok u) y z why h = rw h refl
-one_refused (Err w) y z why h = cc
-
-two_passed : (x y : Result Unit Refusal) → and_then x (λ _. y) ≡ Ok tt → (x ≡ Ok tt) × (y ≡ Ok tt)
-two_passed (Ok u) y h = (refl, h)
-two_passed (Err why) y h = cc
-
-module _ (e : Bor (List ℕ)) where
+module _ (e : Bor (List ℕ)) (h : HasStrings e) where
   abbrev n : ℕ
   n = le2 e.now 32
 
@@ -112,64 +98,96 @@ module _ (e : Bor (List ℕ)) where
   abbrev k : ℕ
   k = le2 e.now 36
 
-  abbrev f : Front
-  f = front_by_header e
+  abbrev r : AdsFieldInfo
+  r = record_is e h
 
-  abbrev pub strings_of : Result Unit Refusal
-  strings_of = ended (string_ends e.now n t k)
+  -- the attributes that stand behind their place are those of the record
+  abbrev there_by : Bool → List AdsAttribute
+  there_by b = if b then listed (after e (attributes_at e.now + 2)) (le2 e.now (attributes_at e.now)) else []
 
-  abbrev pub attributes_of : Result Unit Refusal
-  attributes_of = ended (attribute_ends f.length (tail_at f (behind_items f)).attributes)
+  room : (flagged : Bool) (left : ℕ) → (if flagged then leb 2 left else false) ≡ true → 2 ≤ left
+  room true left h = leb-true 2 left h
+  room false left h = cc
 
-  abbrev pub list_whole : Result Unit Refusal
-  list_whole = complete (sections_of f (guid_of (behind_items f) (has f.flags.0 type_guid_flag)).1).1
+  attributes_are : there_by (attributes_there e.now) ≡ shown r
+  attributes_are =
+      let p = placed e h in
+      by (attributes_there e.now) refl p.attributes p.count
+    where
+      by : (b : Bool) → attributes_there e.now ≡ b → r.attributes.bytes ≡ after e (min (attributes_at e.now + (if b then 2 else 0)) (length e.now))
+          → r.attributes.count ≡ (if b then length (listed r.attributes.bytes (le2 e.now (attributes_at e.now))) else 0) → there_by b ≡ shown r
+      by true y b c =
+          let l : 2 ≤ length e.now - attributes_at e.now = room (has (le4 e.now 28) 0x1000) (length e.now - attributes_at e.now) y in
+          let m : min (attributes_at e.now + 2) (length e.now) ≡ attributes_at e.now + 2 = omega (arith, l) in
+          ap (λ (s : Bor (List ℕ)). listed s (le2 e.now (attributes_at e.now))) (sym (b ∙ ap (after e) m))
+          ∙ sym (ap (listed r.attributes.bytes) c ∙ listed_again r.attributes.bytes (le2 e.now (attributes_at e.now)))
+      by false y b c = sym (ap (listed r.attributes.bytes) c ∙ listed_none r.attributes.bytes)
 
-  bytes_are : ended (end_bytes e) ≡ and_then strings_of (λ _. attributes_of)
-  unfolding end_bytes
-  bytes_are = both (string_ends e.now n t k) (attribute_ends f.length (tail_at f (behind_items f)).attributes)
+  pub strings_are : strings_met e ≡ strings_of r
+  unfolding with_strings
+  strings_are = ap (λ (l : List AdsAttribute). part e 42 n ∷ part e (43 + n) t ∷ part e (44 + n + t) k ∷ attribute_strings l) attributes_are
 
-  -- what is read of an entry that has a header and strings
-  pub read_is : (mode : Mode) → (h : HasStrings e) → field_of mode e ≡ and_then (in_mode mode strings_of) (λ _. and_then (in_mode mode attributes_of) (λ _. and_then list_whole (λ _. Ok (record_is e h))))
-  unfolding field_of front_of tail_of
-  read_is mode h =
-      simp (le-ltb (length e.now) 42 h.header, le-ltb (length e.now) (45 + n + t + k) h.strings)
-      (front_then (in_mode mode strings_of) f (λ x. and_then (tail_of mode x (behind_items x)) (λ y. Ok (joined x y)))
-      ∙ ap (λ (r : Result AdsFieldInfo Refusal). and_then (in_mode mode strings_of) (λ _. r)) (tail_then (in_mode mode attributes_of) list_whole (tail_at f (behind_items f)) (λ y. joined f y)))
+  first_strings : string_ends e.now n t k ≡ map (end_of e) (r.name ∷ r.type_name ∷ r.comment ∷ [])
+  unfolding with_strings
+  first_strings =
+      let x = name_long e h in
+      let y = type_long e h in
+      let z = comment_long e h in
+      let a : 42 + n ≡ end_in e r.name = omega (arith, x) in
+      let b : 43 + n + t ≡ end_in e r.type_name = omega (arith, y) in
+      let c : 44 + n + t + k ≡ end_in e r.comment = omega (arith, z) in
+      ap (λ (i : ℕ). (i, get_or e.now i 0) ∷ (43 + n + t, get_or e.now (43 + n + t) 0) ∷ (44 + n + t + k, get_or e.now (44 + n + t + k) 0) ∷ []) a
+      ∙ ap₂ (λ (i j : ℕ). end_of e r.name ∷ (i, get_or e.now i 0) ∷ (j, get_or e.now j 0) ∷ []) b c
 
-  bytes_of : HasStrings e → All (IsByteOf e) (end_bytes e)
-  unfolding end_bytes with_strings
-  bytes_of h =
+  then_attributes : ends r.attributes.bytes (length e.now - length r.attributes.bytes.now) r.attributes.count ≡ map (end_of e) (attribute_strings (shown r))
+  then_attributes =
       let l = list_is e h in
       let x = length_end l.place in
-      let a = attribute_bytes (record_is e h).attributes.bytes (length e.now - length (record_is e h).attributes.bytes.now) (record_is e h).attributes.count l.place (omega (arith, x, l.place.fits)) in
-      All-append (IsByteOf e) (string_ends e.now n t k) (attribute_ends (length e.now) (record_is e h).attributes) (string_bytes e n t k h.strings) a
+      ends_are r.attributes.bytes (length e.now - length r.attributes.bytes.now) r.attributes.count l.place (omega (arith, x, l.place.fits))
 
-  told_of : (h : HasStrings e) → end_bytes e ≡ end_bytes_of e (record_is e h)
-  unfolding end_bytes with_strings
-  told_of h = simp (name_long e h, type_long e h, comment_long e h)
+  -- the two tests are that of all strings that are met
+  tests_are : and_then (strings_tested e) (λ _. attributes_tested e) ≡ tested e (strings_met e)
+  unfolding with_strings
+  tests_are =
+      ap₂ (λ (x y : List (ℕ × ℕ)). and_then (ended x) (λ _. ended y)) first_strings then_attributes
+      ∙ sym (both (map (end_of e) (r.name ∷ r.type_name ∷ r.comment ∷ [])) (map (end_of e) (attribute_strings (shown r))))
+      ∙ sym (ap (tested e) strings_are)
 
-  agree_by : AllZero (end_bytes e) → (b : Bool) → ltb (length e.now) 42 ≡ b → (c : Bool) → ltb (length e.now) (45 + n + t + k) ≡ c → field_of Checked e ≡ field_of Present e
+  pub in_modes : (mode : Mode) → field_of mode e ≡ and_then (in_mode mode (tested e (strings_met e))) (λ _. field_of Present e)
+  in_modes Present = refl
+  in_modes Checked =
+      read_is e Checked h ∙ either (strings_tested e) (attributes_tested e) (and_then (list_whole e) (λ _. Ok r))
+      ∙ ap₂ (λ (x : Result Unit Refusal) (y : Result AdsFieldInfo Refusal). and_then x (λ _. y)) tests_are (sym (read_is e Present h))
+
+-- what is tested and read passes the test
+passed_then : (x : Result Unit Refusal) (y : Result AdsFieldInfo Refusal) (r : AdsFieldInfo) → and_then x (λ _. y) ≡ Ok r → (x ≡ Ok tt) × (y ≡ Ok r)
+passed_then (Ok u) y r h = (refl, h)
+passed_then (Err why) y r h = cc
+
+module _ (e : Bor (List ℕ)) where
+  abbrev needed : ℕ
+  needed = 45 + le2 e.now 32 + le2 e.now 34 + le2 e.now 36
+
+  early : (HasStrings e → ⊥) → field_of Checked e ≡ field_of Present e
   unfolding field_of front_of
-  agree_by z true x c y = simp x
-  agree_by z false x true y = simp (x, y)
-  agree_by z false x false y =
-      let h : HasStrings e = record { header = ltb-false (length e.now) 42 x; strings = ltb-false (length e.now) (45 + n + t + k) y } in
-      let p = two_passed strings_of attributes_of (sym bytes_are ∙ zero_passes (end_bytes e) z) in
-      read_is Checked h ∙ (simp (p.0, p.1) refl ∙ sym (read_is Present h))
+  early gap = by_header (ltb (length e.now) 42) refl (ltb (length e.now) needed) refl
+    where
+      by_header : (b : Bool) → ltb (length e.now) 42 ≡ b → (c : Bool) → ltb (length e.now) needed ≡ c → field_of Checked e ≡ field_of Present e
+      by_header true x c y = simp x
+      by_header false x true y = simp (x, y)
+      by_header false x false y = absurd (gap (record { header = ltb-false (length e.now) 42 x; strings = ltb-false (length e.now) needed y }))
 
   pub is_of_modes : IsOfModes e
   is_of_modes =
       record {
-        bytes = bytes_of;
-        told = λ mode r h. let a = accepted_is mode e r h in told_of a.strings ∙ ap (end_bytes_of e) a.is;
-        accepted = λ r h.
-            let a = (accepted_is Checked e r h).strings in
-            let p = both_passed strings_of attributes_of (and_then list_whole (λ _. Ok (record_is e a))) r (sym (read_is Checked a) ∙ h) in
-            (read_is Present a ∙ p.1.1, passed_zero (end_bytes e) (bytes_are ∙ simp (p.0, p.1.0)));
-        agree = λ z. agree_by z (ltb (length e.now) 42) refl (ltb (length e.now) (45 + n + t + k)) refl;
-        first = λ h b i.
-            let refused : and_then strings_of (λ _. attributes_of) ≡ Err (EndByte b.0 b.1) = sym bytes_are ∙ ap ended i.among ∙ first_refused i.before i.behind b i.zero i.not in
-            read_is Checked h ∙ one_refused strings_of attributes_of (and_then list_whole (λ _. Ok (record_is e h))) (EndByte b.0 b.1) refused;
+        early = early;
+        alike = λ h all. in_modes e h Checked ∙ ap (λ (x : Result Unit Refusal). and_then x (λ _. field_of Present e)) (passes e (strings_met e) all);
+        first = λ h s f. in_modes e h Checked ∙ ap (λ (x : Result Unit Refusal). and_then x (λ _. field_of Present e)) (refuses e (strings_met e) s f);
+        accepted = λ r c.
+            let h = (accepted_is Checked e r c).strings in
+            let p = passed_then (tested e (strings_met e)) (field_of Present e) r (sym (in_modes e h Checked) ∙ c) in
+            (p.1, passed e (strings_met e) p.0);
+        told = λ mode r c. let a = accepted_is mode e r c in strings_are e a.strings ∙ ap strings_of a.is;
       }
 
 pub fields_modes : FieldsModes

@@ -23,10 +23,9 @@ use Rattle.field.specs.declared.AdsFieldInfo.{AdsFieldInfo}
 use Rattle.field.specs.declared.front.Front.{Front}
 use Rattle.field.specs.declared.tail.Tail.{Tail}
 use Rattle.field.specs.Skip.{ahead, after_items}
-use Rattle.field.specs.Front.{with_strings, string_ends, front_of}
+use Rattle.field.specs.Front.{with_strings, string_ends, front_of, front_by_header, HasStrings}
 use Rattle.field.specs.Tail.{type_guid_flag, copy_mask_flag, method_infos_flag, attributes_flag, guid_of, after_mask, after_methods, attributes_of, sections_of, complete, attribute_ends, tail_of}
 use Rattle.field.specs.Field.{joined, behind_items, field_of}
-use Rattle.field.specs.Modes.{front_by_header, HasStrings}
 use Rattle.field.specs.Within.{IsAttributeIn, IsWithin, FieldsWithin}
 
 -- bytes that are the end of others
@@ -233,6 +232,16 @@ module _ (e : Bor (List ℕ)) (h : HasStrings e) where
       let z = comment_long in
       record {
         long = refl;
+        version = refl;
+        hash_value = refl;
+        type_hash_value = refl;
+        size = refl;
+        offset = refl;
+        type_id = refl;
+        flags = refl;
+        name_length = x;
+        type_name_length = y;
+        comment_length = z;
         name = ap (λ (m : ℕ). part e 42 m) (sym x);
         type_name = ap₂ (λ (m u : ℕ). part e (43 + m) u) (sym x) (sym y);
         comment = ap₂ (λ (m u : ℕ). part e (44 + m + u) k) (sym x) (sym y) ∙ ap (λ (u : ℕ). part e (44 + length record_is.name.now + length record_is.type_name.now) u) (sym z);

@@ -1,5 +1,5 @@
 -- docs/FORMAT.md, "Field entries": a header of 42 bytes; name, type and comment, each with one end byte. Entries of data types begin so too.
-use Rattle.std.specs.Prelude.{ℕ, ◌+◌, List, [], ◌∷◌, Result, Ok, Err, ltb, length, get_or, if◌then◌else◌}
+use Rattle.std.specs.Prelude.{ℕ, ◌+◌, ◌≤◌, List, [], ◌∷◌, Result, Ok, Err, ltb, length, get_or, if◌then◌else◌}
 use Rattle.std.specs.Borrow.{Bor}
 use Rattle.le.specs.Le.{le2, le4}
 use Rattle.part.specs.Slice.{part, after}
@@ -29,6 +29,15 @@ with_strings e n t k =
       sub_item_count = le2 e.now 40;
       rest = after e (45 + n + t + k);
     }
+
+-- the front of an entry, whether or not there is room for its strings
+abbrev pub front_by_header : Bor (List ℕ) → Front
+front_by_header e = with_strings e (le2 e.now 32) (le2 e.now 34) (le2 e.now 36)
+
+-- the header is there, and so are the strings
+pub record HasStrings (e : Bor (List ℕ)) : Type 0 where
+  pub header : 42 ≤ length e.now
+  pub strings : 45 + le2 e.now 32 + le2 e.now 34 + le2 e.now 36 ≤ length e.now
 
 -- the end bytes of strings of these lengths, with their places
 abbrev pub string_ends : List ℕ → ℕ → ℕ → ℕ → List (ℕ × ℕ)

@@ -9,9 +9,8 @@ use Rattle.refusal.specs.declared.Mode.TheVariants.{Present}
 use Rattle.refusal.specs.declared.Refusal.{Refusal}
 use Rattle.attribute.specs.Attribute.{first_of, listed, after_listed}
 use Rattle.field.specs.declared.AdsFieldInfo.{AdsFieldInfo}
-use Rattle.field.specs.Tail.{type_guid_flag, copy_mask_flag, method_infos_flag, attributes_flag}
 use Rattle.field.specs.Field.{joined, field_of}
-use Rattle.field.specs.Modes.{front_by_header, HasStrings}
+use Rattle.field.specs.Front.{front_by_header, HasStrings}
 
 -- a sub-item, and a method: its own length in 4 bytes, and whatever follows within it
 pub record IsItem (item : List ℕ) : Type 0 where
@@ -38,8 +37,8 @@ abbrev pub laid : ℕ → Parts → List ℕ → List ℕ
 laid flags p more =
     p.arrays
     ++ (concat p.items
-    ++ (section (has flags type_guid_flag) p.guid
-    ++ (section (has flags copy_mask_flag) p.mask ++ (section (has flags method_infos_flag) (bytes2 (length p.methods) ++ concat p.methods) ++ more))))
+    ++ (section (has flags 0x0080) p.guid
+    ++ (section (has flags 0x0200) p.mask ++ (section (has flags 0x0800) (bytes2 (length p.methods) ++ concat p.methods) ++ more))))
 
 abbrev pub flags_of : Bor (List ℕ) → ℕ
 flags_of e = le4 e.now 28
@@ -66,15 +65,15 @@ pub data Shows (s : Bor (List ℕ)) (count : ℕ) : ℕ → Option Refusal → T
 -- with the bytes of its attributes and how many are shown
 abbrev pub field_with : Bor (List ℕ) → Parts → Bor (List ℕ) → ℕ → AdsFieldInfo
 field_with e p bytes count =
-    joined (front_by_header e) (record { guid = guid_told (has (flags_of e) type_guid_flag) p.guid; attributes = record { bytes = bytes; count = count } })
+    joined (front_by_header e) (record { guid = guid_told (has (flags_of e) 0x0080) p.guid; attributes = record { bytes = bytes; count = count } })
 
 -- so laid, it is read with the attributes that stand behind the parts, and refused by one of them that is; without them where they are not flagged, or there is no room for their count
 pub record IsReadSo (e : Bor (List ℕ)) (p : Parts) (more : List ℕ) : Type 0 where
-  pub without : has (flags_of e) attributes_flag ≡ false → field_of Present e ≡ Ok (field_with e p (after e (length e.now - length more)) 0)
+  pub without : has (flags_of e) 0x1000 ≡ false → field_of Present e ≡ Ok (field_with e p (after e (length e.now - length more)) 0)
   pub short : length more < 2 → field_of Present e ≡ Ok (field_with e p (after e (length e.now - length more)) 0)
-  pub read : has (flags_of e) attributes_flag ≡ true → 2 ≤ length more → (n : ℕ) → Shows (after e (length e.now - length more + 2)) (le2 more 0) n None
+  pub read : has (flags_of e) 0x1000 ≡ true → 2 ≤ length more → (n : ℕ) → Shows (after e (length e.now - length more + 2)) (le2 more 0) n None
       → field_of Present e ≡ Ok (field_with e p (after e (length e.now - length more + 2)) n)
-  pub refused : has (flags_of e) attributes_flag ≡ true → 2 ≤ length more → (n : ℕ) (why : Refusal)
+  pub refused : has (flags_of e) 0x1000 ≡ true → 2 ≤ length more → (n : ℕ) (why : Refusal)
       → Shows (after e (length e.now - length more + 2)) (le2 more 0) n (Some why) → field_of Present e ≡ Err why
 
 abbrev pub FieldsLaid : Type 0

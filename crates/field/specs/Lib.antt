@@ -7,7 +7,10 @@ pub mod Kind
 pub mod Writing
 pub mod Told
 pub mod Within
-pub mod Placed
-pub mod Modes
 pub mod Laid
+pub mod Placed
+pub mod Ended
+pub mod Modes
+pub mod Refused
 pub mod Written
+pub mod Bytes

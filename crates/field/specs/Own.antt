@@ -1,4 +1,4 @@
--- No refusal of the reader is 10.
+-- docs/FORMAT.md, "Refusals": no refusal of the reader is 10, which is the walk's alone.
 use Rattle.std.proofs.Common.{ℕ, zero, suc, ◌≡◌, refl, Bool, List, length, arith, Bor}
 use Rattle.std.specs.Prelude.{false, eqb, Option, Some, None, Result, Ok, Err, if◌then◌else◌}
 use Rattle.part.specs.Outcome.{outcome}

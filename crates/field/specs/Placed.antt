@@ -8,9 +8,8 @@ use Rattle.refusal.specs.declared.Mode.TheVariants.{Present}
 use Rattle.refusal.specs.declared.Refusal.{Refusal}
 use Rattle.attribute.specs.Attribute.{listed}
 use Rattle.field.specs.declared.AdsFieldInfo.{AdsFieldInfo}
-use Rattle.field.specs.Tail.{type_guid_flag, copy_mask_flag, method_infos_flag, attributes_flag}
 use Rattle.field.specs.Field.{joined, field_of}
-use Rattle.field.specs.Modes.{front_by_header, HasStrings}
+use Rattle.field.specs.Front.{front_by_header, HasStrings}
 use Rattle.field.specs.Laid.{Shows}
 
 -- a section is there where the header flags it and so many bytes are left from a place on
@@ -32,28 +31,32 @@ unfoldable pub guid_at : List ℕ → ℕ
 guid_at e = behind e (items_at e) (le2 e 40)
 
 unfoldable pub mask_at : List ℕ → ℕ
-mask_at e = guid_at e + (if is_there e type_guid_flag (guid_at e) 16 then 16 else 0)
+mask_at e = guid_at e + (if is_there e 0x0080 (guid_at e) 16 then 16 else 0)
 
 -- a mask has a byte for each byte of the value, and leads to the entry's end at most, also back to it
 unfoldable pub methods_at : List ℕ → ℕ
-methods_at e = if has (le4 e 28) copy_mask_flag then min (mask_at e + le4 e 16) (length e) else mask_at e
+methods_at e = if has (le4 e 28) 0x0200 then min (mask_at e + le4 e 16) (length e) else mask_at e
 
 unfoldable pub attributes_at : List ℕ → ℕ
 attributes_at e =
-    if is_there e method_infos_flag (methods_at e) 2 then behind e (methods_at e + 2) (le2 e (methods_at e))
+    if is_there e 0x0800 (methods_at e) 2 then behind e (methods_at e + 2) (le2 e (methods_at e))
     else methods_at e
 
 abbrev pub guid_there : List ℕ → Option (List ℕ)
-guid_there e = if is_there e type_guid_flag (guid_at e) 16 then Some (take 16 (drop (guid_at e) e)) else None
+guid_there e = if is_there e 0x0080 (guid_at e) 16 then Some (take 16 (drop (guid_at e) e)) else None
 
 -- there is room for their count
 abbrev pub attributes_there : List ℕ → Bool
-attributes_there e = is_there e attributes_flag (attributes_at e) 2
+attributes_there e = is_there e 0x1000 (attributes_at e) 2
+
+-- where the attributes begin: behind their count, where that is there
+abbrev pub attributes_from : List ℕ → ℕ
+attributes_from e = attributes_at e + (if attributes_there e then 2 else 0)
 
 -- the GUID is read, and the attributes behind their count, where they are there; else there are none
 pub record IsPlaced (e : Bor (List ℕ)) (r : AdsFieldInfo) : Type 0 where
   pub guid : r.guid ≡ guid_there e.now
-  pub attributes : r.attributes.bytes ≡ after e (min (attributes_at e.now + (if attributes_there e.now then 2 else 0)) (length e.now))
+  pub attributes : r.attributes.bytes ≡ after e (min (attributes_from e.now) (length e.now))
   pub count : r.attributes.count ≡ (if attributes_there e.now then length (listed r.attributes.bytes (le2 e.now (attributes_at e.now))) else 0)
 
 -- whatever the mode

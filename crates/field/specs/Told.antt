@@ -1,12 +1,11 @@
--- What a field tells, wherever it lies, and what is meant by one that is written.
+-- docs/FORMAT.md, "Fit records": what a field tells, wherever it lies, and what is meant by one that is written.
 use Rattle.std.specs.Prelude.{ℕ, ◌<◌, ◌≡◌, false, List, Option, Some, None, is_some, length}
+use Rattle.le.specs.Le.{has}
 use Rattle.flags.specs.declared.type_flags.AdsTypeFlags.{AdsTypeFlags}
 use Rattle.attribute.specs.Attribute.{listed}
 use Rattle.attribute.specs.Told as attributes
 use Rattle.field.specs.declared.AdsFieldInfo.{AdsFieldInfo}
 use Rattle.field.specs.declared.writer.NewField.{NewField}
-use Rattle.field.specs.Tail.{type_guid_flag, method_infos_flag, attributes_flag}
-use Rattle.field.specs.Writing.{flagged}
 
 -- 16 bytes, if any
 abbrev pub IsGuid : Option (List ℕ) → Type 0
@@ -23,20 +22,6 @@ pub record IsTyped (p : NewField) : Type 0 where
   pub type_id : p.type_id < 4294967296
   pub flags : p.flags.0 < 4294967296
   pub guid : IsGuid p.guid
-
--- and no more: each number the largest that its type holds
-pub record IsLargest (p : NewField) : Type 0 where
-  pub version : p.version ≡ 0xFFFFFFFF
-  pub hash_value : p.hash_value ≡ 0xFFFFFFFF
-  pub type_hash_value : p.type_hash_value ≡ 0xFFFFFFFF
-  pub size : p.size ≡ 0xFFFFFFFF
-  pub offset : p.offset ≡ 0xFFFFFFFF
-  pub type_id : p.type_id ≡ 0xFFFFFFFF
-  pub flags : p.flags.0 ≡ 0xFFFFFFFF
-  pub guid : IsGuid p.guid
-
-abbrev pub LargestTyped : Type 0
-LargestTyped = (p : NewField) → IsLargest p → IsTyped p
 
 -- all that a field tells: no part of where it stands
 pub record Told : Type 0 where
@@ -90,7 +75,7 @@ meant p extra =
 
 -- docs/FORMAT.md, "Fit records": the method flag is clear, the GUID present exactly if flagged, and the attribute block empty and its count 0 unless flagged
 pub record Agrees (p : NewField) : Type 0 where
-  pub no_methods : flagged p method_infos_flag ≡ false
-  pub guid_agrees : is_some p.guid ≡ flagged p type_guid_flag
-  pub no_block : flagged p attributes_flag ≡ false → length p.attributes.bytes.now ≡ 0
-  pub no_count : flagged p attributes_flag ≡ false → p.attributes.count ≡ 0
+  pub no_methods : has p.flags.0 0x0800 ≡ false
+  pub guid_agrees : is_some p.guid ≡ has p.flags.0 0x0080
+  pub no_block : has p.flags.0 0x1000 ≡ false → length p.attributes.bytes.now ≡ 0
+  pub no_count : has p.flags.0 0x1000 ≡ false → p.attributes.count ≡ 0

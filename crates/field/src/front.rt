@@ -17,9 +17,10 @@ pub struct Front<'a> {
     pub hash_value: u32,
     /// The maker's hash of its type.
     pub type_hash_value: u32,
-    /// The size of a value, in bytes; a copy mask has as many.
+    /// The size of a value: in bytes, or in bits where the flags have `BIT_VALUES`. A copy mask has as many bytes as this number says.
     pub size: u32,
-    /// Where it stands in a value of the type that has it, in bytes.
+    /// Where it stands in a value of the type that has it: in bytes, or in bits where the flags have `BIT_VALUES`. A static one (`STATIC`),
+    /// a reference (`REFERENCE_TO`) and a property (`PROP_ITEM`) have no place that is a sum of offsets.
     pub offset: u32,
     /// The maker's number of its type.
     pub type_id: u32,

@@ -32,9 +32,10 @@ pub struct AdsFieldInfo<'a> {
     pub hash_value: u32,
     /// The maker's hash of its type.
     pub type_hash_value: u32,
-    /// The size of a value, in bytes.
+    /// The size of a value: in bytes, or in bits where the flags have `BIT_VALUES`.
     pub size: u32,
-    /// Where it stands in a value of the type that has it, in bytes.
+    /// Where it stands in a value of the type that has it: in bytes, or in bits where the flags have `BIT_VALUES`. A static one (`STATIC`),
+    /// a reference (`REFERENCE_TO`) and a property (`PROP_ITEM`) have no place that is a sum of offsets.
     pub offset: u32,
     /// The maker's number of its type.
     pub type_id: u32,
@@ -53,6 +54,9 @@ pub struct AdsFieldInfo<'a> {
 }
 
 impl<'a> AdsFieldInfo<'a> {
+    /// The length of the header.
+    pub const MIN_LENGTH: usize = 42;
+
     /// The record of an entry with this front and this tail.
     #[inline(always)]
     pub fn joined(front: Front<'a>, tail: Tail<'a>) -> AdsFieldInfo<'a>
@@ -113,7 +117,7 @@ impl<'a> Entry<'a> for AdsFieldInfo<'a> {
     fn header() -> usize
         ensures { result ≡ 42 }
     {
-        42
+        Self::MIN_LENGTH
     }
 
     #[tactic(auto, unfolding(crate::specs::Field::field_of))]

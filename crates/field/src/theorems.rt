@@ -2,11 +2,15 @@
 ghost use Rattle.field.specs.Laid.{FieldsLaid};
 ghost use Rattle.field.specs.Modes.{FieldsModes};
 ghost use Rattle.field.specs.Placed.{FieldsPlaced, FieldsRead};
-ghost use Rattle.field.specs.Told.{LargestTyped};
+ghost use Rattle.field.specs.Refused.{FieldsRefused};
+ghost use Rattle.field.specs.Told.{IsTyped};
+ghost use Rattle.field.specs.Bytes.{FieldsInBytes};
 ghost use Rattle.field.specs.Written.{FieldsWritten};
 ghost use Rattle.field.specs.Within.{FieldsWithin, FieldsShown, FieldsNamed};
 
-/// What a field that is accepted tells is a part of its entry, each string with its end byte.
+use crate::writer::NewField;
+
+/// What a field that is accepted tells is a number of its header or a part of its entry, each string with its end byte.
 pub fn fields_within()
     ensures { FieldsWithin }
 {}
@@ -33,14 +37,21 @@ pub fn fields_named()
     ensures { FieldsNamed }
 {}
 
-/// The modes agree where all end bytes are 0, the checked mode accepts nothing else, and it refuses by the first that is not 0.
+/// An entry is read and refused alike in both modes where 0 follows every string that is met; any other that has a header and
+/// strings is refused in the checked mode by the first end byte that is not 0. Attributes are met up to one that is refused.
 pub fn fields_modes()
     ensures { FieldsModes }
 {}
 
-/// No more is asked of a field's numbers than their types say: the largest of each width is typed.
-pub fn largest_typed()
-    ensures { LargestTyped }
+/// An entry's own bytes are refused by the first of these and by no other: no header, no strings, an end byte in the checked mode,
+/// an attribute that is refused; each with its figures.
+pub fn fields_refused()
+    ensures { FieldsRefused }
+{}
+
+/// What a field is written from is typed: no more is asked of it than its types say.
+pub fn typed(field: NewField<'_>)
+    ensures { IsTyped field.entry }
 {}
 
 /// What stands behind the strings is passed over, or read, part by part as it lies there, and a refused attribute refuses the field.
@@ -49,7 +60,13 @@ pub fn fields_laid()
 {}
 
 /// A field is written exactly where its strings and its count are short, its flagged attributes are good, and its entry is within
-/// the limit; else it is refused by the first of these that fails.
+/// the limit; else it is refused by the first of these that fails, and by no other.
 pub fn fields_written()
     ensures { FieldsWritten }
+{}
+
+/// Each number of a field that is written stands at its place; behind the strings stands what is flagged, an absent GUID as 16
+/// zeros and a copy mask as so many zeros as the size says.
+pub fn fields_in_bytes()
+    ensures { FieldsInBytes }
 {}

@@ -21,9 +21,9 @@ pub struct NewField<'a> {
     pub hash_value: u32,
     /// The maker's hash of its type.
     pub type_hash_value: u32,
-    /// The size of a value, in bytes. A copy mask, where it is flagged, has as many.
+    /// The size of a value: in bytes, or in bits where the flags have `BIT_VALUES`. A copy mask, where it is flagged, has as many bytes as this number says.
     pub size: u32,
-    /// Where it stands in a value of the type that has it, in bytes.
+    /// Where it stands in a value of the type that has it: in bytes, or in bits where the flags have `BIT_VALUES`.
     pub offset: u32,
     /// The maker's number of its type.
     pub type_id: u32,

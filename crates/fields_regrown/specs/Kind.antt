@@ -1,4 +1,4 @@
--- Fields that are written, as a kind of entry that comes back.
+-- docs/FORMAT.md, "Fit records": fields that are written, as a kind of entry that comes back.
 use Rattle.std.proofs.Common.{ℕ, ◌+◌, ◌<◌, ◌≤◌, ◌≡◌, ap, ◌∙◌, List, ◌++◌, length, arith, Bor, length-append}
 use Rattle.std.specs.Prelude.{Ok}
 use Rattle.refusal.specs.Refusal.{limit}

@@ -1,4 +1,4 @@
--- The theorems of fields that are written.
+-- docs/FORMAT.md, "Fit records": the theorems of fields that are written.
 use Rattle.std.specs.Prelude.{ℕ, ◌≤◌, ◌≡◌, List, Result, Ok, ok_or, find, nat_eq, length, take}
 use Rattle.std.specs.Cmp.Lexicographic.{pointwise}
 use Rattle.std.specs.Borrow.{Bor}

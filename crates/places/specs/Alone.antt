@@ -1,4 +1,4 @@
--- Records and chains that stand alone, which other bytes may follow, in a mode.
+-- docs/FORMAT.md, "Attributes" and "Refactor records": records and chains that stand alone, which other bytes may follow, in a mode.
 use Rattle.std.specs.Prelude.{ℕ, List, Result}
 use Rattle.std.specs.Borrow.{Bor}
 use Rattle.part.specs.Outcome.{and_then}

@@ -1,4 +1,4 @@
--- The same, counted from the place where the record begins.
+-- docs/FORMAT.md, "Attributes" and "Refactor records": where a record's parts stand, counted from the place where it begins.
 use Rattle.std.specs.Prelude.{ℕ, ◌+◌, length}
 use Rattle.attribute.specs.declared.AdsAttribute.{AdsAttribute}
 use Rattle.refactor.specs.declared.AdsRefactorInfo.{AdsRefactorInfo}

@@ -4,13 +4,13 @@ use Rattle.std.specs.Borrow.{Bor}
 use Rattle.refusal.specs.declared.Mode.{Mode}
 use Rattle.refusal.specs.declared.Refusal.{Refusal}
 use Rattle.walk.specs.Mapped.{map_ok}
+use Rattle.field.specs.Placed.{attributes_from}
 use Rattle.data_type.specs.declared.AdsDataTypeInfo.{AdsDataTypeInfo}
 use Rattle.data_type.specs.DataType.{type_of}
 use Rattle.places.specs.declared.AttributePlaces.{AttributePlaces}
 use Rattle.data_type.specs.Theorems.{as_field}
 use Rattle.places.specs.declared.of_field.PlacedField.{PlacedField}
 use Rattle.places.specs.declared.of_type.PlacedType.{PlacedType}
-use Rattle.places.specs.Field.{attributes_at}
 use Rattle.places.specs.Entry.{entry_attribute, entry_attribute_named}
 
 -- what it has as a field has it
@@ -19,7 +19,7 @@ field_of_type p = record { field = as_field p.data_type; attributes_at = p.attri
 
 -- a data type with that place
 abbrev pub placed : Bor (List ℕ) → AdsDataTypeInfo → PlacedType
-placed e r = record { data_type = r; attributes_at = attributes_at e.now }
+placed e r = record { data_type = r; attributes_at = attributes_from e.now }
 
 unfoldable pub placed_of : Mode → Bor (List ℕ) → Result PlacedType Refusal
 placed_of mode e = map_ok (placed e) (type_of mode e)

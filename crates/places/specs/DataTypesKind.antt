@@ -1,4 +1,4 @@
--- What is asked of kinds of entry, of data types with the place of their attributes; and that these reach to the entry's end.
+-- docs/FORMAT.md, "Walking": what is asked of kinds of entry, of data types with the place of their attributes; and that these reach to the entry's end.
 use Rattle.std.proofs.Common.{ℕ, ◌<◌, ◌≤◌, ◌≡◌, ap, List, length, Ok, Err, Result, Bor}
 use Rattle.std.specs.Prelude.{false}
 use Rattle.refusal.specs.declared.Mode.{Mode}

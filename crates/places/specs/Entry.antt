@@ -1,4 +1,5 @@
--- What can be asked of the entry at the start of some bytes, whatever its kind: an attribute by number and by name. The reading refusals, then 14, or 13 of a name.
+-- docs/FORMAT.md, "Direct reading": what can be asked of the entry at the start of some bytes, whatever its kind: an attribute by number and by name. The reading
+-- refusals, then 14, or 13 of a name.
 use Rattle.std.specs.Prelude.{ℕ, List, Result}
 use Rattle.std.specs.Borrow.{Bor}
 use Rattle.part.specs.Outcome.{and_then}

@@ -1,4 +1,4 @@
--- What is asked of kinds of entry, of fields with the place of their attributes; and that a field's attributes reach to its entry's end.
+-- docs/FORMAT.md, "Walking": what is asked of kinds of entry, of fields with the place of their attributes; and that a field's attributes reach to its entry's end.
 use Rattle.std.proofs.Common.{ℕ, ◌+◌, ◌-◌, ◌∙◌, ◌<◌, ◌≤◌, ◌≡◌, ap, List, length, Ok, Err, Result, arith, Bor, length-drop}
 use Rattle.std.specs.Prelude.{false}
 use Rattle.refusal.specs.declared.Mode.{Mode}

@@ -1,4 +1,4 @@
--- What is asked of a kind of entry that shows attributes, of symbols; and the same of their refactor records.
+-- docs/FORMAT.md, "Symbol entries": what is asked of a kind of entry that shows attributes, of symbols; and the same of their refactor records.
 use Rattle.std.proofs.Common.{ℕ, ◌≡◌, ap, List, Ok, arith, Bor}
 use Rattle.refusal.specs.declared.Mode.{Mode}
 use Rattle.symbol.specs.declared.AdsSymbolInfo.{AdsSymbolInfo}

@@ -1,4 +1,4 @@
--- Where in some bytes a record of them stands: a place and a length for each of its strings, and the place after it.
+-- docs/FORMAT.md, "Numbers": where in some bytes a record of them stands: a place and a length for each of its strings, and the place after it.
 use Rattle.std.specs.Prelude.{ℕ, ◌+◌, ◌-◌, ◌≤◌, ◌≡◌, List, Result, length}
 use Rattle.std.specs.Borrow.{Bor}
 use Rattle.refusal.specs.declared.Refusal.{Refusal}

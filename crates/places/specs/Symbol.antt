@@ -1,4 +1,4 @@
--- What can be asked of the symbol at the start of some bytes: attributes by number and by name, refactor records by number.
+-- docs/FORMAT.md, "Direct reading": what can be asked of the symbol at the start of some bytes: attributes by number and by name, refactor records by number.
 use Rattle.std.specs.Prelude.{ℕ, List, Result}
 use Rattle.std.specs.Borrow.{Bor}
 use Rattle.part.specs.Outcome.{and_then}

@@ -72,7 +72,6 @@ fn refactor_at(at: usize, info: AdsRefactorInfo<'_>) -> RefactorPlaces
 }
 
 // The attribute with a number, counted from 0, of those at the end of an entry.
-
 pub(crate) fn attribute_numbered(
     own: &[u8],
     all: Attributes<'_>,

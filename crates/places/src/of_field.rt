@@ -1,7 +1,9 @@
 //! Where a field's attributes begin, and what can be asked of the field at the start of some bytes.
-ghost use Rattle.std.specs.Prelude.{◌≡◌, ◌+◌, ◌≤◌, length};
+ghost use Rattle.std.specs.Prelude.{◌≡◌, ◌+◌, ◌-◌, ◌≤◌, false, leb, min, length, if◌then◌else◌};
+ghost use Rattle.le.specs.Le.{le2};
+ghost use Rattle.field.specs.Placed.{behind, guid_at, attributes_from};
 ghost use Rattle.field.specs.Kind.{four};
-ghost use Rattle.places.specs.Field.{behind_items, behind_guid, behind_mask, behind_methods, behind_count, sections_at, attributes_at, attributes_before_end, placed_of};
+ghost use Rattle.places.specs.Field.{attributes_before_end, placed_of};
 ghost use Rattle.places.specs.FieldKind.{attributes_at_end, long, room, short, never_zero, placed_at_end};
 
 use crate::of_entry::Attributed;
@@ -23,7 +25,7 @@ pub struct PlacedField<'a> {
 // The place after so many items, each of which begins with its length.
 #[tactic(auto, using(crate::proofs::Fields::items_none, crate::proofs::Fields::items_short, crate::proofs::Fields::items_step))]
 fn behind_items(own: &[u8], from: usize, count: usize) -> usize
-    ensures { result ≡ behind_items own.now from count }
+    ensures { result ≡ behind own.now from count }
 {
     let mut at = from;
     for _ in 0..count {
@@ -35,9 +37,8 @@ fn behind_items(own: &[u8], from: usize, count: usize) -> usize
     at
 }
 
-#[tactic(auto, unfolding(crate::specs::Field::behind_guid))]
 fn behind_guid(own: &[u8], at: usize, flagged: bool) -> usize
-    ensures { result ≡ behind_guid own.now at flagged }
+    ensures { result ≡ at + (if (if flagged then leb 16 (length own.now - at) else false) then 16 else 0) }
 {
     if flagged && le::room(own.len(), at) >= 16 {
         return at + 16;
@@ -45,9 +46,8 @@ fn behind_guid(own: &[u8], at: usize, flagged: bool) -> usize
     at
 }
 
-#[tactic(auto, unfolding(crate::specs::Field::behind_mask))]
 fn behind_mask(own: &[u8], at: usize, size: usize, flagged: bool) -> usize
-    ensures { result ≡ behind_mask own.now at size flagged }
+    ensures { result ≡ (if flagged then min (at + size) (length own.now) else at) }
 {
     if !flagged {
         return at;
@@ -58,9 +58,8 @@ fn behind_mask(own: &[u8], at: usize, size: usize, flagged: bool) -> usize
     at + size
 }
 
-#[tactic(auto, unfolding(crate::specs::Field::behind_methods))]
 fn behind_methods(own: &[u8], at: usize, flagged: bool) -> usize
-    ensures { result ≡ behind_methods own.now at flagged }
+    ensures { result ≡ (if (if flagged then leb 2 (length own.now - at) else false) then behind own.now (at + 2) (le2 own.now at) else at) }
 {
     if flagged && le::room(own.len(), at) >= 2 {
         return behind_items(own, at + 2, le::u16_at(own, at) as usize);
@@ -68,9 +67,8 @@ fn behind_methods(own: &[u8], at: usize, flagged: bool) -> usize
     at
 }
 
-#[tactic(auto, unfolding(crate::specs::Field::behind_count))]
 fn behind_count(own: &[u8], at: usize, flagged: bool) -> usize
-    ensures { result ≡ behind_count own.now at flagged }
+    ensures { result ≡ at + (if (if flagged then leb 2 (length own.now - at) else false) then 2 else 0) }
 {
     if flagged && le::room(own.len(), at) >= 2 {
         return at + 2;
@@ -79,9 +77,10 @@ fn behind_count(own: &[u8], at: usize, flagged: bool) -> usize
 }
 
 // Where the array records and the sub-items of an entry end.
+#[tactic(auto, unfolding(field::specs::Placed::guid_at))]
 fn sections_at(own: &[u8]) -> usize
     requires { 42 ≤ length own.now }
-    ensures { result ≡ sections_at own.now }
+    ensures { result ≡ guid_at own.now }
 {
     let strings = 45
         + le::u16_at(own, 32) as usize
@@ -92,10 +91,10 @@ fn sections_at(own: &[u8]) -> usize
 }
 
 // Where the attributes of an entry begin.
-#[tactic(auto, unfolding(crate::specs::Field::attributes_at))]
+#[tactic(auto, unfolding(field::specs::Placed::mask_at, field::specs::Placed::methods_at, field::specs::Placed::attributes_at))]
 fn attributes_at(own: &[u8]) -> usize
     requires { 42 ≤ length own.now }
-    ensures { result ≡ attributes_at own.now }
+    ensures { result ≡ attributes_from own.now }
 {
     let flags = AdsTypeFlags(le::u32_at(own, 28));
     let guid = behind_guid(own, sections_at(own), flags.has_type_guid());
