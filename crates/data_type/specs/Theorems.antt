@@ -12,6 +12,7 @@ use Rattle.data_type.specs.declared.AdsDataTypeInfo.{AdsDataTypeInfo}
 use Rattle.data_type.specs.declared.array.AdsArrayInfo.{AdsArrayInfo}
 use Rattle.data_type.specs.Array.{numbered}
 use Rattle.data_type.specs.DataType.{type_of}
+use Rattle.data_type.specs.Layout.{strings_end}
 
 -- what a field's record says of a data type
 abbrev pub as_field : AdsDataTypeInfo → AdsFieldInfo
@@ -35,10 +36,6 @@ as_field r =
 -- what this reader accepts the field reader accepts, with the same record: both take the same bytes for array records, sub-items and tail
 abbrev pub TypesAsFields : Type 0
 TypesAsFields = (mode : Mode) (s : Bor (List ℕ)) (r : AdsDataTypeInfo) → parse_of 42 (type_of mode) s ≡ Ok r → parse_of 42 (field_of mode) s ≡ Ok (as_field r)
-
--- where the strings end
-abbrev pub strings_end : List ℕ → ℕ
-strings_end s = 45 + le2 s 32 + le2 s 34 + le2 s 36
 
 abbrev pub array_at : List ℕ → ℕ → AdsArrayInfo
 array_at s at = record { lower_bound = le4 s at; elements = le4 s (at + 4) }
