@@ -75,10 +75,10 @@ pub struct Member<'a> {
 
 /// A sub-item, by its front and its array records alone.
 #[derive(Clone, Copy, Debug)]
-pub struct Item<'a> {
+pub(crate) struct Item<'a> {
     /// The own bytes of its entry.
     pub own: &'a [u8],
-    /// Where it stands in a value of its parent, in bytes.
+    /// The offset that its header tells.
     pub offset: u32,
     /// What stands behind its array records: first its own sub-items.
     pub first: &'a [u8],
@@ -91,7 +91,7 @@ pub struct Item<'a> {
 /// The sub-item at the start of some bytes of its parent.
 #[tactic(auto, using(crate::proofs::Entry::fits), unfolding(crate::specs::Members::item_in))]
 #[inline(always)]
-pub fn item_in(bytes: &[u8]) -> Result<Item<'_>, Refusal>
+pub(crate) fn item_in(bytes: &[u8]) -> Result<Item<'_>, Refusal>
     ensures { result ≡ item_in bytes.entry }
 {
     let (own, behind) = taken(bytes)?;
