@@ -26,6 +26,9 @@ use Rattle.data_type.specs.declared.AdsDataTypeInfo.{AdsDataTypeInfo}
 use Rattle.data_type.specs.declared.members.Position.{Position}
 use Rattle.data_type.specs.declared.reader.Items as items
 use Rattle.data_type.specs.DataType.{taken, items_from, item_at, arrays_of, type_at, type_of}
+use Rattle.walk.specs.Mapped.{map_ok}
+use Rattle.data_type.specs.Members.{members_of}
+use Rattle.data_type.specs.List.{slots_of}
 use Rattle.data_type.specs.Layout.{strings_end, arrays_end, string_bytes, HasStrings, front}
 use Rattle.data_type.specs.Refused.{Asked, Whole, Many, Claims, IsRefused, strings, ends, arrays, items, sections, deep, few, outside, below, first, later, IsRootRefused, TypesRefused}
 use Rattle.data_type.specs.Refused as refused
@@ -309,6 +312,6 @@ module _ (mode : Mode) (s : Bor (List ℕ)) (why : Refusal) (h : parse_of 42 (ty
 pub types_refused : TypesRefused
 types_refused =
     record {
-      refuses = root_refuses;
+      refuses = λ mode s why r. let h = root_refuses mode s why r in (h, ap (map_ok (λ (r : AdsDataTypeInfo). slots_of (members_of r))) h);
       refused = λ mode s why h. root_by mode s why h (ltb limit (length s.now)) (ltb (length s.now) 42) (ltb (length s.now) (le4 s.now 0)) (ltb (le4 s.now 0) 42) refl refl refl refl;
     }

@@ -14,6 +14,7 @@ use Rattle.data_type.specs.declared.AdsDataTypeInfo.{AdsDataTypeInfo}
 use Rattle.data_type.specs.declared.members.Member.{Member}
 use Rattle.data_type.specs.declared.members.Position.{Position}
 use Rattle.data_type.specs.DataType.{type_of}
+use Rattle.data_type.specs.List.{members_written}
 use Rattle.data_type.specs.Layout.{strings_end, arrays_end, string_bytes, HasStrings}
 use Rattle.data_type.specs.Stand.{Entry, Items, Stand}
 
@@ -59,7 +60,7 @@ pub data IsRootRefused (mode : Mode) (s : Bor (List ℕ)) : Refusal → Type 0 w
   below : length s.now ≤ 16777216 → 42 ≤ length s.now → le4 s.now 0 ≤ length s.now → le4 s.now 0 < 42 → IsRootRefused mode s (ClaimBelowHeader 42 (le4 s.now 0))
   entry : {why : Refusal} → length s.now ≤ 16777216 → Claims s → IsRefused mode 1 (Whole (part s 0 (le4 s.now 0))) why → IsRootRefused mode s why
 
--- exactly by that it is refused
+-- exactly by that it is refused, and by that the list of its members
 pub record TypesRefused : Type 0 where
-  pub refuses : (mode : Mode) (s : Bor (List ℕ)) (why : Refusal) → IsRootRefused mode s why → parse_of 42 (type_of mode) s ≡ Err why
+  pub refuses : (mode : Mode) (s : Bor (List ℕ)) (why : Refusal) → IsRootRefused mode s why → (parse_of 42 (type_of mode) s ≡ Err why) × (members_written mode s ≡ Err why)
   pub refused : (mode : Mode) (s : Bor (List ℕ)) (why : Refusal) → parse_of 42 (type_of mode) s ≡ Err why → IsRootRefused mode s why

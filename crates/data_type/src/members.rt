@@ -17,7 +17,10 @@ pub struct Position {
     pub path: [usize; 15],
     /// The data type's own depth is 1; so the path has one place less.
     pub depth: usize,
-    /// The sum of the offsets along the path: bytes from the start of a value of the data type.
+    /// The sum of the offsets along the path, as the headers tell them. It is where the member stands in a value of the data type, in
+    /// bytes, unless the flags of a member along the path say otherwise (docs/FORMAT.md, "Data type entries"): offsets may be in bits,
+    /// a static member stands elsewhere, as does what a reference refers to, and a property stands nowhere. What is below an array is
+    /// told in its first element.
     pub offset: u64,
 }
 
