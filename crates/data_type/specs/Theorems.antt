@@ -1,9 +1,8 @@
--- What is read as a data type, beside the field reader, by its bytes, and in the two modes.
+-- docs/FORMAT.md, "Data type entries": what is read as a data type, beside the field reader; its array records, by its bytes.
 use Rattle.std.specs.Prelude.{ℕ, ◌+◌, ◌*◌, ◌<◌, ◌≤◌, ◌≡◌, List, Ok, Err}
 use Rattle.std.specs.Borrow.{Bor}
 use Rattle.le.specs.Le.{le2, le4}
 use Rattle.refusal.specs.declared.Mode.{Mode}
-use Rattle.refusal.specs.declared.Mode.TheVariants.{Present, Checked}
 use Rattle.refusal.specs.declared.Refusal.TheVariants.{NoSuchNumber}
 use Rattle.walk.specs.Step.{parse_of}
 use Rattle.field.specs.declared.AdsFieldInfo.{AdsFieldInfo}
@@ -47,7 +46,3 @@ pub record IsArrays (s : List ℕ) (r : AdsDataTypeInfo) : Type 0 where
 
 abbrev pub ArraysMeant : Type 0
 ArraysMeant = (mode : Mode) (s : Bor (List ℕ)) (r : AdsDataTypeInfo) → parse_of 42 (type_of mode) s ≡ Ok r → IsArrays s.now r
-
--- docs/FORMAT.md, "Modes": what the checked mode reads the present mode reads alike
-abbrev pub TypesPresent : Type 0
-TypesPresent = (s : Bor (List ℕ)) (r : AdsDataTypeInfo) → parse_of 42 (type_of Checked) s ≡ Ok r → parse_of 42 (type_of Present) s ≡ Ok r

@@ -1,4 +1,4 @@
--- An entry with no array record and no sub-item is read as a field is: the same record or the same refusal, whatever its bytes, with no member.
+-- docs/FORMAT.md, "Data type entries": an entry with no array record and no sub-item is read as a field is: the same record or the same refusal, whatever its bytes, with no member.
 use Rattle.std.proofs.Common.{ℕ, ◌≡◌, refl, sym, ap, ap₂, ◌∙◌, min, List, length, arith, Bor}
 use Rattle.std.specs.Prelude.{Result, Ok, Err}
 use borrow.Author.Tests.{le-ltb}
