@@ -29,7 +29,7 @@ passed_over : (s behind : Bor (List ℕ)) → Behind s behind → ahead s (le4 s
 passed_over s behind b = let room = b.room in let m : min (le4 s.now 0) (length s.now) ≡ le4 s.now 0 = omega arith in ap (after s) m ∙ sym b.is
 
 -- sub-items that were read are passed over to the same place
-skipped : (mode : Mode) (left n : ℕ) (s : Bor (List ℕ)) (items : Items) → items_from (item_at mode left) s n ≡ Ok items → after_items s n ≡ items.rest
+pub skipped : (mode : Mode) (left n : ℕ) (s : Bor (List ℕ)) (items : Items) → items_from (item_at mode left) s n ≡ Ok items → after_items s n ≡ items.rest
 unfolding items_from after_items
 skipped mode left zero s items h = let e : record { rest = s; members = 0 } ≡ items = cc h in ap (λ (x : Items). x.rest) e
 skipped mode left (suc n) s items h =
@@ -38,7 +38,7 @@ skipped mode left (suc n) s items h =
     let z : suc n - 1 ≡ n = omega arith in
     items_step s (suc n) b.four (omega arith) ∙ ap (after_items (ahead s (le4 s.now 0))) z ∙ ap (λ (x : Bor (List ℕ)). after_items x n) (passed_over s t.behind b) ∙ skipped mode left n t.behind t.more t.rest ∙ ap (λ (x : Items). x.rest) t.is
 
-arrays_skipped : (f : Front) (a : ArrayInfos × Bor (List ℕ)) → arrays_of f ≡ Ok a → ahead f.rest (8 * f.array_count) ≡ a.1
+pub arrays_skipped : (f : Front) (a : ArrayInfos × Bor (List ℕ)) → arrays_of f ≡ Ok a → ahead f.rest (8 * f.array_count) ≡ a.1
 unfolding arrays_of
 arrays_skipped f a h =
     let room : 8 * f.array_count ≤ length f.rest.now = grind arith in

@@ -10,11 +10,14 @@ pub mod Filling
 pub mod Listed
 pub mod More
 pub mod AsField
-pub mod InModes
 pub mod Chain
 pub mod Numbers
+pub mod Fronts
 pub mod Stands
+pub mod Behind
+pub mod InModes
 pub mod Refused
 pub mod Each
 pub mod Laid
+pub mod Paths
 pub mod Meant

@@ -15,6 +15,7 @@ use Rattle.data_type.proofs.Inside.{holds, all_of, counted}
 use Rattle.data_type.proofs.Listed.{three_each}
 use Rattle.data_type.proofs.Numbers.{le2_part}
 use Rattle.data_type.proofs.Each.{each_get, sooner}
+use Rattle.data_type.proofs.Paths.{PathsIn, paths_none, paths_more}
 use Rattle.data_type.proofs.Laid as Laid
 use Rattle.data_type.proofs.Laid.{behind_arrays, within_own, LaidIn, laid_none, laid_more}
 
@@ -62,6 +63,9 @@ types_meant mode s r h =
       counted = c;
       order = subst (λ (e : ℕ). Between 1 e (members_of r)) size (sooner (r.length - length r.sub_items.bytes.now) 1 r.length (members_of r) (omega arith) l.order);
       stands = each_get l.each;
+      path = λ k m x i y.
+          let q = all_of mode PathsIn paths_none (paths_more mode) 15 r.sub_items.count root r.length r.sub_items.bytes o.items refl o.read (omega (arith, il)) refl (omega arith) k m x in
+          q.lies i (omega arith) y;
       slots = slots_of (members_of r);
       written = simp h;
       all = three_each mode s r h;

@@ -1,5 +1,5 @@
 -- A turn of reading sub-items, by how many are left; what the levels left mean for one.
-use Rattle.std.proofs.Common.{ℕ, zero, suc, ◌+◌, ◌-◌, ◌<◌, ◌≤◌, ◌≡◌, refl, ap, List, length, arith, Bor, length-take, length-drop}
+use Rattle.std.proofs.Common.{ℕ, zero, suc, ◌+◌, ◌-◌, ◌<◌, ◌≤◌, ◌≡◌, refl, ap, ◌∙◌, List, length, arith, Bor, length-take, length-drop}
 use Rattle.std.specs.Prelude.{Result, Ok, Err}
 use Rattle.part.specs.Outcome.{and_then}
 use Rattle.refusal.specs.declared.Mode.{Mode}
@@ -58,12 +58,18 @@ module _ (mode : Mode) (s : Bor (List ℕ)) where
   pub item_unread : (left : ℕ) (own behind : Bor (List ℕ)) (why : Refusal) → (left ≡ 0 → ⊥) → taken s ≡ Ok (own, behind) → type_at mode (left - 1) own ≡ Err why → item_at mode left s ≡ Err why
   unfolding item_at
   item_unread zero own behind why h k l = absurd (h refl)
-  item_unread (suc left) own behind why h k l = let z : suc left - 1 ≡ left = omega arith in simp (k, ← z, l)
+  item_unread (suc left) own behind why h k l =
+      let z : left ≡ suc left - 1 = omega arith in
+      let r : type_at mode left own ≡ Err why = ap (λ (n : ℕ). type_at mode n own) z ∙ l in
+      simp (k, r)
 
   pub item_read : (left : ℕ) (own behind : Bor (List ℕ)) (info : AdsDataTypeInfo) → (left ≡ 0 → ⊥) → taken s ≡ Ok (own, behind) → type_at mode (left - 1) own ≡ Ok info → item_at mode left s ≡ Ok (info, behind)
   unfolding item_at
   item_read zero own behind info h k l = absurd (h refl)
-  item_read (suc left) own behind info h k l = let z : suc left - 1 ≡ left = omega arith in simp (k, ← z, l)
+  item_read (suc left) own behind info h k l =
+      let z : left ≡ suc left - 1 = omega arith in
+      let r : type_at mode left own ≡ Ok info = ap (λ (n : ℕ). type_at mode n own) z ∙ l in
+      simp (k, r)
 
 -- an entry, by what its sub-items are read as
 pub type_step : (mode : Mode) (left : ℕ) (e : Bor (List ℕ)) → type_at mode left e ≡ type_with mode (item_at mode left) e

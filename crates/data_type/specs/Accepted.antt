@@ -1,4 +1,4 @@
--- What an entry that was read passed.
+-- docs/FORMAT.md, "Data type entries": what an entry that was read passed.
 use Rattle.std.proofs.Common.{ℕ, ◌≡◌, refl, List, length, arith, Bor}
 use Rattle.std.specs.Prelude.{Result, Ok, Err}
 use Rattle.part.specs.Outcome.{and_then}

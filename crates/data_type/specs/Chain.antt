@@ -2,7 +2,6 @@
 use Rattle.std.specs.Prelude.{ℕ, zero, suc, ◌+◌, ◌<◌, ◌≤◌, ◌≡◌, List, [], ◌++◌, replicate, Ok, Err, length}
 use Rattle.std.specs.Borrow.{Bor}
 use Rattle.le.specs.Le.{bytes2, bytes4}
-use Rattle.refusal.specs.Refusal.{limit, deepest}
 use Rattle.refusal.specs.declared.Mode.{Mode}
 use Rattle.refusal.specs.declared.Refusal.TheVariants.{TooDeep}
 use Rattle.walk.specs.Step.{parse_of}
@@ -26,5 +25,5 @@ pub record HasMembers (mode : Mode) (s : Bor (List ℕ)) (n : ℕ) : Type 0 wher
 
 -- one that stands at depth 16 is read, one below it is too deep
 pub record TypesNest : Type 0 where
-  pub reads : (mode : Mode) (s : Bor (List ℕ)) (n : ℕ) → n < deepest → s.now ≡ chain n → HasMembers mode s n
-  pub deep : (mode : Mode) (s : Bor (List ℕ)) (n : ℕ) → deepest ≤ n → length s.now ≤ limit → s.now ≡ chain n → parse_of 42 (type_of mode) s ≡ Err TooDeep
+  pub reads : (mode : Mode) (s : Bor (List ℕ)) (n : ℕ) → n < 16 → s.now ≡ chain n → HasMembers mode s n
+  pub deep : (mode : Mode) (s : Bor (List ℕ)) (n : ℕ) → 16 ≤ n → length s.now ≤ 16777216 → s.now ≡ chain n → parse_of 42 (type_of mode) s ≡ Err TooDeep

@@ -1,40 +1,49 @@
 -- docs/FORMAT.md, "Modes": the end bytes of a data type that are met, in order, each with its place in the entry that has it; in whichever mode, all else is alike.
-use Rattle.std.specs.Prelude.{ℕ, zero, suc, ◌≡◌, List, [], ◌++◌, Result, Ok, Err}
+use Rattle.std.specs.Prelude.{ℕ, zero, suc, ◌+◌, ◌-◌, ◌≡◌, List, [], ◌∷◌, ◌++◌, Result, Ok, Err, leb, length, get_or, if◌then◌else◌}
 use Rattle.std.specs.Borrow.{Bor}
-use Rattle.le.specs.Le.{le2, has}
+use Rattle.le.specs.Le.{le2, le4, has}
 use Rattle.part.specs.Outcome.{outcome}
 use Rattle.refusal.specs.EndsMeant.{AllZero, FirstNot}
 use Rattle.refusal.specs.declared.Mode.TheVariants.{Present, Checked}
 use Rattle.refusal.specs.declared.Refusal.{Refusal}
 use Rattle.refusal.specs.declared.Refusal.TheVariants.{EndByte}
+use Rattle.attribute.specs.declared.AdsAttribute.{AdsAttribute}
+use Rattle.attribute.specs.declared.Attributes.{Attributes}
+use Rattle.attribute.specs.Attribute as attribute
 use Rattle.entry.specs.Entry.{claim_of}
 use Rattle.walk.specs.Step.{parse_of}
-use Rattle.part.specs.Slice.{part}
-use Rattle.field.specs.declared.front.Front.{Front}
-use Rattle.field.specs.Front.{string_ends, front_of}
-use Rattle.field.specs.Tail.{type_guid_flag, guid_of, sections_of, attribute_ends}
+use Rattle.part.specs.Slice.{part, after}
+use Rattle.field.specs.Tail.{guid_of, sections_of}
 use Rattle.data_type.specs.declared.AdsDataTypeInfo.{AdsDataTypeInfo}
-use Rattle.data_type.specs.DataType.{ItemReader, taken, items_from, arrays_of, too_deep, item_by, type_at, type_of, levels}
+use Rattle.data_type.specs.DataType.{ItemReader, taken, items_from, too_deep, item_by, type_at, type_of}
+use Rattle.data_type.specs.Layout.{strings_end, arrays_end, string_bytes, front}
 
--- those of the attributes of an entry with this front, from the bytes behind its sub-items on
-abbrev pub tail_met : Front → Bor (List ℕ) → List (ℕ × ℕ)
-tail_met f s = attribute_ends f.length (sections_of f (guid_of s (has f.flags.0 type_guid_flag)).1).0
+-- the byte of an entry behind a string that lies in it, with its place
+abbrev pub byte_behind : Bor (List ℕ) → Bor (List ℕ) → ℕ × ℕ
+byte_behind e s = let at : ℕ = s.ref_ptr.1 - e.ref_ptr.1 + length s.now in (at, get_or e.now at 0)
+
+-- of attributes that lie in it: of each that behind its name, then that behind its value
+unfoldable pub attribute_bytes : Bor (List ℕ) → List AdsAttribute → List (ℕ × ℕ)
+attribute_bytes e [] = []
+attribute_bytes e (a ∷ more) = byte_behind e a.name ∷ byte_behind e a.value ∷ attribute_bytes e more
+
+-- those of the attributes of an entry, up to one that is refused, from the bytes behind its sub-items on
+abbrev pub tail_met : Bor (List ℕ) → Bor (List ℕ) → List (ℕ × ℕ)
+tail_met e s = let a : Attributes = (sections_of (front e) (guid_of s (has (le4 e.now 28) 0x0080)).1).0 in attribute_bytes e (attribute.listed a.bytes a.count)
 
 -- of so many sub-items, each met whole before the next, up to one that is refused
 unfoldable pub items_met : (Bor (List ℕ) → List (ℕ × ℕ)) → ItemReader → Bor (List ℕ) → ℕ → List (ℕ × ℕ)
 items_met met item s zero = []
 items_met met item s (suc left) = met s ++ outcome (item s) (λ p. items_met met item p.1 left) (λ why. [])
 
--- of an entry: those of its strings, of its sub-items, of its attributes, up to where it is refused
+-- of an entry: if its strings are there, theirs; if its array records are there, those of its sub-items; and if these are read, those of its attributes
 unfoldable pub met_with : (Bor (List ℕ) → List (ℕ × ℕ)) → ItemReader → Bor (List ℕ) → List (ℕ × ℕ)
 met_with met item e =
-    outcome (front_of Present e)
-    (λ f.
-    string_ends e.now (le2 e.now 32) (le2 e.now 34) (le2 e.now 36)
-    ++ outcome (arrays_of f)
-    (λ a. items_met met item a.1 f.sub_item_count ++ outcome (items_from item a.1 f.sub_item_count) (λ items. tail_met f items.rest) (λ why. []))
-    (λ why. []))
-    (λ why. [])
+    let s : Bor (List ℕ) = after e (arrays_end e.now) in
+    if leb (strings_end e.now) (length e.now) then
+    string_bytes e.now
+    ++ (if leb (arrays_end e.now) (length e.now) then items_met met item s (le2 e.now 40) ++ outcome (items_from item s (le2 e.now 40)) (λ items. tail_met e items.rest) (λ why. []) else [])
+    else []
 
 -- of the sub-item at the start of some bytes of its parent
 abbrev pub item_met : (Bor (List ℕ) → List (ℕ × ℕ)) → Bor (List ℕ) → List (ℕ × ℕ)
@@ -47,7 +56,7 @@ met_at (suc left) e = met_with (item_met (met_at left)) (item_by (type_at Presen
 
 -- of the entry at the start of some bytes
 abbrev pub end_bytes : Bor (List ℕ) → List (ℕ × ℕ)
-end_bytes s = outcome (claim_of 42 s.now) (λ size. met_at levels (part s 0 size)) (λ why. [])
+end_bytes s = outcome (claim_of 42 s.now) (λ size. met_at 15 (part s 0 size)) (λ why. [])
 
 -- where all of them are 0 both modes answer alike; else the checked mode tells the first that is not, with its place. So what it reads has
 -- 0 in each of them, and is what the present mode reads

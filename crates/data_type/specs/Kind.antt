@@ -1,4 +1,4 @@
--- What a walk asks of a kind of entry, of data types.
+-- docs/FORMAT.md, "Walking": what a walk asks of a kind of entry, of data types.
 use Rattle.std.proofs.Common.{ℕ, zero, suc, ◌<◌, ◌≤◌, ◌≡◌, sym, ◌∙◌, ap, List, length, arith, Bor}
 use Rattle.std.specs.Prelude.{false, Ok, Err}
 use borrow.Author.Tests.{lt-ltb}

@@ -1,4 +1,4 @@
--- What an iterator over members has still to give.
+-- docs/FORMAT.md, "Data type entries": what an iterator over members has still to give.
 use Rattle.std.specs.Prelude.{ℕ, ◌-◌, List, [], ◌∷◌, ◌++◌, take}
 use Rattle.std.specs.Borrow.{Bor}
 use Rattle.data_type.specs.declared.level.Level.{Level}

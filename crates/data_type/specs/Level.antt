@@ -1,4 +1,4 @@
--- What is left to give of the members of one entry.
+-- docs/FORMAT.md, "Data type entries": what is left to give of the members of one entry.
 use Rattle.std.specs.Prelude.{ℕ, suc, ◌-◌, ◌≡◌, min, List, [], ◌∷◌, ◌++◌, length, Option, Some, None}
 use Rattle.std.specs.Borrow.{Bor}
 use Rattle.part.specs.Slice.{part}

@@ -8,6 +8,7 @@ pub mod Level
 pub mod Left
 pub mod List
 pub mod Theorems
+pub mod Layout
 pub mod Stand
 pub mod Refused
 pub mod Meaning

@@ -1,4 +1,4 @@
--- All members of a data type in lent slots, three a member.
+-- docs/FORMAT.md, "Data type entries": all members of a data type in lent slots, three a member.
 use Rattle.std.specs.Prelude.{ℕ, ◌+◌, ◌-◌, List, [], ◌∷◌, replicate, length, Result}
 use Rattle.std.specs.Borrow.{Bor}
 use Rattle.refusal.specs.declared.Mode.{Mode}

@@ -1,9 +1,8 @@
 -- docs/FORMAT.md, "Data type entries": what the members of a data type that is read are, by its bytes, and that all ways to ask for them tell the same.
-use Rattle.std.specs.Prelude.{ℕ, ◌+◌, ◌-◌, ◌*◌, ◌≤◌, ◌≡◌, List, [], ◌∷◌, replicate, Some, Ok, Err, eqb, length, take, drop, slice_get, if◌then◌else◌}
+use Rattle.std.specs.Prelude.{ℕ, ◌+◌, ◌-◌, ◌*◌, ◌<◌, ◌≤◌, ◌≡◌, List, [], ◌∷◌, replicate, Some, Ok, Err, eqb, length, take, drop, get_or, slice_get, if◌then◌else◌}
 use Rattle.std.specs.Borrow.{Bor}
 use Rattle.le.specs.Le.{le2, le4}
 use Rattle.part.specs.Slice.{part, after}
-use Rattle.refusal.specs.Refusal.{deepest}
 use Rattle.refusal.specs.declared.Mode.{Mode}
 use Rattle.refusal.specs.declared.Refusal.TheVariants.{NoSuchNumber}
 use Rattle.walk.specs.Step.{parse_of}
@@ -39,7 +38,7 @@ pub record IsAt (s : List ℕ) (p : Position) : Type 0 where
 pub record IsMember (mode : Mode) (s : Bor (List ℕ)) (m : Member) : Type 0 where
   pub at : IsAt s.now m.position
   pub below : 2 ≤ m.position.depth
-  pub deep : m.position.depth ≤ deepest
+  pub deep : m.position.depth ≤ 16
   pub inside : place_of m.position + length m.own.now ≤ le4 s.now 0
   pub own : m.own ≡ part s (place_of m.position) (length m.own.now)
   pub info : AdsDataTypeInfo
@@ -50,6 +49,18 @@ pub record IsMember (mode : Mode) (s : Bor (List ℕ)) (m : Member) : Type 0 whe
 unfoldable pub Between : ℕ → ℕ → List Member → Type 0
 Between from to [] = from ≤ to
 Between from to (m ∷ ms) = (from ≤ place_of m.position) × Between (place_of m.position + 1) to ms
+
+-- what a member lies in at a depth: the last one of that depth that is met up to it, whose place is that entry of its path, from depth 2 on. At its own depth it is itself
+pub record LiesIn (ms : List Member) (k : ℕ) (m : Member) (i : ℕ) : Type 0 where
+  pub number : ℕ
+  pub member : Member
+  pub is : slice_get ms number ≡ Some member
+  pub depth : member.position.depth ≡ i + 2
+  pub met : number ≤ k
+  pub last : (j : ℕ) (a : Member) → number < j → j ≤ k → slice_get ms j ≡ Some a → i + 2 < a.position.depth
+  pub place : get_or m.position.path i 0 ≡ place_of member.position
+  pub begins : place_of member.position ≤ place_of m.position
+  pub ends : place_of m.position + length m.own.now ≤ place_of member.position + length member.own.now
 
 -- of one number: the answer to it, and the slots of the one pass
 pub record IsAsked (r : AdsDataTypeInfo) (slots : List ℕ) (k : ℕ) (m : Member) : Type 0 where
@@ -63,6 +74,7 @@ pub record IsMeant (mode : Mode) (s : Bor (List ℕ)) (r : AdsDataTypeInfo) (ms 
   pub counted : r.member_count ≡ length ms
   pub order : Between 1 (le4 s.now 0) ms
   pub stands : (k : ℕ) (m : Member) → slice_get ms k ≡ Some m → IsMember mode s m
+  pub path : (k : ℕ) (m : Member) → slice_get ms k ≡ Some m → (i : ℕ) → i + 2 ≤ m.position.depth → LiesIn ms k m i
   pub slots : List ℕ
   pub written : members_written mode s ≡ Ok slots
   pub all : length slots ≡ 3 * r.member_count

@@ -1,4 +1,4 @@
--- No refusal of the reader is 10.
+-- docs/FORMAT.md, "Walking": a walk stops with 10, and no refusal of the reader is 10.
 use Rattle.std.proofs.Common.{ℕ, zero, suc, ◌≡◌, List, arith, Bor}
 use Rattle.std.specs.Prelude.{false, Result, Ok, Err}
 use Rattle.part.specs.Outcome.{and_then}

@@ -1,9 +1,8 @@
--- What is read as a data type, beside the field reader, by its bytes, and in the two modes.
+-- docs/FORMAT.md, "Data type entries": what is read as a data type, beside the field reader; its array records, by its bytes.
 use Rattle.std.specs.Prelude.{ℕ, ◌+◌, ◌*◌, ◌<◌, ◌≤◌, ◌≡◌, List, Ok, Err}
 use Rattle.std.specs.Borrow.{Bor}
 use Rattle.le.specs.Le.{le2, le4}
 use Rattle.refusal.specs.declared.Mode.{Mode}
-use Rattle.refusal.specs.declared.Mode.TheVariants.{Present, Checked}
 use Rattle.refusal.specs.declared.Refusal.TheVariants.{NoSuchNumber}
 use Rattle.walk.specs.Step.{parse_of}
 use Rattle.field.specs.declared.AdsFieldInfo.{AdsFieldInfo}
@@ -12,6 +11,7 @@ use Rattle.data_type.specs.declared.AdsDataTypeInfo.{AdsDataTypeInfo}
 use Rattle.data_type.specs.declared.array.AdsArrayInfo.{AdsArrayInfo}
 use Rattle.data_type.specs.Array.{numbered}
 use Rattle.data_type.specs.DataType.{type_of}
+use Rattle.data_type.specs.Layout.{strings_end}
 
 -- what a field's record says of a data type
 abbrev pub as_field : AdsDataTypeInfo → AdsFieldInfo
@@ -36,10 +36,6 @@ as_field r =
 abbrev pub TypesAsFields : Type 0
 TypesAsFields = (mode : Mode) (s : Bor (List ℕ)) (r : AdsDataTypeInfo) → parse_of 42 (type_of mode) s ≡ Ok r → parse_of 42 (field_of mode) s ≡ Ok (as_field r)
 
--- where the strings end
-abbrev pub strings_end : List ℕ → ℕ
-strings_end s = 45 + le2 s 32 + le2 s 34 + le2 s 36
-
 abbrev pub array_at : List ℕ → ℕ → AdsArrayInfo
 array_at s at = record { lower_bound = le4 s at; elements = le4 s (at + 4) }
 
@@ -50,7 +46,3 @@ pub record IsArrays (s : List ℕ) (r : AdsDataTypeInfo) : Type 0 where
 
 abbrev pub ArraysMeant : Type 0
 ArraysMeant = (mode : Mode) (s : Bor (List ℕ)) (r : AdsDataTypeInfo) → parse_of 42 (type_of mode) s ≡ Ok r → IsArrays s.now r
-
--- docs/FORMAT.md, "Modes": what the checked mode reads the present mode reads alike
-abbrev pub TypesPresent : Type 0
-TypesPresent = (s : Bor (List ℕ)) (r : AdsDataTypeInfo) → parse_of 42 (type_of Checked) s ≡ Ok r → parse_of 42 (type_of Present) s ≡ Ok r

@@ -40,9 +40,10 @@ pub struct AdsDataTypeInfo<'a> {
     pub hash_value: u32,
     /// The hash of its type.
     pub type_hash_value: u32,
-    /// The size of a value, in bytes.
+    /// The size of a value: in bytes, or in bits if the flags say so (`BIT_VALUES`).
     pub size: u32,
-    /// Of a sub-item: where it stands in a value of its parent, in bytes.
+    /// Of a sub-item: where it stands in a value of its parent, in bytes, or in bits if the flags say so (`BIT_VALUES`). That of a
+    /// static one (`STATIC`) or of a property (`PROP_ITEM`) is no place there.
     pub offset: u32,
     /// The maker's number of its type.
     pub type_id: u32,

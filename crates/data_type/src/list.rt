@@ -29,13 +29,13 @@ pub struct Run<'a> {
     pub count: u16,
     /// Where these bytes end, counted from the start of the data type's entry.
     pub end: usize,
-    /// The depth of the entry that they stand in, and its offset from the start of a value of the data type.
+    /// The depth of the entry that they stand in, and the sum of the offsets along its path.
     pub depth: usize,
     pub offset: u64,
 }
 
 impl<'a> Run<'a> {
-    /// The offset from the start of a value of the data type, of a sub-item with this one in the entry that it stands in.
+    /// The sum of the offsets along the path of a sub-item with this offset.
     #[inline(always)]
     fn offset_of(&self, offset: u32) -> u64
         requires deepest { self.now.depth ≤ 16 }
@@ -92,8 +92,9 @@ fn fill(run: Run<'_>, slots: &mut [u64], at: usize) -> usize
 }
 
 /// Writes of each member, parents before children, three slots: its place in bytes from the start of the data type's entry, its
-/// depth, the data type's own being 1, and its offset in bytes from the start of a value of the data type. It is refused as the
-/// reading is, and then with 6, which counts slots; the slots are then as they were.
+/// depth, the data type's own being 1, and the sum of the offsets along its path, with what that leaves to the flags
+/// ([`Position`](crate::members::Position)). It is refused as the reading is, and then with 6, which counts slots; the slots are
+/// then as they were.
 pub fn list(bytes: &[u8], mode: Mode, slots: &mut [u64]) -> Result<usize, Refusal>
     ensures { Writes (members_written mode bytes.entry) slots.old slots.new result }
 {

@@ -17,7 +17,10 @@ pub struct Position {
     pub path: [usize; 15],
     /// The data type's own depth is 1; so the path has one place less.
     pub depth: usize,
-    /// The sum of the offsets along the path: bytes from the start of a value of the data type.
+    /// The sum of the offsets along the path, as the headers tell them. It is where the member stands in a value of the data type, in
+    /// bytes, unless the flags of a member along the path say otherwise (docs/FORMAT.md, "Data type entries"): offsets may be in bits,
+    /// a static member stands elsewhere, as does what a reference refers to, and a property stands nowhere. What is below an array is
+    /// told in its first element.
     pub offset: u64,
 }
 
@@ -75,10 +78,10 @@ pub struct Member<'a> {
 
 /// A sub-item, by its front and its array records alone.
 #[derive(Clone, Copy, Debug)]
-pub struct Item<'a> {
+pub(crate) struct Item<'a> {
     /// The own bytes of its entry.
     pub own: &'a [u8],
-    /// Where it stands in a value of its parent, in bytes.
+    /// The offset that its header tells.
     pub offset: u32,
     /// What stands behind its array records: first its own sub-items.
     pub first: &'a [u8],
@@ -91,7 +94,7 @@ pub struct Item<'a> {
 /// The sub-item at the start of some bytes of its parent.
 #[tactic(auto, using(crate::proofs::Entry::fits), unfolding(crate::specs::Members::item_in))]
 #[inline(always)]
-pub fn item_in(bytes: &[u8]) -> Result<Item<'_>, Refusal>
+pub(crate) fn item_in(bytes: &[u8]) -> Result<Item<'_>, Refusal>
     ensures { result ≡ item_in bytes.entry }
 {
     let (own, behind) = taken(bytes)?;

@@ -7,14 +7,15 @@ ghost use Rattle.data_type.specs.Stand.{TypesStand};
 ghost use Rattle.data_type.specs.Meaning.{TypesMeant};
 ghost use Rattle.data_type.specs.Chain.{TypesNest};
 ghost use Rattle.data_type.specs.Ends.{TypesChecked};
-ghost use Rattle.data_type.specs.Theorems.{TypesAsFields, ArraysMeant, TypesPresent};
+ghost use Rattle.data_type.specs.Theorems.{TypesAsFields, ArraysMeant};
 
 /// Exactly what stands in the bytes as the layout says is read as a data type, as it stands.
 pub fn types_stand()
     ensures { TypesStand }
 {}
 
-/// The members of a data type that is read are the entries within its bytes, and all ways to ask for them tell the same.
+/// The members of a data type that is read are the entries within its bytes, the path of each tells what it lies in, and all ways to ask
+/// for them tell the same.
 pub fn types_meant()
     ensures { TypesMeant }
 {}
@@ -29,12 +30,8 @@ pub fn arrays_meant()
     ensures { ArraysMeant }
 {}
 
-/// What the checked mode reads the present mode reads alike.
-pub fn types_present()
-    ensures { TypesPresent }
-{}
-
-/// The modes answer alike where all end bytes that are met are 0; else the checked mode tells the first that is not, with its place.
+/// The modes answer alike where all end bytes that are met are 0; else the checked mode tells the first that is not, with its place. So
+/// what the checked mode reads the present mode reads alike.
 pub fn types_checked()
     ensures { TypesChecked }
 {}
@@ -44,7 +41,7 @@ pub fn types_nest()
     ensures { TypesNest }
 {}
 
-/// Each fault refuses a data type where it is the first that is met, with its figures.
+/// Bytes are refused exactly by the fault that is the first that is met, with its figures.
 pub fn types_refused()
     ensures { TypesRefused }
 {}

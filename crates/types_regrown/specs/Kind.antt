@@ -1,4 +1,4 @@
--- Fields that are written, read as data types, as a kind of entry that comes back.
+-- docs/FORMAT.md, "Fit records": fields that are written, read as data types, as a kind of entry that comes back.
 use Rattle.std.proofs.Common.{ℕ, ◌+◌, ◌<◌, ◌≤◌, ◌≡◌, refl, ap, ◌∙◌, List, [], map, ◌++◌, length, arith, Bor}
 use Rattle.le.specs.Le.{le2}
 use Rattle.refusal.specs.Refusal.{limit}

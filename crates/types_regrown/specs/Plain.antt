@@ -1,4 +1,4 @@
--- An entry with no array record and no sub-item is read as a field is: the same record or the same refusal, whatever its bytes, with no member.
+-- docs/FORMAT.md, "Data type entries": an entry with no array record and no sub-item is read as a field is: the same record or the same refusal, whatever its bytes, with no member.
 use Rattle.std.proofs.Common.{ℕ, ◌≡◌, refl, sym, ap, ap₂, ◌∙◌, min, List, length, arith, Bor}
 use Rattle.std.specs.Prelude.{Result, Ok, Err}
 use borrow.Author.Tests.{le-ltb}
@@ -17,7 +17,7 @@ use Rattle.field.specs.Field as field
 use Rattle.field.specs.Field.{behind_items, field_of}
 use Rattle.data_type.specs.declared.AdsDataTypeInfo.{AdsDataTypeInfo}
 use Rattle.data_type.specs.DataType.{joined, sub_items_of, ItemReader, items_from, item_at, arrays_of, type_with, type_at}
-use Rattle.data_type.specs.Theorems.{strings_end}
+use Rattle.data_type.specs.Layout.{strings_end}
 use Rattle.data_type.proofs.Turns.{type_step}
 use Rattle.data_type.proofs.Numbers.{heads}
 

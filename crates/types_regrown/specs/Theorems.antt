@@ -1,4 +1,4 @@
--- The theorems of fields that are written, read as data types.
+-- docs/FORMAT.md, "Fit records": the theorems of fields that are written, read as data types.
 use Rattle.std.specs.Prelude.{ℕ, ◌≡◌, List}
 use Rattle.std.specs.Borrow.{Bor}
 use Rattle.le.specs.Le.{le2}

@@ -1,4 +1,4 @@
--- What a data type tells, wherever it lies, and what is meant by a field that is written, read as one.
+-- docs/FORMAT.md, "Fit records": what a data type tells, wherever it lies, and what is meant by a field that is written, read as one.
 use Rattle.std.specs.Prelude.{ℕ, List, [], map}
 use Rattle.field.specs.declared.writer.NewField.{NewField}
 use Rattle.field.specs.Told as field
