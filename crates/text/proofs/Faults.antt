@@ -22,7 +22,7 @@ use Rattle.text.specs.declared.Scalar.TheVariants.{Point, Bad}
 use Rattle.text.specs.declared.Char.{Char}
 use Rattle.text.specs.declared.Char.TheVariants.{Is, Wrong}
 use Rattle.text.specs.Utf8.{scalar_of}
-use Rattle.text.specs.Text.{code_point, decoded, decoding, byte_of, byte_in, char_in, char_of, before, encoded_from, encoding}
+use Rattle.text.specs.Text.{decoded, decoding, byte_of, byte_in, char_in, char_of, before, encoded_from, encoding}
 use Rattle.text.specs.RoundTrip.{IsWindows1252}
 use Rattle.text.specs.Faults.{IsNoUtf8, HasNoByte, IsFirstFault, FaultsMeant}
 use Rattle.text.proofs.Laws.{too_large, in_limit}

@@ -6,7 +6,7 @@ use Rattle.std.specs.Char.{encode_utf8}
 use Rattle.std.proofs.lemmas.List.Elements.{All-nil, All-cons, All-head, All-tail, Contains-get_or}
 use Rattle.std.proofs.lemmas.Grind.{get_or_default_zero}
 use mathlib.Core.Path.{◌≡◌, refl, sym, ap, ◌∙◌, subst}
-use mathlib.Core.Logic.{inl, inr, ⊎_elim}
+use mathlib.Core.Logic.{◌⊎◌, inl, inr, ⊎_elim}
 use mathlib.Core.List.{List, [], ◌∷◌, ◌++◌}
 use mathlib.Core.Bool.{Bool, true, false}
 use Prim.Native.Nat.{ℕ, zero, suc, ◌+◌, ◌-◌, ◌≤◌, ◌<◌}
@@ -24,6 +24,7 @@ use Rattle.text.proofs.Byte.{own, seek_sound}
 use Rattle.text.proofs.Back.{spelt, encoded_char, encoded_fault}
 use Rattle.text.specs.Utf8.{scalar_of}
 use Rattle.text.specs.RoundTrip.{AreBytes, IsWindows1252, IsWithin, Pair, BytesComeBack, TextComesBack}
+use Rattle.text.specs.Faults.{TableMeant}
 use Rattle.text.specs.Text.{points, code_point, decoded, decoding, byte_of, char_of, before, encoded_from, encoding}
 use Rattle.text.specs.declared.Char.{Char}
 use Rattle.text.specs.declared.Char.TheVariants.{Is, Wrong}
@@ -216,3 +217,16 @@ text_comes_back t = (whole, only)
         let r = within_by (ltb limit (length t)) t (encoded_from 0 0 t) s e in
         let l : length t ≤ limit = ltb-false limit (length t) r.0 in
         (l, pair_by s t (written_bytes s t 0 r.1) (text_back s t 0 r.1) l)
+
+-- ---- the table, at some of its bytes, and outside it
+others : (b : ℕ) (s t : List ℕ) → (b < 0x80) ⊎ (0xA0 ≤ b) → length (b ∷ s) ≤ limit → decoding s ≡ Ok t → decoding (b ∷ s) ≡ Ok (encode_utf8 b ++ t)
+unfolding decoding decoded
+others b s t h l e =
+    let r = within_by (ltb limit (length s)) s (Ok (decoded s)) t e in
+    let q : decoded s ≡ t = cc in
+    let p : code_point b ≡ b = ⊎_elim (λ k. point_low k) (λ k. point_high k) h in
+    in_limit (b ∷ s) (Ok (decoded (b ∷ s))) l ∙ ap (λ (c : ℕ). Ok (encode_utf8 c ++ decoded s)) p ∙ ap (λ (x : List ℕ). Ok (encode_utf8 b ++ x)) q
+
+pub table_meant : TableMeant
+unfolding points code_point decoded decoding encode_utf8
+table_meant = record { table = refl; others = others }

@@ -38,7 +38,7 @@ pub record FaultsMeant : Type 0 where
   pub faults : (t : List ℕ) (why : Refusal) → length t ≤ 16777216
       → (encoding t ≡ Err why) ↔ ((place : ℕ) × (kind : ℕ) × (why ≡ BadText place kind) × IsFirstFault t place kind)
 
--- of the table the first byte, the last, and those that become themselves
-abbrev pub TableMeant : Type 0
-TableMeant =
-    decoding (0x80 ∷ 0x81 ∷ 0x8D ∷ 0x8F ∷ 0x90 ∷ 0x9D ∷ 0x9F ∷ []) ≡ Ok (encode_utf8_all (0x20AC ∷ 0x81 ∷ 0x8D ∷ 0x8F ∷ 0x90 ∷ 0x9D ∷ 0x178 ∷ []))
+-- of the table the first byte, the last, and those that become themselves; and so does every byte outside it, before the text of those behind it
+pub record TableMeant : Type 0 where
+  pub table : decoding (0x80 ∷ 0x81 ∷ 0x8D ∷ 0x8F ∷ 0x90 ∷ 0x9D ∷ 0x9F ∷ []) ≡ Ok (encode_utf8_all (0x20AC ∷ 0x81 ∷ 0x8D ∷ 0x8F ∷ 0x90 ∷ 0x9D ∷ 0x178 ∷ []))
+  pub others : (b : ℕ) (s t : List ℕ) → (b < 0x80) ⊎ (0xA0 ≤ b) → length (b ∷ s) ≤ 16777216 → decoding s ≡ Ok t → decoding (b ∷ s) ≡ Ok (encode_utf8 b ++ t)

@@ -462,7 +462,7 @@ pub fn faults_meant()
     ensures { FaultsMeant }
 {}
 
-/// The first byte of the table, the last, and the five that become themselves.
+/// The first byte of the table, the last, and the five that become themselves, as every byte outside it does.
 pub fn table_meant()
     ensures { TableMeant }
 {}
