@@ -14,7 +14,7 @@ use Rattle.told.specs.Slots.{attribute_slots, refactor_slots}
 use Rattle.told.specs.Meaning.{AttributeTold, AttributesTold, RefactorTold, RefactorsTold}
 
 -- a part, and the end, of the end of some bytes
-part_after : (e : Bor (List ℕ)) (at n k m : ℕ) → at + n ≡ k → part (after e at) n m ≡ part e k m
+pub part_after : (e : Bor (List ℕ)) (at n k m : ℕ) → at + n ≡ k → part (after e at) n m ≡ part e k m
 part_after e at n k m h =
     let memory : e.ref_ptr.1 + at + n ≡ e.ref_ptr.1 + (at + n) = omega arith in
     let whole : part (after e at) n m ≡ part e (at + n) m = rw (memory, drop-drop n at e.now) refl in
