@@ -11,6 +11,7 @@ ghost use Rattle.symbol.specs.Symbol.{symbol_of};
 ghost use Rattle.walk.specs.Pieces.{pieces};
 ghost use Rattle.listing.specs.declared.Failure.TheVariants.{Output};
 ghost use Rattle.listing.specs.Row.{refusal_row};
+ghost use Rattle.listing.specs.Meaning.{ListingMeant};
 ghost use Rattle.listing.specs.Listing.{row, line_text, header, listing, listing_of_ended, longest, most, most_number, Stopped, Reading};
 
 pub mod row;
@@ -235,3 +236,8 @@ pub fn list<R: Read, W: Write>(
     }
     Err(Failure::Endless)
 }
+
+/// Four lines, letter by letter; and 16,384 bytes are read, where a digit more is bad.
+pub fn listing_meant()
+    ensures { ListingMeant }
+{}
