@@ -1,11 +1,9 @@
 -- What is listed of four lines, computed; and of lines that are too long.
-use Rattle.std.proofs.Common.{ℕ, ◌<◌, ◌≤◌, ◌≡◌, refl, ap, ◌∙◌, List, length}
-use Rattle.std.specs.Prelude.{Ok, ltb}
+use Rattle.std.proofs.Common.{◌≡◌, refl, length}
 use Rattle.std.specs.Fmt.{digits}
 use borrow.Author.Tests.{lt-ltb, le-ltb}
 use Rattle.hex.specs.Hex.{decode_pairs}
 use Rattle.le.specs.Le.{le2, le4}
-use Rattle.refusal.specs.EndBytes.{ended}
 use Rattle.refusal.specs.declared.Mode.TheVariants.{Present}
 use Rattle.attribute.specs.Attribute as attribute
 use Rattle.refactor.specs.Refactor as refactor
