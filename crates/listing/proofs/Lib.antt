@@ -3,3 +3,4 @@ mod Lines
 mod Texts
 mod Spelling
 mod Anywhere
+pub mod Meaning

@@ -1,6 +1,6 @@
 -- What is read so far, its lines, and what is written of them.
 use Rattle.std.proofs.Common.{◌≡◌, ℕ, zero, suc, ◌+◌, ◌-◌, ◌<◌, ◌≤◌, Bool, true, false, List, [], ◌∷◌, ◌++◌, length, take, drop, refl, sym, ap, subst, ◌∙◌, arith, append_assoc, append-nil, length-append, length-take-le, take_at}
-use Rattle.std.specs.Prelude.{ltb, cond, OnOk, IfSome}
+use Rattle.std.specs.Prelude.{ltb, cond, OnOk, OnErr, IfSome}
 use Rattle.std.specs.List.{onto_first}
 use Rattle.std.specs.declared.option.Option.{Option}
 use Rattle.std.specs.declared.option.Option.TheVariants.{None, Some}
@@ -13,7 +13,8 @@ use Rattle.le.specs.Le.{part}
 use Rattle.le.proofs.Laws.{part-rest}
 use Rattle.memchr.specs.Find.{is_byte, Passes, Nowhere}
 use Rattle.refusal.specs.declared.Mode.{Mode}
-use Rattle.listing.specs.Listing.{longest, line_text, header, lines, lines_text, listing, listing_of_ended, goes_on, Reading}
+use Rattle.listing.specs.Listing.{longest, line_text, header, lines, lines_text, listing, listing_of_ended, goes_on, AppendsFront, Reading}
+use Rattle.listing.proofs.Rows.{front_more, front_longer, front_whole}
 use Rattle.listing.specs.declared.Line.{Line}
 
 -- the first line of some lines goes on
@@ -251,3 +252,92 @@ drop_less (suc n) (c ∷ s) = omega (arith, drop_less n s)
 
 pub less_after : (s : List ℕ) (k : ℕ) → k < length s → length (part s (k + 1) (length s)) < length s
 less_after s k h = omega (arith, h, ap length (part_after s k), drop_less (suc k) s)
+
+-- ---- what is written where an error ends it
+lines_append : (mode : Mode) (n : ℕ) (xs ys : List (List ℕ)) → lines_text mode n (xs ++ ys) ≡ lines_text mode n xs ++ lines_text mode (n + length xs) ys
+lines_append mode n [] ys = let e : n ≡ n + 0 = omega arith in ap (λ (m : ℕ). lines_text mode m ys) e
+lines_append mode n (x ∷ xs) ys =
+    let e : n + 1 + length xs ≡ n + suc (length xs) = omega arith in
+    ap (λ (l : List ℕ). line_text mode n x ++ l) (lines_append mode (n + 1) xs ys ∙ ap (λ (m : ℕ). lines_text mode (n + 1) xs ++ lines_text mode m ys) e)
+    ∙ sym (append_assoc (line_text mode n x) (lines_text mode (n + 1) xs) (lines_text mode (n + suc (length xs)) ys))
+
+-- of a listing the lines that are done, and those behind them
+listing_parts : (mode : Mode) (s : List ℕ) (xs ys : List (List ℕ)) → lines s ≡ xs ++ ys → (header ++ lines_text mode 1 xs) ++ lines_text mode (1 + length xs) ys ≡ listing mode s
+unfolding listing
+listing_parts mode s xs ys e =
+    append_assoc header (lines_text mode 1 xs) (lines_text mode (1 + length xs) ys)
+    ∙ ap (λ (l : List ℕ). header ++ l) (sym (lines_append mode 1 xs ys) ∙ ap (lines_text mode 1) (sym e))
+
+module _ {mode : Mode} {before now : Option (List ℕ)} {line : Line} where
+  -- the lines that have ended, whatever is read behind
+  pub front_so_far : (read rest more : List ℕ) → Reading mode read rest before now line → AppendsFront before now (listing mode (read ++ more))
+  front_so_far read rest more r = record {
+    front = header ++ lines_text mode 1 r.done;
+    left = lines_text mode (1 + length r.done) (goes_on r.last (lines (rest ++ more)));
+    is = listing_parts mode (read ++ more) r.done (goes_on r.last (lines (rest ++ more))) (r.splits more);
+    appended = r.written;
+  }
+
+  -- and then a front of the line that ends
+  pub front_of_line : (read rest more : List ℕ) (k : ℕ) (full : Line) (after : Option (List ℕ)) → Reading mode read rest before now line → k < length rest
+      → Nowhere (Passes (is_byte 10) rest) 0 k → Passes (is_byte 10) rest k
+      → full.number ≡ line.number → full.digits.items ≡ line.digits.items ++ take (longest + 1 - length line.digits.items) (take k rest)
+      → AppendsFront now after (line_text mode full.number full.digits.items) → AppendsFront before after (listing mode (read ++ more))
+  front_of_line read rest more k full after r h n p e d f =
+      let whole : List ℕ = r.last ++ take k rest in
+      let behind : List (List ℕ) = lines (drop (suc k) rest ++ more) in
+      let held : full.digits.items ≡ take (longest + 1) whole = d ∙ ap (λ (x : List ℕ). x ++ take (longest + 1 - length x) (take k rest)) r.held ∙ held_more (longest + 1) r.last (take k rest) in
+      let number : full.number ≡ 1 + length r.done = e ∙ r.number in
+      let text : line_text mode full.number full.digits.items ≡ line_text mode (1 + length r.done) whole =
+      ap (line_text mode full.number) held ∙ held_text mode full.number whole ∙ ap (λ (m : ℕ). line_text mode m whole) number in
+      let split : lines (read ++ more) ≡ r.done ++ (whole ∷ behind) = r.splits more ∙ ap (λ (x : List (List ℕ)). r.done ++ goes_on r.last x) (feed_at rest k more h n p) in
+      front_more (header ++ lines_text mode 1 r.done) (lines_text mode (1 + length r.done + 1) behind) r.written
+      (subst (AppendsFront now after) text f)
+      (listing_parts mode (read ++ more) r.done (whole ∷ behind) split)
+
+  -- and of the last, where the input ends
+  pub front_at_end : (read : List ℕ) (after : Option (List ℕ)) → Reading mode read [] before now line → AppendsFront now after (line_text mode line.number line.digits.items) → AppendsFront before after (listing mode read)
+  front_at_end read after r f =
+      let text : line_text mode line.number line.digits.items ≡ line_text mode (1 + length r.done) r.last =
+      ap (line_text mode line.number) r.held ∙ held_text mode line.number r.last ∙ ap (λ (m : ℕ). line_text mode m r.last) r.number in
+      front_more (header ++ lines_text mode 1 r.done) [] r.written
+      (subst (AppendsFront now after) text f)
+      (listing_parts mode read r.done (r.last ∷ []) (whole_is read r))
+
+-- of the header alone
+pub header_front : (mode : Mode) (s : List ℕ) {before after : Option (List ℕ)} → AppendsFront before after header → AppendsFront before after (listing mode s)
+unfolding listing
+header_front mode s f = front_longer (lines_text mode 1 (lines s)) f
+
+-- of all that the reader has
+pub front_of_input : (mode : Mode) (before after input left : Option (List ℕ)) (read : List ℕ) → Consumes input left read
+    → ((more : List ℕ) → AppendsFront before after (listing mode (read ++ more))) → IfSome input (λ s. AppendsFront before after (listing mode s))
+front_of_input mode before after None left read c f = tt
+front_of_input mode before after (Some x) None read c f = absurd c
+front_of_input mode before after (Some x) (Some y) read c f = subst (λ (s : List ℕ). AppendsFront before after (listing mode s)) (sym c) (f y)
+
+pub front_all_read : (mode : Mode) (before after input left : Option (List ℕ)) (read : List ℕ) → Consumes input left read → IsAtEnd left
+    → AppendsFront before after (listing mode read) → IfSome input (λ s. AppendsFront before after (listing mode s))
+front_all_read mode before after None left read c e f = tt
+front_all_read mode before after (Some x) None read c e f = absurd c
+front_all_read mode before after (Some x) (Some y) read c e f = subst (λ (l : List ℕ). AppendsFront before after (listing mode l)) (sym (c ∙ ap (λ (l : List ℕ). read ++ l) e ∙ append-nil read)) f
+
+-- a read gave nothing, and of the line under way a front is listed
+pub front_ended : (mode : Mode) (before now after input left left' : Option (List ℕ)) (line : Line) (read buf : List ℕ) (n : ℕ) → n ≡ 0 → Consumes input left read → Consumes left left' (take n buf) → IsAtEnd left'
+    → Reading mode read [] before now line → AppendsFront now after (line_text mode line.number line.digits.items) → IfSome input (λ s. AppendsFront before after (listing mode s))
+front_ended mode before now after input left left' line read buf n z c d e r f =
+    let none : read ++ take n buf ≡ read = ap (λ (m : ℕ). read ++ take m buf) z ∙ append-nil read in
+    front_all_read mode before after input left' read (subst (Consumes input left') none (Consumes-trans input left left' read (take n buf) c d)) e (front_at_end read after r f)
+
+pub front_listed : (mode : Mode) (input before after : Option (List ℕ)) → IfSome input (λ s. Appends before after (listing mode s)) → IfSome input (λ s. AppendsFront before after (listing mode s))
+front_listed mode None before after w = tt
+front_listed mode (Some s) before after w = front_whole w
+
+pub front_any : {P : List ℕ → Type 0} (input : Option (List ℕ)) → ((s : List ℕ) → P s) → IfSome input P
+front_any None f = tt
+front_any (Some s) f = f s
+
+-- an error, whichever
+pub on_err : {T E P : Type 0} (r : Result T E) → P → OnErr r P
+on_err (Ok x) p = tt
+on_err (Err e) p = p

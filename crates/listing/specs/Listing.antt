@@ -72,11 +72,18 @@ most_number = 18446744073709551615
 abbrev pub most : ℕ
 most = 18446744073709543423
 
+-- of these bytes some were appended, from the first on
+pub record AppendsFront (before after : Option (List ℕ)) (bs : List ℕ) : Type 0 where
+  pub front : List ℕ
+  pub left : List ℕ
+  pub is : front ++ left ≡ bs
+  pub appended : Appends before after front
+
 -- so many bytes were read, or more, and their whole lines are listed
 abbrev pub Listed : Mode → ℕ → Option (List ℕ) → Option (List ℕ) → Option (List ℕ) → Option (List ℕ) → Type 0
 Listed mode least input left before after = (read : List ℕ) × Consumes input left read × Appends before after (listing_of_ended mode read) × (least ≤ length read)
 
--- where a listing stopped: at an error of the reader that is no interruption, or since there is too much to count; of other errors nothing is said
+-- where a listing stopped: at an error of the reader that is no interruption, or since there is too much to count; of other errors no more is said than of all, that a front of the listing was appended
 abbrev pub Stopped : Mode → Option (List ℕ) → Option (List ℕ) → Option (List ℕ) → Option (List ℕ) → Failure → Type 0
 Stopped mode input left before after (Input e) = Listed mode 0 input left before after × (error_kind e ≢ Interrupted)
 Stopped mode input left before after Endless = Listed mode most input left before after

@@ -1,9 +1,9 @@
 //! The listing of hexadecimal lines, an upload each: a row of text for each entry of an upload and for each refused step.
 #![tactic(auto)]
 
-ghost use Rattle.std.specs.Prelude.{◌≡◌, ◌≢◌, ◌↔◌, true, ◌≤◌, ◌<◌, ◌++◌, IfSome, IfOk, IfErr, OnOk, OnErr, List, take, [], ◌+◌, ◌-◌, ℕ, Option, codes, length};
+ghost use Rattle.std.specs.Prelude.{◌≡◌, ◌≢◌, ◌↔◌, true, ◌≤◌, ◌<◌, ◌++◌, IfSome, IfOk, IfErr, OnOk, OnErr, List, take, [], ◌+◌, ◌-◌, ℕ, Option, codes, length, string_bytes};
 ghost use Rattle.std.specs.List.{flat_map};
-ghost use Rattle.std.specs.Io.{ReadsAtMost};
+ghost use Rattle.std.specs.Io.{ReadsAtMost, WritesAtMost};
 ghost use Rattle.std.specs.Io.KnownBytes.{Appends, Consumes, IsAtEnd, Keeps};
 ghost use Rattle.std.specs.IoError.{error_kind};
 ghost use Rattle.refusal.specs.Refusal.{figures_of};
@@ -11,7 +11,8 @@ ghost use Rattle.symbol.specs.Symbol.{symbol_of};
 ghost use Rattle.walk.specs.Pieces.{pieces};
 ghost use Rattle.listing.specs.declared.Failure.TheVariants.{Output};
 ghost use Rattle.listing.specs.Row.{refusal_row};
-ghost use Rattle.listing.specs.Listing.{row, line_text, header, listing, listing_of_ended, longest, most, most_number, Stopped, Reading};
+ghost use Rattle.listing.specs.Meaning.{ListingMeant};
+ghost use Rattle.listing.specs.Listing.{row, line_text, header, listing, listing_of_ended, longest, most, most_number, AppendsFront, Stopped, Reading};
 
 pub mod row;
 
@@ -50,9 +51,49 @@ impl From<io::Error> for Failure {
     }
 }
 
+// A write that no signal interrupts.
+#[tactic(auto, using(crate::proofs::Rows::kept_appends))]
+fn write_on<W: Write>(bytes: &[u8], output: &mut W) -> io::Result<usize>
+    ensures bound { WritesAtMost result bytes.now }
+    ensures ok { IfOk result (λ n. Appends (W.contents output.old) (W.contents output.new) (take n bytes.now)) }
+    ensures err { OnErr result (Keeps (W.contents output.old) (W.contents output.new)) }
+{
+    for _ in 0..u64::MAX {
+        match output.write(bytes) {
+            Ok(n) => return Ok(n),
+            Err(why) => {
+                if !is_interrupted(&why) {
+                    return Err(why);
+                }
+            }
+        }
+    }
+    Err(io::Error::from(ErrorKind::TimedOut))
+}
+
+// Writes all of some bytes, as `write_all` does, which says nothing of what an error leaves: here some of them are then written, from the first on.
+fn put<W: Write>(bytes: &[u8], output: &mut W) -> io::Result<()>
+    ensures all { OnOk result (Appends (W.contents output.old) (W.contents output.new) bytes.now) }
+    ensures front { OnErr result (AppendsFront (W.contents output.old) (W.contents output.new) bytes.now) }
+{
+    let mut rest = bytes;
+    while rest.len() > 0 {
+        match write_on(rest, output) {
+            Ok(n) => {
+                if n == 0 {
+                    return Err(io::Error::from(ErrorKind::WriteZero));
+                }
+                rest = le::part_of(rest, n, rest.len());
+            }
+            Err(why) => return Err(why),
+        }
+    }
+    Ok(())
+}
+
 #[tactic(auto, unfolding(crate::specs::Listing::row))]
-fn write_row<W: Write>(piece: Piece<AdsSymbolInfo<'_>>, line: u64, output: &mut W) -> io::Result<()>
-    ensures { OnOk result (Appends (W.contents output.old) (W.contents output.new) (row line piece.entry)) }
+fn row_text(piece: Piece<AdsSymbolInfo<'_>>, line: u64, alloc: Global) -> Result<String, AllocError>
+    ensures { IfOk result (λ text. string_bytes text ≡ row line piece.entry) }
 {
     let start = piece.start;
     match piece.answer {
@@ -62,7 +103,7 @@ fn write_row<W: Write>(piece: Piece<AdsSymbolInfo<'_>>, line: u64, output: &mut 
                 start,
                 info: &symbol,
             };
-            writeln!(output, "{row}")
+            format!(in alloc; "{row}\n")
         }
         Err(why) => {
             let row = RefusalRow {
@@ -70,31 +111,63 @@ fn write_row<W: Write>(piece: Piece<AdsSymbolInfo<'_>>, line: u64, output: &mut 
                 start,
                 figures: why.figures(),
             };
-            writeln!(output, "{row}")
+            format!(in alloc; "{row}\n")
         }
     }
 }
 
-fn write_frame<W: Write>(frame: &[u8], mode: Mode, line: u64, output: &mut W) -> io::Result<()>
-    ensures { OnOk result (Appends (W.contents output.old) (W.contents output.new)
+#[tactic(auto, using(crate::proofs::Rows::no_front))]
+fn write_row<W: Write>(
+    piece: Piece<AdsSymbolInfo<'_>>,
+    line: u64,
+    alloc: Global,
+    output: &mut W,
+) -> io::Result<()>
+    ensures all { OnOk result (Appends (W.contents output.old) (W.contents output.new) (row line piece.entry)) }
+    ensures front { OnErr result (AppendsFront (W.contents output.old) (W.contents output.new) (row line piece.entry)) }
+{
+    let text = row_text(piece, line, alloc)?;
+    put(text.as_bytes(), output)
+}
+
+fn write_frame<W: Write>(
+    frame: &[u8],
+    mode: Mode,
+    line: u64,
+    alloc: Global,
+    output: &mut W,
+) -> io::Result<()>
+    ensures all { OnOk result (Appends (W.contents output.old) (W.contents output.new)
+        (flat_map (row line) (pieces (symbol_of mode) frame.entry))) }
+    ensures front { OnErr result (AppendsFront (W.contents output.old) (W.contents output.new)
         (flat_map (row line) (pieces (symbol_of mode) frame.entry))) }
 {
     for piece in Symbols::new(frame, mode) {
-        write_row(piece, line, output)?;
+        write_row(piece, line, alloc, output)?;
     }
     Ok(())
 }
 
-fn write_bad_line<W: Write>(line: u64, output: &mut W) -> io::Result<()>
-    ensures { OnOk result (Appends (W.contents output.old) (W.contents output.new)
-        (refusal_row line 0 (figures_of Refusal.BadHexadecimal) ++ codes "\n")) }
+fn bad_line_text(line: u64, alloc: Global) -> Result<String, AllocError>
+    ensures { IfOk result (λ text. string_bytes text ≡ refusal_row line 0 (figures_of Refusal.BadHexadecimal) ++ codes "\n") }
 {
     let row = RefusalRow {
         line,
         start: 0,
         figures: Refusal::BadHexadecimal.figures(),
     };
-    writeln!(output, "{row}")
+    format!(in alloc; "{row}\n")
+}
+
+#[tactic(auto, using(crate::proofs::Rows::no_front))]
+fn write_bad_line<W: Write>(line: u64, alloc: Global, output: &mut W) -> io::Result<()>
+    ensures all { OnOk result (Appends (W.contents output.old) (W.contents output.new)
+        (refusal_row line 0 (figures_of Refusal.BadHexadecimal) ++ codes "\n")) }
+    ensures front { OnErr result (AppendsFront (W.contents output.old) (W.contents output.new)
+        (refusal_row line 0 (figures_of Refusal.BadHexadecimal) ++ codes "\n")) }
+{
+    let text = bad_line_text(line, alloc)?;
+    put(text.as_bytes(), output)
 }
 
 // The line that is being read: what is above the longest that is good tells nothing more.
@@ -105,17 +178,20 @@ struct Line {
 }
 
 impl Line {
+    #[tactic(auto, using(crate::proofs::Rows::no_front))]
     fn write<W: Write>(&self, mode: Mode, alloc: Global, output: &mut W) -> io::Result<()>
-        ensures { OnOk result (Appends (W.contents output.old) (W.contents output.new)
+        ensures all { OnOk result (Appends (W.contents output.old) (W.contents output.new)
+            (line_text mode self.now.number self.now.digits.items)) }
+        ensures front { OnErr result (AppendsFront (W.contents output.old) (W.contents output.new)
             (line_text mode self.now.number self.now.digits.items)) }
     {
         if self.digits.len() > LONGEST {
-            return write_bad_line(self.number, output);
+            return write_bad_line(self.number, alloc, output);
         }
         match hex::decode(alloc, self.digits.as_slice()) {
-            Ok(frame) => write_frame(&frame, mode, self.number, output),
+            Ok(frame) => write_frame(&frame, mode, self.number, alloc, output),
             Err(hex::FromHexError::OutOfMemory) => Err(io::Error::from(AllocError)),
-            Err(_) => write_bad_line(self.number, output),
+            Err(_) => write_bad_line(self.number, alloc, output),
         }
     }
 
@@ -133,7 +209,9 @@ impl Line {
     // Lists a line that has ended, and begins the next.
     fn end<W: Write>(&mut self, mode: Mode, alloc: Global, output: &mut W) -> io::Result<()>
         requires { self.old.number < most_number }
-        ensures text { OnOk result (Appends (W.contents output.old) (W.contents output.new)
+        ensures all { OnOk result (Appends (W.contents output.old) (W.contents output.new)
+            (line_text mode self.old.number self.old.digits.items)) }
+        ensures front { OnErr result (AppendsFront (W.contents output.old) (W.contents output.new)
             (line_text mode self.old.number self.old.digits.items)) }
         ensures number { OnOk result (self.new.number ≡ self.old.number + 1) }
         ensures digits { OnOk result (self.new.digits.items ≡ []) }
@@ -153,8 +231,10 @@ impl Line {
         output: &mut W,
     ) -> io::Result<()>
         requires { self.old.number + length part.now ≤ most_number }
-        ensures { OnOk result ((read : List ℕ) (before : Option (List ℕ)) → Reading mode read part.now before (W.contents output.old) self.old
+        ensures all { OnOk result ((read : List ℕ) (before : Option (List ℕ)) → Reading mode read part.now before (W.contents output.old) self.old
             → Reading mode read [] before (W.contents output.new) self.new) }
+        ensures front { OnErr result ((read more : List ℕ) (before : Option (List ℕ)) → Reading mode read part.now before (W.contents output.old) self.old
+            → AppendsFront before (W.contents output.new) (listing mode (read ++ more))) }
     {
         let mut rest = part;
         while let Some(end) = memchr(b'\n', rest) {
@@ -207,9 +287,13 @@ pub fn list<R: Read, W: Write>(
 
     // Where it stops before the input ends, the lines that were read whole are listed.
     ensures stopped { IfErr result (λ e. Stopped mode (R.remaining input.old) (R.remaining input.new) (W.contents output.old) (W.contents output.new) e) }
+
+    // And whatever the error is: what was written is a front of the listing.
+    ensures front { OnErr result (IfSome (R.remaining input.old) (λ s. AppendsFront (W.contents output.old) (W.contents output.new) (listing mode s))) }
 {
-    output.write_all(
+    put(
         b"line at len group offset size type flags unread attrs refs name typename high\n",
+        output,
     )?;
     let mut line = Line {
         number: 1,
@@ -235,3 +319,8 @@ pub fn list<R: Read, W: Write>(
     }
     Err(Failure::Endless)
 }
+
+/// Four lines, letter by letter; and 16,384 bytes are read, where a digit more is bad.
+pub fn listing_meant()
+    ensures { ListingMeant }
+{}

@@ -19,7 +19,8 @@ use Rattle.text.proofs.Laws.{same_writing, writes_none, writes_done}
 use Rattle.text.proofs.Utf8.{utf8_some, at_front, lead_1, lead_2, following_byte}
 use Rattle.text.proofs.Exact.{point_starts}
 use Rattle.text.proofs.Byte.{byte_low, byte_high, seek_sound}
-use Rattle.text.specs.Utf8.{utf8, following, scalar_of}
+use Rattle.text.specs.Utf8.{following, scalar_of}
+use Rattle.std.specs.Char.{encode_utf8}
 use Rattle.text.specs.Text.{byte_of, byte_in, char_in, char_of, before, encoded_from, counted}
 use Rattle.text.specs.declared.Scalar.{Scalar}
 use Rattle.text.specs.declared.Scalar.TheVariants.{Point, Bad}
@@ -47,7 +48,7 @@ unfolding char_of
 char_width l b w h =
     let c = spelt (scalar_of l) b w h in
     let s = point_starts l c.point w c.is in
-    (omega (arith, utf8_some c.point), omega (arith, ap length s.here, length-append (utf8 c.point) (drop w l)))
+    (omega (arith, utf8_some c.point), omega (arith, ap length s.here, length-append (encode_utf8 c.point) (drop w l)))
 
 pub char_inside : (s : List ℕ) (at b w : ℕ) → at ≤ length s → char_of (drop at s) ≡ Is b w → (1 ≤ w) × (at + w ≤ length s)
 char_inside s at b w h e =

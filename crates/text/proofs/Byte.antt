@@ -16,7 +16,7 @@ use Rattle.text.proofs.Table.{both, both_left, both_right, at}
 use Rattle.text.proofs.Utf8.{le_or_lt, utf8_most}
 use Rattle.text.proofs.Laws.{point_low, point_mid, point_high}
 use Rattle.text.specs.Text.{points, code_point, decoded, seek, byte_of}
-use Rattle.text.specs.Utf8.{utf8}
+use Rattle.std.specs.Char.{encode_utf8}
 
 -- ---- the search
 -- no byte of the n from b on has the code point p
@@ -244,4 +244,4 @@ own b h = ⊎_elim (λ i. ⊎_elim (λ j. own_same b h (point_high j) (byte_high
 pub decoded_most : (s : List ℕ) → ((k : ℕ) → get_or s k 0 < 256) → length (decoded s) ≤ 3 * length s
 unfolding decoded
 decoded_most [] h = omega arith
-decoded_most (b ∷ s) h = omega (arith, length-append (utf8 (code_point b)) (decoded s), utf8_most (code_point b) (omega (arith, (own b (h 0)).below)), decoded_most s (λ k. h (suc k)))
+decoded_most (b ∷ s) h = omega (arith, length-append (encode_utf8 (code_point b)) (decoded s), utf8_most (code_point b) (omega (arith, (own b (h 0)).below)), decoded_most s (λ k. h (suc k)))

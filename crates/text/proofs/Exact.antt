@@ -9,21 +9,24 @@ use native.Mathlib.Nat.{div-div-eq-div-mul}
 use native.Mathlib.Omega.{arith}
 use lib.Dec.{leb, eqb}
 use lib.ListN.{length, drop}
-use borrow.Author.Tests.{le-leb, leb-true, eqb-true, eqb-false}
+use borrow.Author.Tests.{le-leb, le-ltb, lt-ltb, leb-true, eqb-true, eqb-false}
+use lib.Utf8.{low_scalar, scalar_cases}
+use Rattle.std.specs.Char.{IsScalar}
 use Rattle.text.proofs.Utf8.{le_or_lt, utf8_1, utf8_2, utf8_3, utf8_4, lead_1, lead_2, lead_3, lead_4, lead_low, lead_over}
-use Rattle.text.specs.Utf8.{utf8, following, scalar_of}
+use Rattle.text.specs.Utf8.{following, scalar_of}
+use Rattle.std.specs.Char.{encode_utf8}
+use Rattle.text.specs.Faults.{StartsWith, Utf8Meant}
 use Rattle.text.specs.declared.Scalar.TheVariants.{Point, Bad}
 
--- a Unicode scalar value: below 110000 and no surrogate
-pub record Valid (p : ℕ) : Type 0 where
-  pub below : p < 0x110000
-  pub plain : (p < 0xD800) ⊎ (0xE000 ≤ p)
+-- a Unicode scalar value, by numbers: below 110000 and no surrogate
+pub is_scalar : {p : ℕ} → p < 0x110000 → (p < 0xD800) ⊎ (0xE000 ≤ p) → IsScalar p
+is_scalar {p} below plain = ⊎_elim (low_scalar p) (λ h. simp (le-ltb p 0xD800 (omega arith), le-leb 0xE000 p h, lt-ltb p 0x110000 below)) plain
 
--- the list starts with the w bytes of the scalar value p
-pub record Starts (l : List ℕ) (p w : ℕ) : Type 0 where
-  pub valid : Valid p
-  pub wide : w ≡ length (utf8 p)
-  pub here : l ≡ utf8 p ++ drop w l
+pub scalar_below : {p : ℕ} → IsScalar p → p < 0x110000
+scalar_below {p} s = ⊎_elim (λ h. omega arith) (λ h. h.1) (scalar_cases p s)
+
+pub scalar_plain : {p : ℕ} → IsScalar p → (p < 0xD800) ⊎ (0xE000 ≤ p)
+scalar_plain {p} s = ⊎_elim inl (λ h. inr h.0) (scalar_cases p s)
 
 -- ---- a byte that was needed: it is there, and within its boundaries
 pub record Next (n lower upper p seen : ℕ) (l : List ℕ) (q w : ℕ) : Type 0 where
@@ -62,19 +65,19 @@ upper_by true b x moved plain c e o h = (omega arith, λ q. h)
 upper_by false b x moved plain c e o h = (h, λ q. absurd (eqb-false b x e q))
 
 -- ---- the bytes that were read are the encoder's
-starts_1 : (b : ℕ) (l : List ℕ) → b < 128 → Starts (b ∷ l) b 1
-starts_1 b l h = let e = utf8_1 h in record { valid = record { below = omega arith; plain = inl (omega arith) }; wide = sym (ap length e); here = sym (ap (λ (x : List ℕ). x ++ l) e) }
+starts_1 : (b : ℕ) (l : List ℕ) → b < 128 → StartsWith (b ∷ l) b 1
+starts_1 b l h = let e = utf8_1 h in record { scalar = is_scalar {p = b} (omega arith) (inl (omega arith)); wide = sym (ap length e); here = sym (ap (λ (x : List ℕ). x ++ l) e) }
 
-starts_2 : (b c : ℕ) (l : List ℕ) → 194 ≤ b → b < 224 → 128 ≤ c → c ≤ 191 → Starts (b ∷ c ∷ l) (b % 32 * 64 + c % 64) 2
+starts_2 : (b c : ℕ) (l : List ℕ) → 194 ≤ b → b < 224 → 128 ≤ c → c ≤ 191 → StartsWith (b ∷ c ∷ l) (b % 32 * 64 + c % 64) 2
 starts_2 b c l h k i j =
     let p : ℕ = b % 32 * 64 + c % 64 in
     let x : 192 + p / 64 ≡ b = omega arith in
     let y : 128 + p % 64 ≡ c = omega arith in
-    let e : utf8 p ≡ b ∷ c ∷ [] = rw (utf8_2 {p = p} (omega arith) (omega arith), x, y) in
-    record { valid = record { below = omega arith; plain = inl (omega arith) }; wide = sym (ap length e); here = sym (ap (λ (z : List ℕ). z ++ l) e) }
+    let e : encode_utf8 p ≡ b ∷ c ∷ [] = rw (utf8_2 {p = p} (omega arith) (omega arith), x, y) in
+    record { scalar = is_scalar {p = p} (omega arith) (inl (omega arith)); wide = sym (ap length e); here = sym (ap (λ (z : List ℕ). z ++ l) e) }
 
 -- three bytes: no short value by the boundary after E0, no surrogate by that after ED
-starts_3 : (b c d : ℕ) (l : List ℕ) → 224 ≤ b → b < 240 → 128 ≤ c → c ≤ 191 → (b ≡ 224 → 160 ≤ c) → (b ≡ 237 → c ≤ 159) → 128 ≤ d → d ≤ 191 → Starts (b ∷ c ∷ d ∷ l) ((b % 16 * 64 + c % 64) * 64 + d % 64) 3
+starts_3 : (b c d : ℕ) (l : List ℕ) → 224 ≤ b → b < 240 → 128 ≤ c → c ≤ 191 → (b ≡ 224 → 160 ≤ c) → (b ≡ 237 → c ≤ 159) → 128 ≤ d → d ≤ 191 → StartsWith (b ∷ c ∷ d ∷ l) ((b % 16 * 64 + c % 64) * 64 + d % 64) 3
 starts_3 b c d l h k i j short high u v =
     let p : ℕ = (b % 16 * 64 + c % 64) * 64 + d % 64 in
     let low : 2048 ≤ p = ⊎_elim (λ g. omega arith) (λ g. let s = short (omega arith) in omega arith) (le_or_lt 225 b) in
@@ -82,12 +85,12 @@ starts_3 b c d l h k i j short high u v =
     let x : 224 + p / 4096 ≡ b = omega arith in
     let y : 128 + p / 64 % 64 ≡ c = omega arith in
     let z : 128 + p % 64 ≡ d = omega arith in
-    let e : utf8 p ≡ b ∷ c ∷ d ∷ [] = rw (utf8_3 {p = p} low (omega arith), x, y, z) in
-    record { valid = record { below = omega arith; plain = plain }; wide = sym (ap length e); here = sym (ap (λ (m : List ℕ). m ++ l) e) }
+    let e : encode_utf8 p ≡ b ∷ c ∷ d ∷ [] = rw (utf8_3 {p = p} low (omega arith), x, y, z) in
+    record { scalar = is_scalar {p = p} (omega arith) plain; wide = sym (ap length e); here = sym (ap (λ (m : List ℕ). m ++ l) e) }
 
 -- four bytes: no short value by the boundary after F0, none above 10FFFF by that after F4
 starts_4 : (b c d f : ℕ) (l : List ℕ) → 240 ≤ b → b < 245 → 128 ≤ c → c ≤ 191 → (b ≡ 240 → 144 ≤ c) → (b ≡ 244 → c ≤ 143) → 128 ≤ d → d ≤ 191 → 128 ≤ f → f ≤ 191
-    → Starts (b ∷ c ∷ d ∷ f ∷ l) (((b % 8 * 64 + c % 64) * 64 + d % 64) * 64 + f % 64) 4
+    → StartsWith (b ∷ c ∷ d ∷ f ∷ l) (((b % 8 * 64 + c % 64) * 64 + d % 64) * 64 + f % 64) 4
 starts_4 b c d f l h k i j short high u v r s =
     let p : ℕ = ((b % 8 * 64 + c % 64) * 64 + d % 64) * 64 + f % 64 in
     let low : 65536 ≤ p = ⊎_elim (λ g. omega arith) (λ g. let s = short (omega arith) in omega arith) (le_or_lt 241 b) in
@@ -96,20 +99,20 @@ starts_4 b c d f l h k i j short high u v r s =
     let y : 128 + p / 4096 % 64 ≡ c = omega arith in
     let z : 128 + p / 64 % 64 ≡ d = omega arith in
     let a : 128 + p % 64 ≡ f = omega arith in
-    let e : utf8 p ≡ b ∷ c ∷ d ∷ f ∷ [] = rw (utf8_4 {p = p} low, x, y, z, a) in
-    record { valid = record { below = below; plain = inr (omega arith) }; wide = sym (ap length e); here = sym (ap (λ (m : List ℕ). m ++ l) e) }
+    let e : encode_utf8 p ≡ b ∷ c ∷ d ∷ f ∷ [] = rw (utf8_4 {p = p} low, x, y, z, a) in
+    record { scalar = is_scalar {p = p} below (inr (omega arith)); wide = sym (ap length e); here = sym (ap (λ (m : List ℕ). m ++ l) e) }
 
 -- the same with the bytes as the decoder has them: each needed byte is there, and what is left is the value
 module _ (b : ℕ) (l : List ℕ) (q w : ℕ) where
-  at : {m : List ℕ} {p k : ℕ} → m ≡ l → (p ≡ q) × (k ≡ w) → Starts (b ∷ m) p k → Starts (b ∷ l) q w
-  at {m} {p} {k} e r s = subst (λ (x : List ℕ). Starts (b ∷ x) q w) e (subst (λ (x : ℕ). Starts (b ∷ m) q x) r.1 (subst (λ (x : ℕ). Starts (b ∷ m) x k) r.0 s))
+  at : {m : List ℕ} {p k : ℕ} → m ≡ l → (p ≡ q) × (k ≡ w) → StartsWith (b ∷ m) p k → StartsWith (b ∷ l) q w
+  at {m} {p} {k} e r s = subst (λ (x : List ℕ). StartsWith (b ∷ x) q w) e (subst (λ (x : ℕ). StartsWith (b ∷ m) q x) r.1 (subst (λ (x : ℕ). StartsWith (b ∷ m) x k) r.0 s))
 
-  two : 194 ≤ b → b < 224 → following 1 0x80 0xBF (b % 32) 1 l ≡ Point q w → Starts (b ∷ l) q w
+  two : 194 ≤ b → b < 224 → following 1 0x80 0xBF (b % 32) 1 l ≡ Point q w → StartsWith (b ∷ l) q w
   two h k e =
       let c = next 0 0x80 0xBF (b % 32) 1 l q w e in
       at (sym c.is) (last _ _ _ _ _ q w c.rest) (starts_2 b c.byte c.after h k c.low c.high)
 
-  three : 224 ≤ b → b < 240 → following 2 (if eqb b 0xE0 then 0xA0 else 0x80) (if eqb b 0xED then 0x9F else 0xBF) (b % 16) 1 l ≡ Point q w → Starts (b ∷ l) q w
+  three : 224 ≤ b → b < 240 → following 2 (if eqb b 0xE0 then 0xA0 else 0x80) (if eqb b 0xED then 0x9F else 0xBF) (b % 16) 1 l ≡ Point q w → StartsWith (b ∷ l) q w
   three h k e =
       let c = next 1 (if eqb b 0xE0 then 0xA0 else 0x80) (if eqb b 0xED then 0x9F else 0xBF) (b % 16) 1 l q w e in
       let d = next 0 0x80 0xBF (b % 16 * 64 + c.byte % 64) 2 c.after q w c.rest in
@@ -117,7 +120,7 @@ module _ (b : ℕ) (l : List ℕ) (q w : ℕ) where
       let j = upper_by (eqb b 0xED) b 0xED 0x9F 0xBF c.byte refl (omega arith) c.high in
       at (ap (λ (m : List ℕ). c.byte ∷ m) (sym d.is) ∙ sym c.is) (last _ _ _ _ _ q w d.rest) (starts_3 b c.byte d.byte d.after h k i.0 j.0 i.1 j.1 d.low d.high)
 
-  four : 240 ≤ b → b < 245 → following 3 (if eqb b 0xF0 then 0x90 else 0x80) (if eqb b 0xF4 then 0x8F else 0xBF) (b % 8) 1 l ≡ Point q w → Starts (b ∷ l) q w
+  four : 240 ≤ b → b < 245 → following 3 (if eqb b 0xF0 then 0x90 else 0x80) (if eqb b 0xF4 then 0x8F else 0xBF) (b % 8) 1 l ≡ Point q w → StartsWith (b ∷ l) q w
   four h k e =
       let c = next 2 (if eqb b 0xF0 then 0x90 else 0x80) (if eqb b 0xF4 then 0x8F else 0xBF) (b % 8) 1 l q w e in
       let d = next 1 0x80 0xBF (b % 8 * 64 + c.byte % 64) 2 c.after q w c.rest in
@@ -127,7 +130,7 @@ module _ (b : ℕ) (l : List ℕ) (q w : ℕ) where
       at (ap (λ (m : List ℕ). c.byte ∷ d.byte ∷ m) (sym f.is) ∙ ap (λ (m : List ℕ). c.byte ∷ m) (sym d.is) ∙ sym c.is) (last _ _ _ _ _ q w f.rest)
       (starts_4 b c.byte d.byte f.byte f.after h k i.0 j.0 i.1 j.1 d.low d.high f.low f.high)
 
-  first : scalar_of (b ∷ l) ≡ Point q w → Starts (b ∷ l) q w
+  first : scalar_of (b ∷ l) ≡ Point q w → StartsWith (b ∷ l) q w
   first e =
       ⊎_elim
       (λ h.
@@ -141,7 +144,7 @@ module _ (b : ℕ) (l : List ℕ) (q w : ℕ) where
       (λ i. absurd (no_point (sym (lead_low b l h i) ∙ e))) (le_or_lt 194 b))
       (λ h. at refl (let r : Point b 1 ≡ Point q w = sym (lead_1 b l h) ∙ e in ((cc), (cc))) (starts_1 b l h)) (le_or_lt 128 b)
 
-pub point_starts : (l : List ℕ) (q w : ℕ) → scalar_of l ≡ Point q w → Starts l q w
+pub point_starts : (l : List ℕ) (q w : ℕ) → scalar_of l ≡ Point q w → StartsWith l q w
 unfolding scalar_of
 point_starts [] q w e = absurd (no_point e)
 point_starts (b ∷ l) q w e = first b l q w e
@@ -172,17 +175,17 @@ digits p =
 
 module _ (p : ℕ) (l : List ℕ) where
   -- the bytes of the value, as they stand in a list
-  reads : {bs : List ℕ} → utf8 p ≡ bs → scalar_of (bs ++ l) ≡ Point p (length bs) → scalar_of (utf8 p ++ l) ≡ Point p (length (utf8 p))
+  reads : {bs : List ℕ} → encode_utf8 p ≡ bs → scalar_of (bs ++ l) ≡ Point p (length bs) → scalar_of (encode_utf8 p ++ l) ≡ Point p (length (encode_utf8 p))
   reads {bs} e r = subst (λ (x : List ℕ). scalar_of (x ++ l) ≡ Point p (length x)) (sym e) r
 
-  reads_2 : 128 ≤ p → p < 2048 → scalar_of (utf8 p ++ l) ≡ Point p (length (utf8 p))
+  reads_2 : 128 ≤ p → p < 2048 → scalar_of (encode_utf8 p ++ l) ≡ Point p (length (encode_utf8 p))
   reads_2 h k =
       let b : ℕ = 192 + p / 64 in
       let c : ℕ = 128 + p % 64 in
       let e : b % 32 * 64 + c % 64 ≡ p = omega arith in
       reads (utf8_2 h k) (lead_2 b (c ∷ l) (omega arith) (omega arith) ∙ takes 0 0x80 0xBF (b % 32) 1 c l (omega arith) (omega arith) ∙ done 0x80 0xBF (b % 32 * 64 + c % 64) 2 l e)
 
-  reads_3 : 2048 ≤ p → p < 65536 → (p < 0xD800) ⊎ (0xE000 ≤ p) → scalar_of (utf8 p ++ l) ≡ Point p (length (utf8 p))
+  reads_3 : 2048 ≤ p → p < 65536 → (p < 0xD800) ⊎ (0xE000 ≤ p) → scalar_of (encode_utf8 p ++ l) ≡ Point p (length (encode_utf8 p))
   reads_3 h k plain =
       let b : ℕ = 224 + p / 4096 in
       let c : ℕ = 128 + p / 64 % 64 in
@@ -198,7 +201,7 @@ module _ (p : ℕ) (l : List ℕ) where
       ∙ takes 0 0x80 0xBF (b % 16 * 64 + c % 64) 2 d l (omega arith) (omega arith)
       ∙ done 0x80 0xBF ((b % 16 * 64 + c % 64) * 64 + d % 64) 3 l e)
 
-  reads_4 : 65536 ≤ p → p < 0x110000 → scalar_of (utf8 p ++ l) ≡ Point p (length (utf8 p))
+  reads_4 : 65536 ≤ p → p < 0x110000 → scalar_of (encode_utf8 p ++ l) ≡ Point p (length (encode_utf8 p))
   reads_4 h k =
       let b : ℕ = 240 + p / 262144 in
       let c : ℕ = 128 + p / 4096 % 64 in
@@ -220,11 +223,10 @@ module _ (p : ℕ) (l : List ℕ) where
       ∙ takes 0 0x80 0xBF ((b % 8 * 64 + c % 64) * 64 + d % 64) 3 f l (omega arith) (omega arith)
       ∙ done 0x80 0xBF (((b % 8 * 64 + c % 64) * 64 + d % 64) * 64 + f % 64) 4 l e)
 
-  pub encoded_point : Valid p → scalar_of (utf8 p ++ l) ≡ Point p (length (utf8 p))
+  pub encoded_point : IsScalar p → scalar_of (encode_utf8 p ++ l) ≡ Point p (length (encode_utf8 p))
   encoded_point v =
-      ⊎_elim (λ h. ⊎_elim (λ i. ⊎_elim (λ j. reads_4 j v.below) (λ j. reads_3 i j v.plain) (le_or_lt 65536 p)) (λ i. reads_2 h i) (le_or_lt 2048 p))
+      ⊎_elim (λ h. ⊎_elim (λ i. ⊎_elim (λ j. reads_4 j (scalar_below v)) (λ j. reads_3 i j (scalar_plain v)) (le_or_lt 65536 p)) (λ i. reads_2 h i) (le_or_lt 2048 p))
       (λ h. reads (utf8_1 h) (lead_1 p l h)) (le_or_lt 128 p)
 
--- the theorem: the decoder gives the value p of w bytes at the front of a list exactly where the list starts with the encoder's w bytes of p
-pub exact : (l : List ℕ) (p w : ℕ) → (scalar_of l ≡ Point p w → Starts l p w) × (Starts l p w → scalar_of l ≡ Point p w)
-exact l p w = (point_starts l p w, λ s. ap scalar_of s.here ∙ encoded_point p (drop w l) s.valid ∙ ap (Point p) (sym s.wide))
+pub utf8_meant : Utf8Meant
+utf8_meant l p w = (point_starts l p w, λ s. ap scalar_of s.here ∙ encoded_point p (drop w l) s.scalar ∙ ap (Point p) (sym s.wide))

@@ -1,4 +1,4 @@
--- Laws of `utf8`, `code_point` and `decoded`, and of a writer's answers. Assumes nothing.
+-- Laws of `encode_utf8`, `code_point` and `decoded`, and of a writer's answers. Assumes nothing.
 use Rattle.std.specs.Prelude.{Err, Ok, Result}
 use mathlib.Core.Path.{◌≡◌, refl, sym, ap, ◌∙◌, subst}
 use mathlib.Core.Logic.{⊎_elim}
@@ -14,7 +14,7 @@ use Rattle.refusal.specs.Refusal.{limit}
 use Rattle.writing.specs.Writing.{Writes}
 use Rattle.refusal.specs.declared.Refusal.{Refusal}
 use Rattle.refusal.specs.declared.Refusal.TheVariants.{TooLarge, OutputTooSmall}
-use Rattle.text.specs.Utf8.{utf8}
+use Rattle.std.specs.Char.{encode_utf8}
 use Rattle.text.proofs.Utf8.{le_or_lt, utf8_1}
 use Rattle.text.specs.Text.{points, code_point, decoded, limited}
 
@@ -30,26 +30,26 @@ pub point_high : {b : ℕ} → 160 ≤ b → code_point b ≡ b
 unfolding code_point
 point_high {b} h = rw (le-ltb b 128 (omega arith), le-ltb b 160 h)
 
-pub byte_low : {b : ℕ} → b < 128 → utf8 (code_point b) ≡ b ∷ []
-byte_low {b} h = ap utf8 (point_low h) ∙ utf8_1 h
+pub byte_low : {b : ℕ} → b < 128 → encode_utf8 (code_point b) ≡ b ∷ []
+byte_low {b} h = ap encode_utf8 (point_low h) ∙ utf8_1 h
 
 -- ---- the text of a byte string, byte after byte
 decoded_append : (s t : List ℕ) → decoded (s ++ t) ≡ decoded s ++ decoded t
 unfolding decoded
 decoded_append [] t = refl
-decoded_append (b ∷ s) t = ap (λ (l : List ℕ). utf8 (code_point b) ++ l) (decoded_append s t) ∙ sym (append_assoc (utf8 (code_point b)) (decoded s) (decoded t))
+decoded_append (b ∷ s) t = ap (λ (l : List ℕ). encode_utf8 (code_point b) ++ l) (decoded_append s t) ∙ sym (append_assoc (encode_utf8 (code_point b)) (decoded s) (decoded t))
 
-pub decoded_more : (s : List ℕ) (i : ℕ) → i < length s → decoded (take i s) ++ utf8 (code_point (get_or s i 0)) ≡ decoded (take (i + 1) s)
+pub decoded_more : (s : List ℕ) (i : ℕ) → i < length s → decoded (take i s) ++ encode_utf8 (code_point (get_or s i 0)) ≡ decoded (take (i + 1) s)
 unfolding decoded
 decoded_more s i h =
-    ap (λ (l : List ℕ). decoded (take i s) ++ l) (sym (append-nil (utf8 (code_point (get_or s i 0)))))
+    ap (λ (l : List ℕ). decoded (take i s) ++ l) (sym (append-nil (encode_utf8 (code_point (get_or s i 0)))))
     ∙ sym (decoded_append (take i s) (get_or s i 0 ∷ []))
     ∙ ap decoded (take_more s i h)
 
-pub length_more : (s : List ℕ) (i : ℕ) → i < length s → length (decoded (take i s)) + length (utf8 (code_point (get_or s i 0))) ≡ length (decoded (take (i + 1) s))
-length_more s i h = omega (arith, ap length (decoded_more s i h), length-append (decoded (take i s)) (utf8 (code_point (get_or s i 0))))
+pub length_more : (s : List ℕ) (i : ℕ) → i < length s → length (decoded (take i s)) + length (encode_utf8 (code_point (get_or s i 0))) ≡ length (decoded (take (i + 1) s))
+length_more s i h = omega (arith, ap length (decoded_more s i h), length-append (decoded (take i s)) (encode_utf8 (code_point (get_or s i 0))))
 
-pub decoded_room : (s : List ℕ) (i : ℕ) → i < length s → length (decoded (take i s)) + length (utf8 (code_point (get_or s i 0))) ≤ length (decoded s)
+pub decoded_room : (s : List ℕ) (i : ℕ) → i < length s → length (decoded (take i s)) + length (encode_utf8 (code_point (get_or s i 0))) ≤ length (decoded s)
 decoded_room s i h =
     let e : decoded s ≡ decoded (take (i + 1) s) ++ decoded (drop (i + 1) s) = ap decoded (sym (take-append-drop (i + 1) s)) ∙ decoded_append (take (i + 1) s) (drop (i + 1) s) in
     omega (arith, ap length e, length-append (decoded (take (i + 1) s)) (decoded (drop (i + 1) s)), length_more s i h)

@@ -5,3 +5,4 @@ pub mod Exact
 pub mod Byte
 pub mod Back
 pub mod Theory
+pub mod Faults

@@ -1,11 +1,12 @@
 -- There and back gives the same bytes, back and there the same text. Assumes nothing.
 use Rattle.std.specs.Prelude.{Err, Ok, Result}
 use Rattle.refusal.specs.declared.Refusal.{Refusal}
-use Rattle.std.specs.Prelude.{All, Contains, flat_map, if◌then◌else◌}
+use Rattle.std.specs.Prelude.{All, Contains, encode_utf8_all, if◌then◌else◌}
+use Rattle.std.specs.Char.{encode_utf8}
 use Rattle.std.proofs.lemmas.List.Elements.{All-nil, All-cons, All-head, All-tail, Contains-get_or}
 use Rattle.std.proofs.lemmas.Grind.{get_or_default_zero}
 use mathlib.Core.Path.{◌≡◌, refl, sym, ap, ◌∙◌, subst}
-use mathlib.Core.Logic.{inl, inr, ⊎_elim}
+use mathlib.Core.Logic.{◌⊎◌, inl, inr, ⊎_elim}
 use mathlib.Core.List.{List, [], ◌∷◌, ◌++◌}
 use mathlib.Core.Bool.{Bool, true, false}
 use Prim.Native.Nat.{ℕ, zero, suc, ◌+◌, ◌-◌, ◌≤◌, ◌<◌}
@@ -18,28 +19,28 @@ use Rattle.refusal.specs.Refusal.{limit}
 use Rattle.refusal.specs.declared.Refusal.TheVariants.{TooLarge, BadText}
 use Rattle.text.proofs.Utf8.{le_or_lt, utf8_some}
 use Rattle.text.proofs.Laws.{point_low, point_mid, point_high, in_limit}
-use Rattle.text.proofs.Exact.{Valid, encoded_point, point_starts}
+use Rattle.text.proofs.Exact.{is_scalar, encoded_point, point_starts}
 use Rattle.text.proofs.Byte.{own, seek_sound}
 use Rattle.text.proofs.Back.{spelt, encoded_char, encoded_fault}
-use Rattle.text.specs.Utf8.{utf8, scalar_of}
+use Rattle.text.specs.Utf8.{scalar_of}
 use Rattle.text.specs.RoundTrip.{AreBytes, IsWindows1252, IsWithin, Pair, BytesComeBack, TextComesBack}
+use Rattle.text.specs.Faults.{TableMeant}
 use Rattle.text.specs.Text.{points, code_point, decoded, decoding, byte_of, char_of, before, encoded_from, encoding}
 use Rattle.text.specs.declared.Char.{Char}
 use Rattle.text.specs.declared.Char.TheVariants.{Is, Wrong}
 
 -- ---- there and back
-char_back : (b : ℕ) (l : List ℕ) → b < 256 → char_of (utf8 (code_point b) ++ l) ≡ Is b (length (utf8 (code_point b)))
+pub char_back : (b : ℕ) (l : List ℕ) → b < 256 → char_of (encode_utf8 (code_point b) ++ l) ≡ Is b (length (encode_utf8 (code_point b)))
 unfolding char_of
 char_back b l h =
     let o = own b h in
-    let v : Valid (code_point b) = record { below = omega arith; plain = inl o.below } in
-    simp (encoded_point (code_point b) l v, o.byte)
+    simp (encoded_point (code_point b) l (is_scalar {p = code_point b} (omega arith) (inl o.below)), o.byte)
 
 pub bytes_back : (s : List ℕ) (place : ℕ) → ((k : ℕ) → get_or s k 0 < 256) → encoded_from 0 place (decoded s) ≡ Ok s
 unfolding decoded encoded_from
 bytes_back [] place h = refl
 bytes_back (b ∷ s) place h =
-    let bs : List ℕ = utf8 (code_point b) in
+    let bs : List ℕ = encode_utf8 (code_point b) in
     encoded_char (bs ++ decoded s) place b (length bs) (char_back b (decoded s) (h 0)) ∙ simp (drop-append_seam bs (decoded s), bytes_back s (place + length bs) (λ k. h (suc k)))
 
 -- ---- back and there: the first character of a text that is accepted, and the rest of it
@@ -91,7 +92,7 @@ text_back (b ∷ s) t place e =
     let f = first t place b s e in
     let c = spelt (scalar_of t) b f.width f.char in
     let p = seek_sound 256 0 c.point b c.byte in
-    ap (λ (x : ℕ). utf8 x ++ decoded s) p.0 ∙ ap (λ (l : List ℕ). utf8 c.point ++ l) (text_back s (drop f.width t) (place + f.width) f.rest) ∙ sym (point_starts t c.point f.width c.is).here
+    ap (λ (x : ℕ). encode_utf8 x ++ decoded s) p.0 ∙ ap (λ (l : List ℕ). encode_utf8 c.point ++ l) (text_back s (drop f.width t) (place + f.width) f.rest) ∙ sym (point_starts t c.point f.width c.is).here
 
 -- ---- the same of the writings, with their limit on the input
 within_by : (b : Bool) (s : List ℕ) (w : Result (List ℕ) Refusal) (bs : List ℕ) → (if b then Err (TooLarge (length s)) else w) ≡ Ok bs → (b ≡ false) × (w ≡ Ok bs)
@@ -101,14 +102,14 @@ within_by false s w bs e = (refl, e)
 decoded_longer : (s : List ℕ) → length s ≤ length (decoded s)
 unfolding decoded
 decoded_longer [] = omega arith
-decoded_longer (b ∷ s) = omega (arith, utf8_some (code_point b), length-append (utf8 (code_point b)) (decoded s), decoded_longer s)
+decoded_longer (b ∷ s) = omega (arith, utf8_some (code_point b), length-append (encode_utf8 (code_point b)) (decoded s), decoded_longer s)
 
 -- ---- the bytes and the code points that Windows-1252 has
 table_long : length points ≡ 32
 unfolding points
 table_long = refl
 
-has_code_point : (b : ℕ) → b < 256 → IsWindows1252 (code_point b)
+pub has_code_point : (b : ℕ) → b < 256 → IsWindows1252 (code_point b)
 has_code_point b h = ⊎_elim upper (λ k. inl (rw (point_low {b = b} k) k)) (le_or_lt 128 b)
   where
     in_table : 128 ≤ b → b < 160 → IsWindows1252 (code_point b)
@@ -117,12 +118,12 @@ has_code_point b h = ⊎_elim upper (λ k. inl (rw (point_low {b = b} k) k)) (le
     upper : 128 ≤ b → IsWindows1252 (code_point b)
     upper k = ⊎_elim (λ l. inr (inr (rw (point_high {b = b} l) (l, h)))) (in_table k) (le_or_lt 160 b)
 
-record Source (p : ℕ) : Type 0 where
-  byte : ℕ
-  low : byte < 256
-  is : code_point byte ≡ p
+pub record Source (p : ℕ) : Type 0 where
+  pub byte : ℕ
+  pub low : byte < 256
+  pub is : code_point byte ≡ p
 
-source : (p : ℕ) → IsWindows1252 p → Source p
+pub source : (p : ℕ) → IsWindows1252 p → Source p
 source p h = ⊎_elim (λ l. record { byte = p; low = omega arith; is = point_low l }) (λ r. ⊎_elim in_table above r) h
   where
     in_table : Contains points p → Source p
@@ -143,12 +144,12 @@ unfolding decoded
 within_of [] h = ([], All-nil IsWindows1252, refl)
 within_of (b ∷ s) h =
     let r = within_of s (λ k. h (suc k)) in
-    (code_point b ∷ r.0, All-cons IsWindows1252 (code_point b) r.0 (has_code_point b (h 0)) r.1, ap (λ (l : List ℕ). utf8 (code_point b) ++ l) r.2)
+    (code_point b ∷ r.0, All-cons IsWindows1252 (code_point b) r.0 (has_code_point b (h 0)) r.1, ap (λ (l : List ℕ). encode_utf8 (code_point b) ++ l) r.2)
 
 record Bytes (ps : List ℕ) : Type 0 where
   string : List ℕ
   bytes : AreBytes string
-  told : decoded string ≡ flat_map utf8 ps
+  told : decoded string ≡ encode_utf8_all ps
 
 bytes_more : (b : ℕ) (s : List ℕ) → b < 256 → AreBytes s → AreBytes (b ∷ s)
 bytes_more b s h f zero = h
@@ -166,7 +167,7 @@ bytes_of (p ∷ ps) h =
     record {
       string = c.byte ∷ r.string;
       bytes = bytes_more c.byte r.string c.low r.bytes;
-      told = ap (λ (q : ℕ). utf8 q ++ decoded r.string) c.is ∙ ap (λ (l : List ℕ). utf8 p ++ l) r.told;
+      told = ap (λ (q : ℕ). encode_utf8 q ++ decoded r.string) c.is ∙ ap (λ (l : List ℕ). encode_utf8 p ++ l) r.told;
     }
 
 -- what a text is written as is bytes
@@ -216,3 +217,16 @@ text_comes_back t = (whole, only)
         let r = within_by (ltb limit (length t)) t (encoded_from 0 0 t) s e in
         let l : length t ≤ limit = ltb-false limit (length t) r.0 in
         (l, pair_by s t (written_bytes s t 0 r.1) (text_back s t 0 r.1) l)
+
+-- ---- the table, at some of its bytes, and outside it
+others : (b : ℕ) (s t : List ℕ) → (b < 0x80) ⊎ (0xA0 ≤ b) → length (b ∷ s) ≤ limit → decoding s ≡ Ok t → decoding (b ∷ s) ≡ Ok (encode_utf8 b ++ t)
+unfolding decoding decoded
+others b s t h l e =
+    let r = within_by (ltb limit (length s)) s (Ok (decoded s)) t e in
+    let q : decoded s ≡ t = cc in
+    let p : code_point b ≡ b = ⊎_elim (λ k. point_low k) (λ k. point_high k) h in
+    in_limit (b ∷ s) (Ok (decoded (b ∷ s))) l ∙ ap (λ (c : ℕ). Ok (encode_utf8 c ++ decoded s)) p ∙ ap (λ (x : List ℕ). Ok (encode_utf8 b ++ x)) q
+
+pub table_meant : TableMeant
+unfolding points code_point decoded decoding encode_utf8
+table_meant = record { table = refl; others = others }

@@ -10,7 +10,8 @@ use lib.Dec.{eqb}
 use lib.ListN.{length, drop, get_or, drop_of_length-le}
 use lib.Seq.{drop-cons}
 use borrow.Author.Tests.{lt-ltb, le-ltb, le-leb, lt-leb}
-use Rattle.text.specs.Utf8.{utf8, within, following, scalar_of}
+use Rattle.text.specs.Utf8.{within, following, scalar_of}
+use Rattle.std.specs.Char.{encode_utf8}
 use Rattle.text.specs.declared.Scalar.TheVariants.{Point, Bad}
 
 pub le_or_lt : (a b : ℕ) → (a ≤ b) ⊎ (b < a)
@@ -18,29 +19,29 @@ le_or_lt zero b = inl zero-le
 le_or_lt (suc a) zero = inr (suc-le-suc zero-le)
 le_or_lt (suc a) (suc b) = ⊎_elim (λ p. inl (suc-le-suc p)) (λ q. inr (suc-le-suc q)) (le_or_lt a b)
 
-pub utf8_1 : {p : ℕ} → p < 128 → utf8 p ≡ p ∷ []
-unfolding utf8
+pub utf8_1 : {p : ℕ} → p < 128 → encode_utf8 p ≡ p ∷ []
+unfolding encode_utf8
 utf8_1 {p} h = rw (lt-ltb p 128 h)
 
-pub utf8_2 : {p : ℕ} → 128 ≤ p → p < 2048 → utf8 p ≡ (192 + p / 64) ∷ (128 + p % 64) ∷ []
-unfolding utf8
+pub utf8_2 : {p : ℕ} → 128 ≤ p → p < 2048 → encode_utf8 p ≡ (192 + p / 64) ∷ (128 + p % 64) ∷ []
+unfolding encode_utf8
 utf8_2 {p} h k = rw (le-ltb p 128 h, lt-ltb p 2048 k)
 
-pub utf8_3 : {p : ℕ} → 2048 ≤ p → p < 65536 → utf8 p ≡ (224 + p / 4096) ∷ (128 + p / 64 % 64) ∷ (128 + p % 64) ∷ []
-unfolding utf8
+pub utf8_3 : {p : ℕ} → 2048 ≤ p → p < 65536 → encode_utf8 p ≡ (224 + p / 4096) ∷ (128 + p / 64 % 64) ∷ (128 + p % 64) ∷ []
+unfolding encode_utf8
 utf8_3 {p} h k = rw (le-ltb p 128 (omega arith), le-ltb p 2048 h, lt-ltb p 65536 k)
 
-pub utf8_4 : {p : ℕ} → 65536 ≤ p → utf8 p ≡ (240 + p / 262144) ∷ (128 + p / 4096 % 64) ∷ (128 + p / 64 % 64) ∷ (128 + p % 64) ∷ []
-unfolding utf8
+pub utf8_4 : {p : ℕ} → 65536 ≤ p → encode_utf8 p ≡ (240 + p / 262144) ∷ (128 + p / 4096 % 64) ∷ (128 + p / 64 % 64) ∷ (128 + p % 64) ∷ []
+unfolding encode_utf8
 utf8_4 {p} h = rw (le-ltb p 128 (omega arith), le-ltb p 2048 (omega arith), le-ltb p 65536 h)
 
 -- ---- how many bytes a code point takes
-pub utf8_some : (p : ℕ) → 1 ≤ length (utf8 p)
+pub utf8_some : (p : ℕ) → 1 ≤ length (encode_utf8 p)
 utf8_some p =
     ⊎_elim (λ h. ⊎_elim (λ i. ⊎_elim (λ j. omega (arith, ap length (utf8_4 j))) (λ j. omega (arith, ap length (utf8_3 i j))) (le_or_lt 65536 p)) (λ i. omega (arith, ap length (utf8_2 h i))) (le_or_lt 2048 p))
     (λ h. omega (arith, ap length (utf8_1 h))) (le_or_lt 128 p)
 
-pub utf8_most : (p : ℕ) → p < 65536 → length (utf8 p) ≤ 3
+pub utf8_most : (p : ℕ) → p < 65536 → length (encode_utf8 p) ≤ 3
 utf8_most p k = ⊎_elim (λ h. ⊎_elim (λ i. omega (arith, ap length (utf8_3 i k))) (λ i. omega (arith, ap length (utf8_2 h i))) (le_or_lt 2048 p)) (λ h. omega (arith, ap length (utf8_1 h))) (le_or_lt 128 p)
 
 -- ---- the decoder at a first byte

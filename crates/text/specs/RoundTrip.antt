@@ -1,7 +1,6 @@
 -- docs/FORMAT.md, "Text": bytes as text and back, and text as bytes and back.
-use Rattle.std.specs.Prelude.{ℕ, List, Ok, ◌≡◌, ◌<◌, ◌≤◌, ◌⊎◌, All, Contains, flat_map, get_or, length}
+use Rattle.std.specs.Prelude.{ℕ, List, Ok, ◌≡◌, ◌<◌, ◌≤◌, ◌⊎◌, All, Contains, encode_utf8_all, get_or, length}
 use Rattle.refusal.specs.Refusal.{limit}
-use Rattle.text.specs.Utf8.{utf8}
 use Rattle.text.specs.Text.{points, decoding, encoding}
 
 abbrev pub AreBytes : List ℕ → Type 0
@@ -13,7 +12,7 @@ IsWindows1252 p = (p < 0x80) ⊎ (Contains points p ⊎ ((0xA0 ≤ p) × (p < 0x
 
 -- a text within Windows-1252: such code points alone, one after another, in UTF-8
 abbrev pub IsWithin : List ℕ → Type 0
-IsWithin t = (ps : List ℕ) × All IsWindows1252 ps × (t ≡ flat_map utf8 ps)
+IsWithin t = (ps : List ℕ) × All IsWindows1252 ps × (t ≡ encode_utf8_all ps)
 
 -- bytes and the text that they are told as, which is written as these bytes, unless it is above the limit
 pub record Pair (s t : List ℕ) : Type 0 where

@@ -2,14 +2,14 @@
 use Rattle.std.specs.Prelude.{None, Option, Some}
 use Rattle.std.specs.Prelude.{Err, Ok, Result}
 use Rattle.refusal.specs.declared.Refusal.{Refusal}
-use Rattle.std.specs.Prelude.{List, [], ◌∷◌, ◌++◌, ℕ, zero, suc, ◌+◌, ◌-◌, ltb, eqb, length, get_or, if◌then◌else◌}
+use Rattle.std.specs.Prelude.{List, [], ◌∷◌, ◌++◌, ℕ, zero, suc, ◌+◌, ◌-◌, ltb, eqb, length, get_or, encode_utf8, if◌then◌else◌}
 use Rattle.refusal.specs.Refusal.{limit}
 use Rattle.refusal.specs.declared.Refusal.TheVariants.{TooLarge, BadText}
 use Rattle.text.specs.declared.Scalar.{Scalar}
 use Rattle.text.specs.declared.Scalar.TheVariants.{Point, Bad}
 use Rattle.text.specs.declared.Char.{Char}
 use Rattle.text.specs.declared.Char.TheVariants.{Is, Wrong}
-use Rattle.text.specs.Utf8.{utf8, scalar_of}
+use Rattle.text.specs.Utf8.{scalar_of}
 
 -- the code points of the bytes 80 to 9F
 unfoldable pub points : List ℕ
@@ -24,7 +24,7 @@ code_point b = if ltb b 0x80 then b else if ltb b 0xA0 then get_or points (b - 0
 -- a byte string as text
 unfoldable pub decoded : List ℕ → List ℕ
 decoded [] = []
-decoded (b ∷ s) = utf8 (code_point b) ++ decoded s
+decoded (b ∷ s) = encode_utf8 (code_point b) ++ decoded s
 
 -- refusal 5 comes before all else
 abbrev pub limited : List ℕ → Result (List ℕ) Refusal → Result (List ℕ) Refusal

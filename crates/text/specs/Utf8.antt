@@ -1,15 +1,7 @@
--- UTF-8 as the Encoding Standard has it: its encoder, and its decoder at the front of a list of bytes.
-use Rattle.std.specs.Prelude.{Bool, false, List, [], ◌∷◌, ℕ, zero, suc, ◌+◌, ◌*◌, ◌/◌, ◌%◌, ltb, leb, eqb, if◌then◌else◌}
+-- docs/FORMAT.md, "Text": the Encoding Standard's decoder of UTF-8, at the front of a list of bytes.
+use Rattle.std.specs.Prelude.{Bool, false, List, [], ◌∷◌, ℕ, zero, suc, ◌+◌, ◌*◌, ◌%◌, ltb, leb, eqb, if◌then◌else◌}
 use Rattle.text.specs.declared.Scalar.{Scalar}
 use Rattle.text.specs.declared.Scalar.TheVariants.{Point, Bad}
-
--- the encoder: a code point in one to four bytes, six bits in each after the first
-unfoldable pub utf8 : ℕ → List ℕ
-utf8 p =
-    if ltb p 0x80 then p ∷ []
-    else if ltb p 0x800 then (0xC0 + p / 64) ∷ (0x80 + p % 64) ∷ []
-    else if ltb p 0x10000 then (0xE0 + p / 4096) ∷ (0x80 + p / 64 % 64) ∷ (0x80 + p % 64) ∷ []
-    else (0xF0 + p / 262144) ∷ (0x80 + p / 4096 % 64) ∷ (0x80 + p / 64 % 64) ∷ (0x80 + p % 64) ∷ []
 
 abbrev pub within : ℕ → ℕ → ℕ → Bool
 within lower upper b = if leb lower b then leb b upper else false

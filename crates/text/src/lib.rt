@@ -1,13 +1,14 @@
 //! Windows-1252 bytes to UTF-8 text and back, into a lent buffer: what the Rust asks encoding_rs for (docs/FORMAT.md, "Text").
 #![tactic(auto)]
 
-ghost use Rattle.std.specs.Prelude.{◌≡◌, ℕ, ◌+◌, ◌≤◌, ◌<◌, length, take, drop, get_or, eqb, if◌then◌else◌};
+ghost use Rattle.std.specs.Prelude.{◌≡◌, ℕ, ◌+◌, ◌≤◌, ◌<◌, length, take, drop, get_or, encode_utf8, eqb, if◌then◌else◌};
 ghost use Rattle.std.specs.Int.Bits.{bit_and};
 ghost use Rattle.le.specs.Put.{Wrote};
 ghost use Rattle.refusal.specs.Refusal.{limit};
 ghost use Rattle.writing.specs.Writing.{Writes};
-ghost use Rattle.text.specs.Utf8.{utf8, following, scalar_of};
+ghost use Rattle.text.specs.Utf8.{following, scalar_of};
 ghost use Rattle.text.specs.RoundTrip.{BytesComeBack, TextComesBack};
+ghost use Rattle.text.specs.Faults.{Utf8Meant, FaultsMeant, TableMeant};
 ghost use Rattle.text.specs.Text.{points, code_point, decoded, decoding, seek, byte_of, char_of, encoded_from, counted, encoding};
 
 use refusal::{LIMIT, Refusal};
@@ -46,7 +47,7 @@ fn one_like(b: u8, mask: u8, value: u8) -> u8
 // and 94 to 97; 89, 8B, 99 and 9B; 80 and 82; 91 and 93; 92. By comparisons and not by a copy of the table, so that the
 // compiler takes many bytes at once and little stack is used.
 fn byte_width(b: u8) -> u8
-    ensures { (result ≡ length (utf8 (code_point b))) × (result ≤ 3) }
+    ensures { (result ≡ length (encode_utf8 (code_point b))) × (result ≤ 3) }
 {
     let most = one_like(b, 0xEC, 0x84) + one_like(b, 0xED, 0x89);
     let rest = one_like(b, 0xFD, 0x80) + one_like(b, 0xFD, 0x91) + one_like(b, 0xFF, 0x92);
@@ -56,8 +57,8 @@ fn byte_width(b: u8) -> u8
 // A code point above 7F at a place.
 fn put_point(out: &mut [u8], at: usize, p: u16) -> usize
     requires le_p { 0x80 ≤ p }
-    requires p_in_bounds { at + length (utf8 p) ≤ length out.old }
-    ensures { Wrote out.old at (utf8 p) out.new result }
+    requires p_in_bounds { at + length (encode_utf8 p) ≤ length out.old }
+    ensures { Wrote out.old at (encode_utf8 p) out.new result }
 {
     if p < 0x800 {
         out[at] = (0xC0 + p / 64) as u8;
@@ -73,8 +74,8 @@ fn put_point(out: &mut [u8], at: usize, p: u16) -> usize
 // The three ways write apart, so that only the bytes 80 to 9F look at the table and at their width.
 fn put_byte(out: &mut [u8], at: usize, table: &[u16; 32], b: u8) -> usize
     requires table_value { table.now ≡ points }
-    requires b_in_bounds { at + length (utf8 (code_point b)) ≤ length out.old }
-    ensures { Wrote out.old at (utf8 (code_point b)) out.new result }
+    requires b_in_bounds { at + length (encode_utf8 (code_point b)) ≤ length out.old }
+    ensures { Wrote out.old at (encode_utf8 (code_point b)) out.new result }
 {
     if b < 0x80 {
         return le::put_u8(out, at, b);
@@ -448,4 +449,20 @@ pub fn bytes_come_back()
 /// A text is accepted exactly where it is within Windows-1252 and the limit; it is the text of the bytes that it is written as.
 pub fn text_comes_back()
     ensures { TextComesBack }
+{}
+
+/// The decoder gives a scalar value exactly where its bytes, as std writes them, stand at the front.
+pub fn utf8_meant()
+    ensures { Utf8Meant }
+{}
+
+/// Bytes are refused above the limit alone; a text likewise, before all else, and within it at its first fault alone: the bytes of
+/// no scalar value, or of one that Windows-1252 does not have.
+pub fn faults_meant()
+    ensures { FaultsMeant }
+{}
+
+/// The first byte of the table, the last, and the five that become themselves, as every byte outside it does.
+pub fn table_meant()
+    ensures { TableMeant }
 {}

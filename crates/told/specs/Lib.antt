@@ -2,3 +2,4 @@ pub mod Told
 pub mod Slots
 pub mod Shown
 pub mod One
+pub mod Meaning

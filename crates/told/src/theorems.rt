@@ -1,5 +1,6 @@
 // The theorems, as the contracts of functions that do nothing.
 ghost use Rattle.told.specs.One.{OneTelling, OneWriting, OneWritingBoth};
+ghost use Rattle.told.specs.Meaning.{SymbolsTold, FieldsTold, AttributesTold, RefactorsTold};
 
 /// Two statuses and two answers that one promise allows are equal.
 pub fn one_telling()
@@ -14,4 +15,24 @@ pub fn one_writing()
 /// And of two lent buffers.
 pub fn one_writing_both()
     ensures { OneWritingBoth }
+{}
+
+/// Each slot of a symbol says what the bytes of its entry say: a number at its place, a string or a list by its own place.
+pub fn symbols_told()
+    ensures { SymbolsTold }
+{}
+
+/// And of a field.
+pub fn fields_told()
+    ensures { FieldsTold }
+{}
+
+/// The slots of an attribute are the places of its strings, and of what is read after it.
+pub fn attributes_told()
+    ensures { AttributesTold }
+{}
+
+/// And of a refactor record.
+pub fn refactors_told()
+    ensures { RefactorsTold }
 {}

@@ -1,3 +1,4 @@
 pub mod Asked
 pub mod Slots
 pub mod Shown
+pub mod Meaning

@@ -1,6 +1,8 @@
 //! Data types, told in numbers: what crosses to C is made here, over what crate told has.
 #![tactic(auto)]
 
+pub mod theorems;
+
 ghost use Rattle.std.specs.Prelude.{◌≡◌, ◌∷◌};
 ghost use Rattle.walk.specs.Step.{parse_of, step_at};
 ghost use Rattle.places.specs.DataTypes.{placed_of};

@@ -3,11 +3,11 @@ use Rattle.std.proofs.Math.ListN.{length-append}
 use Rattle.std.specs.Io.KnownBytes.{Consumes}
 use Rattle.std.proofs.KnownBytes.{Consumes-nil, Consumes-trans, Consumes-kept}
 use Rattle.le.proofs.Laws.{length_part}
-use Rattle.listing.proofs.Lines.{begins, comes, flushes, number_fits, at_end, all_kept, so_far, part_front}
+use Rattle.listing.proofs.Lines.{begins, comes, flushes, number_fits, at_end, all_kept, so_far, part_front, on_err, front_so_far, front_ended, front_listed, front_of_input, front_any, header_front}
 use Rattle.listing.proofs.list.Goals as goal
 
 pub loop-taken-init : goal.loop-taken-init
-loop-taken-init g c = ([], Consumes-nil _, begins c.in_ok-write_all.ensures.bytes refl c.new.ensures.items, refl)
+loop-taken-init g c = ([], Consumes-nil _, begins c.in_ok-put.ensures.all refl c.new.ensures.items, refl)
 
 pub take-requires : goal.take-requires
 take-requires g c =
@@ -23,7 +23,7 @@ returns-in-Ok-eq0-clause-whole g c =
     let i = flushes c.loop-taken.invariant.0 [] (g.W.Write.contents c.flush.new.self) c.loop-taken.invariant.2 c.flush.ensures.bytes in
     all_kept c.args.mode (g.R.Read.remaining c.args.input.now) (g.W.Write.contents c.args.output.now) (g.W.Write.contents c.write.new.output) (g.W.Write.contents c.flush-in-Ok-eq0.new.self)
     (at_end c.args.mode _ _ _ _ _ _ c.loop-taken.line c.loop-taken.invariant.0 c.read_on.new.part c.in-Ok-eq0.field-0 c.in-Ok-eq0.field-0-test c.loop-taken.invariant.1
-    c.in-Ok-eq0.ensures.ok (c.in-Ok-eq0.ensures.end c.in-Ok-eq0.field-0-test room) i c.in_ok-write-in-Ok-eq0.ensures)
+    c.in-Ok-eq0.ensures.ok (c.in-Ok-eq0.ensures.end c.in-Ok-eq0.field-0-test room) i c.in_ok-write-in-Ok-eq0.ensures.all)
     c.flush-in-Ok-eq0.ensures.bytes
 
 pub returns-in-Err-clause-stopped : goal.returns-in-Err-clause-stopped
@@ -46,6 +46,60 @@ loop-taken-preserved g c =
       read ++ c.part_of.result.now,
       Consumes-trans _ _ _ read c.part_of.result.now c.loop-taken.invariant.1
           (subst (Consumes (g.R.Read.remaining c.loop-taken.input) (g.R.Read.remaining c.read_on.new.input)) (sym (c.part_of.ensures.result_value ∙ part_front c.read_on.new.part c.in-Ok.n)) c.in-Ok.ensures.ok),
-      c.in_ok-take-in-Ok.ensures (read ++ c.part_of.result.now) (g.W.Write.contents c.args.output.now) (comes read c.part_of.result.now i),
+      c.in_ok-take-in-Ok.ensures.all (read ++ c.part_of.result.now) (g.W.Write.contents c.args.output.now) (comes read c.part_of.result.now i),
       omega (arith, c.loop-taken.invariant.3, part, length-append read c.part_of.result.now),
     )
+
+pub returns-in_err-put-clause-front : goal.returns-in_err-put-clause-front
+returns-in_err-put-clause-front g c = on_err c.from_residual.result (front_any (g.R.Read.remaining c.args.input.now) (λ s. header_front c.args.mode s c.in_err-put.ensures.front))
+
+pub returns-in_err-flush-clause-front : goal.returns-in_err-flush-clause-front
+returns-in_err-flush-clause-front g c =
+    let read : List ℕ = c.loop-taken.invariant.0 in
+    let i = flushes read [] (g.W.Write.contents c.flush.new.self) c.loop-taken.invariant.2 c.flush.ensures.bytes in
+    on_err c.from_residual-in_err-flush.result
+    (front_of_input c.args.mode (g.W.Write.contents c.args.output.now) (g.W.Write.contents c.flush.new.self) (g.R.Read.remaining c.args.input.now) (g.R.Read.remaining c.loop-taken.input) read
+    c.loop-taken.invariant.1 (λ more. front_so_far read [] more i))
+
+pub returns-in_err-write-in-Ok-eq0-clause-front : goal.returns-in_err-write-in-Ok-eq0-clause-front
+returns-in_err-write-in-Ok-eq0-clause-front g c =
+    let room : 0 < length c.loop-taken.part = search rules in
+    let i = flushes c.loop-taken.invariant.0 [] (g.W.Write.contents c.flush.new.self) c.loop-taken.invariant.2 c.flush.ensures.bytes in
+    on_err c.from_residual-in_err-write-in-Ok-eq0.result
+    (front_ended c.args.mode (g.W.Write.contents c.args.output.now) (g.W.Write.contents c.flush.new.self) (g.W.Write.contents c.write.new.output) (g.R.Read.remaining c.args.input.now) (g.R.Read.remaining c.loop-taken.input) (g.R.Read.remaining c.read_on.new.input)
+    c.loop-taken.line c.loop-taken.invariant.0 c.read_on.new.part c.in-Ok-eq0.field-0 c.in-Ok-eq0.field-0-test c.loop-taken.invariant.1
+    c.in-Ok-eq0.ensures.ok (c.in-Ok-eq0.ensures.end c.in-Ok-eq0.field-0-test room) i c.in_err-write-in-Ok-eq0.ensures.front)
+
+pub returns-in_err-flush-in-Ok-eq0-clause-front : goal.returns-in_err-flush-in-Ok-eq0-clause-front
+returns-in_err-flush-in-Ok-eq0-clause-front g c =
+    let room : 0 < length c.loop-taken.part = search rules in
+    let i = flushes c.loop-taken.invariant.0 [] (g.W.Write.contents c.flush.new.self) c.loop-taken.invariant.2 c.flush.ensures.bytes in
+    on_err c.from_residual-in_err-flush-in-Ok-eq0.result
+    (front_listed c.args.mode (g.R.Read.remaining c.args.input.now) (g.W.Write.contents c.args.output.now) (g.W.Write.contents c.flush-in-Ok-eq0.new.self)
+    (all_kept c.args.mode (g.R.Read.remaining c.args.input.now) (g.W.Write.contents c.args.output.now) (g.W.Write.contents c.write.new.output) (g.W.Write.contents c.flush-in-Ok-eq0.new.self)
+    (at_end c.args.mode _ _ _ _ _ _ c.loop-taken.line c.loop-taken.invariant.0 c.read_on.new.part c.in-Ok-eq0.field-0 c.in-Ok-eq0.field-0-test c.loop-taken.invariant.1
+    c.in-Ok-eq0.ensures.ok (c.in-Ok-eq0.ensures.end c.in-Ok-eq0.field-0-test room) i c.in_ok-write-in-Ok-eq0.ensures.all)
+    c.flush-in-Ok-eq0.ensures.bytes))
+
+pub returns-in_err-take-in-Ok-clause-front : goal.returns-in_err-take-in-Ok-clause-front
+returns-in_err-take-in-Ok-clause-front g c =
+    let read : List ℕ = c.loop-taken.invariant.0 in
+    let i = flushes read [] (g.W.Write.contents c.flush.new.self) c.loop-taken.invariant.2 c.flush.ensures.bytes in
+    on_err c.from_residual-in_err-take-in-Ok.result
+    (front_of_input c.args.mode (g.W.Write.contents c.args.output.now) (g.W.Write.contents c.take.new.output) (g.R.Read.remaining c.args.input.now) (g.R.Read.remaining c.read_on.new.input) (read ++ c.part_of.result.now)
+    (Consumes-trans _ _ _ read c.part_of.result.now c.loop-taken.invariant.1
+    (subst (Consumes (g.R.Read.remaining c.loop-taken.input) (g.R.Read.remaining c.read_on.new.input)) (sym (c.part_of.ensures.result_value ∙ part_front c.read_on.new.part c.in-Ok.n)) c.in-Ok.ensures.ok))
+    (λ more. c.in_err-take-in-Ok.ensures.front (read ++ c.part_of.result.now) more (g.W.Write.contents c.args.output.now) (comes read c.part_of.result.now i)))
+
+pub returns-in-Err-clause-front : goal.returns-in-Err-clause-front
+returns-in-Err-clause-front g c =
+    let read : List ℕ = c.loop-taken.invariant.0 in
+    let i = flushes read [] (g.W.Write.contents c.flush.new.self) c.loop-taken.invariant.2 c.flush.ensures.bytes in
+    front_of_input c.args.mode (g.W.Write.contents c.args.output.now) (g.W.Write.contents c.flush.new.self) (g.R.Read.remaining c.args.input.now) (g.R.Read.remaining c.read_on.new.input) read
+    (Consumes-kept _ _ _ read c.loop-taken.invariant.1 c.in-Err.ensures.err) (λ more. front_so_far read [] more i)
+
+pub returns-clause-front : goal.returns-clause-front
+returns-clause-front g c =
+    let read : List ℕ = c.loop-taken.invariant.0 in
+    front_of_input c.args.mode (g.W.Write.contents c.args.output.now) (g.W.Write.contents c.loop-taken.output) (g.R.Read.remaining c.args.input.now) (g.R.Read.remaining c.loop-taken.input) read
+    c.loop-taken.invariant.1 (λ more. front_so_far read [] more c.loop-taken.invariant.2)

@@ -4,7 +4,7 @@ use lib.Bits.{bit_and}
 use Rattle.text.proofs.Table.{below_at}
 use Rattle.text.proofs.Utf8.{utf8_most}
 use Rattle.text.proofs.Byte.{own}
-use Rattle.text.specs.Utf8.{utf8}
+use Rattle.std.specs.Char.{encode_utf8}
 use Rattle.text.specs.Text.{points, code_point}
 use Rattle.text.proofs.byte_width.Goals as goal
 
@@ -17,13 +17,13 @@ width b = 1 + one 0x80 0x80 b + (one 0xEC 0x84 b + one 0xED 0x89 b) + (one 0xFD 
 
 -- by comparisons: one test that antt computes for all bytes
 right : ℕ → Bool
-right b = eqb (width b) (length (utf8 (code_point b)))
+right b = eqb (width b) (length (encode_utf8 (code_point b)))
 
 pub returns : goal.returns
-unfolding right utf8 code_point points
+unfolding right encode_utf8 code_point points
 returns c =
     let b : ℕ = c.args.b in
-    let w : width b ≡ length (utf8 (code_point b)) = eqb→eq (width b) (length (utf8 (code_point b))) (below_at right 256 tt b (omega arith)) in
-    let n : 1 + c.one_like-6.result + (c.one_like.result + c.one_like-2.result) + (c.one_like-3.result + c.one_like-4.result + c.one_like-5.result) ≡ length (utf8 (code_point b)) =
+    let w : width b ≡ length (encode_utf8 (code_point b)) = eqb→eq (width b) (length (encode_utf8 (code_point b))) (below_at right 256 tt b (omega arith)) in
+    let n : 1 + c.one_like-6.result + (c.one_like.result + c.one_like-2.result) + (c.one_like-3.result + c.one_like-4.result + c.one_like-5.result) ≡ length (encode_utf8 (code_point b)) =
     simp (c.one_like.ensures.0, c.one_like-2.ensures.0, c.one_like-3.ensures.0, c.one_like-4.ensures.0, c.one_like-5.ensures.0, c.one_like-6.ensures.0) w in
     (n, omega (arith, utf8_most (code_point b) (omega (arith, (own b (omega arith)).below))))

@@ -1,0 +1,44 @@
+-- docs/FORMAT.md, "Text": which characters a text begins with, by std's UTF-8, and why bytes or a text are refused.
+use Rattle.std.specs.Prelude.{ℕ, List, [], ◌∷◌, ◌++◌, Ok, Err, ◌≡◌, ◌<◌, ◌≤◌, ◌⊎◌, ◌↔◌, length, take, drop, encode_utf8, encode_utf8_all}
+use Rattle.std.specs.Char.{IsScalar}
+use Rattle.refusal.specs.declared.Refusal.{Refusal}
+use Rattle.refusal.specs.declared.Refusal.TheVariants.{TooLarge, BadText}
+use Rattle.text.specs.declared.Scalar.TheVariants.{Point}
+use Rattle.text.specs.Utf8.{scalar_of}
+use Rattle.text.specs.Text.{decoding, encoding}
+use Rattle.text.specs.RoundTrip.{IsWindows1252, IsWithin}
+
+-- a list starts with the bytes of a scalar value, and these are so many
+pub record StartsWith (l : List ℕ) (p w : ℕ) : Type 0 where
+  pub scalar : IsScalar p
+  pub wide : w ≡ length (encode_utf8 p)
+  pub here : l ≡ encode_utf8 p ++ drop w l
+
+-- the decoder gives a scalar value and its width exactly where the list starts with its bytes
+abbrev pub Utf8Meant : Type 0
+Utf8Meant = (l : List ℕ) (p w : ℕ) → (scalar_of l ≡ Point p w) ↔ StartsWith l p w
+
+-- what is no character of Windows-1252: the bytes of no scalar value, or of one that has no byte
+abbrev pub IsNoUtf8 : List ℕ → Type 0
+IsNoUtf8 l = (p w : ℕ) → StartsWith l p w → ⊥
+
+abbrev pub HasNoByte : List ℕ → Type 0
+HasNoByte l = (p : ℕ) × (w : ℕ) × StartsWith l p w × (IsWindows1252 p → ⊥)
+
+-- the first fault of a text: all before it is within Windows-1252. Its kind is 1 or 2
+pub record IsFirstFault (t : List ℕ) (place kind : ℕ) : Type 0 where
+  pub inside : place < length t
+  pub before : IsWithin (take place t)
+  pub here : ((kind ≡ 1) × IsNoUtf8 (drop place t)) ⊎ ((kind ≡ 2) × HasNoByte (drop place t))
+
+-- bytes are refused above the limit alone; a text above the limit, before all else, and within it at its first fault alone
+pub record FaultsMeant : Type 0 where
+  pub bytes : (s : List ℕ) (why : Refusal) → (decoding s ≡ Err why) ↔ ((16777216 < length s) × (why ≡ TooLarge (length s)))
+  pub large : (t : List ℕ) → 16777216 < length t → encoding t ≡ Err (TooLarge (length t))
+  pub faults : (t : List ℕ) (why : Refusal) → length t ≤ 16777216
+      → (encoding t ≡ Err why) ↔ ((place : ℕ) × (kind : ℕ) × (why ≡ BadText place kind) × IsFirstFault t place kind)
+
+-- of the table the first byte, the last, and those that become themselves; and so does every byte outside it, before the text of those behind it
+pub record TableMeant : Type 0 where
+  pub table : decoding (0x80 ∷ 0x81 ∷ 0x8D ∷ 0x8F ∷ 0x90 ∷ 0x9D ∷ 0x9F ∷ []) ≡ Ok (encode_utf8_all (0x20AC ∷ 0x81 ∷ 0x8D ∷ 0x8F ∷ 0x90 ∷ 0x9D ∷ 0x178 ∷ []))
+  pub others : (b : ℕ) (s t : List ℕ) → (b < 0x80) ⊎ (0xA0 ≤ b) → length (b ∷ s) ≤ 16777216 → decoding s ≡ Ok t → decoding (b ∷ s) ≡ Ok (encode_utf8 b ++ t)

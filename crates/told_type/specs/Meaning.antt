@@ -1,0 +1,46 @@
+-- docs/FORMAT.md, "Data type entries": what the slots of a data type, of its array records and of its members say of the bytes, slot by slot, as
+-- bindings/c/vindaskot.h numbers them.
+use Rattle.std.specs.Prelude.{ℕ, ◌+◌, ◌*◌, ◌≡◌, List, [], ◌∷◌, Ok, get_or, length}
+use Rattle.std.specs.Borrow.{Bor}
+use Rattle.le.specs.Le.{le2, le4}
+use Rattle.part.specs.Slice.{part}
+use Rattle.refusal.specs.declared.Mode.{Mode}
+use Rattle.data_type.specs.declared.AdsDataTypeInfo.{AdsDataTypeInfo}
+use Rattle.data_type.specs.declared.array.AdsArrayInfo.{AdsArrayInfo}
+use Rattle.data_type.specs.Members.{members_of}
+use Rattle.data_type.specs.Theorems.{as_field}
+use Rattle.places.specs.declared.of_type.PlacedType.{PlacedType}
+use Rattle.places.specs.DataTypes.{placed_of}
+use Rattle.told.specs.Meaning.{FieldTold}
+use Rattle.told_type.specs.declared.PlacedMember.{PlacedMember}
+use Rattle.told_type.specs.Asked.{type_array, type_member}
+use Rattle.told_type.specs.Slots.{type_slots, type_guid, array_slots, member_slots, member_guid, path_slots}
+
+-- a data type, of its entry's own bytes: first what a field says, then the array records, 8 bytes each, and how many entries stand in it and below it
+pub record TypeTold (e : Bor (List ℕ)) (r : AdsDataTypeInfo) (slot : ℕ → ℕ) (guid : List ℕ) : Type 0 where
+  pub as_of_field : FieldTold e (as_field r) slot guid
+  pub arrays : part e (slot 17) (8 * slot 18) ≡ r.arrays.bytes
+  pub array_count : slot 18 ≡ le2 e.now 38
+  pub item_count : slot 19 ≡ le2 e.now 40
+  pub member_count : slot 20 ≡ length (members_of r)
+
+abbrev pub TypesTold : Type 0
+TypesTold = (mode : Mode) (e : Bor (List ℕ)) (p : PlacedType) → placed_of mode e ≡ Ok p → TypeTold e p.data_type (λ k. get_or (type_slots p) k 0) (type_guid p)
+
+-- an array record with a number stands behind the three strings and those before it
+abbrev pub ArraysTold : Type 0
+ArraysTold =
+    (mode : Mode) (s : Bor (List ℕ)) (number : ℕ) (a : AdsArrayInfo) → type_array mode s number ≡ Ok a
+    → let at : ℕ = 45 + le2 s.now 32 + le2 s.now 34 + le2 s.now 36 + 8 * number in array_slots a ≡ le4 s.now at ∷ le4 s.now (at + 4) ∷ []
+
+-- a member is told as a data type of its own bytes, which begin at the last place of its path; the path is a depth, an offset, and a place for each depth from 2 on
+pub record MemberTold (s : Bor (List ℕ)) (m : PlacedMember) (slot path : ℕ → ℕ) (guid : List ℕ) : Type 0 where
+  pub depth : path 0 ≡ m.position.depth
+  pub offset : path 1 ≡ m.position.offset
+  pub places : (k : ℕ) → path (k + 2) ≡ get_or m.position.path k 0
+  pub told : TypeTold (part s (path (path 0)) (slot 0)) m.placed.data_type slot guid
+
+abbrev pub MembersTold : Type 0
+MembersTold =
+    (mode : Mode) (s : Bor (List ℕ)) (number : ℕ) (m : PlacedMember) → type_member mode s number ≡ Ok m
+    → MemberTold s m (λ k. get_or (member_slots m) k 0) (λ k. get_or (path_slots m) k 0) (member_guid m)
