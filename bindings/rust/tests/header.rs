@@ -78,7 +78,7 @@ fn rust_functions(source: &str) -> BTreeMap<String, Vec<String>> {
 }
 
 fn number(text: &str) -> u64 {
-    let text = text.trim_end_matches('u');
+    let text = text.trim_end_matches('u').replace('_', "");
     match text.strip_prefix("0x") {
         Some(digits) => u64::from_str_radix(digits, 16).unwrap(),
         None => text.parse().unwrap(),
