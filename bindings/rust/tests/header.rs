@@ -131,6 +131,36 @@ fn the_constants_are_those_of_the_header() {
     assert_eq!(rust_constants(&file("src/sys.rs")), c);
 }
 
+/// The flags that have a constant, by their names in the proved crate.
+#[test]
+fn the_flags_are_those_of_the_proved_crate() {
+    let constants = rust_constants(&file("src/sys.rs"));
+    let words = [
+        ("SYMBOL_FLAG_", "symbol_flags", "impl AdsSymbolFlags: u16 {"),
+        (
+            "SYMBOL2_FLAG_",
+            "symbol_flags",
+            "impl AdsSymbol2Flags: u32 {",
+        ),
+        ("TYPE_FLAG_", "type_flags", "impl AdsTypeFlags: u32 {"),
+    ];
+    let mut held = 0;
+    for (prefix, module, word) in words {
+        let source = file(&format!("../../crates/flags/src/{module}.rt"));
+        let (_, flags) = source.split_once(word).unwrap();
+        let (flags, _) = flags.split_once("\n    }").unwrap();
+        for (name, value) in &constants {
+            if let Some(flag) = name.strip_prefix(prefix) {
+                let (_, bits) = flags.split_once(&format!("const {flag} = ")).unwrap();
+                let (bits, _) = bits.split_once(';').unwrap();
+                assert_eq!(number(bits), *value, "{name}");
+                held += 1;
+            }
+        }
+    }
+    assert_eq!(held, 12);
+}
+
 /// The header's number, the name that the linker asks for and the archive's own answer are of one interface.
 #[test]
 fn the_archive_has_the_interface_of_the_header() {
