@@ -5,16 +5,18 @@
 
 A structure's members stand in its entry as sub-items, and a member that is a structure has its own in it again: so the lens
 table tells every number of the curve with its offset. Arrays begin at 0, above it and below it. The end of the zoom curve has
-the attribute that the renderer asks for. One entry has a copy mask, one methods, and one bytes that no reader knows.
+the attribute that the renderer asks for. One entry has a copy mask, one methods, and one bytes that no reader knows. Of the last
+type two members are bits, and one each static, a property and a reference, whose own members lie where it leads.
 """
 import struct
 import uuid
 import zlib
 from pathlib import Path
 
-TYPES = {"BOOL": (33, 1), "INT": (2, 2), "DINT": (3, 4), "REAL": (4, 4), "LREAL": (5, 8), "STRING(31)": (30, 32)}
+TYPES = {"BOOL": (33, 1), "INT": (2, 2), "DINT": (3, 4), "REAL": (4, 4), "LREAL": (5, 8), "STRING(31)": (30, 32), "BIT": (33, 1)}
 STRUCT = 65
 DATA_TYPE, DATA_ITEM = 0x0001, 0x0002
+REFERENCE_TO, BIT_VALUES, PROP_ITEM, STATIC = 0x0004, 0x0020, 0x0040, 0x20000
 GUID, COPY_MASK, METHODS, ATTRIBUTES = 0x0080, 0x0200, 0x0800, 0x1000
 
 
@@ -85,6 +87,17 @@ def table():
     ]
 
 
+def panel():
+    """Bits 64 and 65 are the lowest of byte 8; of the others only the reference has a place, which is not that of its members."""
+    return [
+        entry("bZoomLock", "BIT", "", 64, flags=DATA_ITEM | BIT_VALUES),
+        entry("bFocusLock", "BIT", "", 65, flags=DATA_ITEM | BIT_VALUES),
+        entry("refPoint", "REFERENCE TO ST_LensPoint", "", 16, 8, items=point(), flags=DATA_ITEM | REFERENCE_TO),
+        entry("nPanels", "DINT", "", 0, flags=DATA_ITEM | STATIC),
+        entry("fTilt", "REAL", "", 0, flags=DATA_ITEM | PROP_ITEM),
+    ]
+
+
 def types():
     yield whole("ST_LensPoint", size=16, items=point(), guid=True)
     yield whole("ST_LensCurve", size=136, items=curve("1"), guid=True)
@@ -93,6 +106,7 @@ def types():
     yield entry("ARRAY [-2..5] OF INT", "INT", arrays=[(-2, 8)], flags=DATA_TYPE, mask=True)
     yield whole("FB_LensDrive", size=24, items=[entry("bBusy", "BOOL", "", 16)], methods=[b"Home", b"Park\0"], guid=True,
                 attributes=[("hide", "")], more=b"\x01\x02\x03")
+    yield whole("FB_LensPanel", size=24, items=panel())
 
 
 def main():

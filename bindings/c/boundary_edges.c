@@ -383,16 +383,24 @@ static struct bytes letters(enum area which, size_t len)
     return (struct bytes){at, len};
 }
 
+/* The name's length is looked at first, whatever the value's is. Lengths of which a field of one byte would keep a small one
+ * are among them. */
+static void long_attributes(void)
+{
+    static const size_t lengths[] = {0, 3, 254, 255, 256, 257, 259, 512, 65536, 65539};
+    for (size_t i = 0; i < sizeof lengths / sizeof *lengths; i++)
+        for (size_t j = 0; j < sizeof lengths / sizeof *lengths; j++) {
+            size_t name = lengths[i], value = lengths[j];
+            struct told want = name > 255    ? refused(7, 255, name)
+                               : value > 255 ? refused(7, 255, value)
+                                             : done(name + value + 4, 0);
+            SAME(LENGTHS, call_attribute_write(letters(NAME, name), letters(COMMENT, value), lend(140000)), want);
+        }
+}
+
 static void long_records(void)
 {
-    struct bytes short_one = letters(NAME, 3);
-    for (size_t len = 254; len <= 257; len++) {
-        struct bytes value = letters(COMMENT, len);
-        struct told name_told = len > 255 ? refused(7, 255, len) : done(len + 7, 0);
-        SAME(LENGTHS, call_attribute_write(value, short_one, lend(300)), name_told);
-        SAME(LENGTHS, call_attribute_write(short_one, value, lend(300)), name_told);
-        SAME(LENGTHS, call_attribute_write(value, value, lend(600)), len > 255 ? name_told : done(2 * len + 4, 0));
-    }
+    long_attributes();
     for (size_t len = 65534; len <= 65537; len++) {
         struct told want = len > 65535 ? refused(7, 65535, len) : done(len + 7, 0);
         SAME(LENGTHS, call_refactor_write(1, false, letters(NAME, len), lend(70000)), want);

@@ -84,7 +84,7 @@ static uint8_t end_byte(struct bytes b, const uint64_t *slots, struct run string
 }
 
 /* What was read, unless a string of it that the checked mode comes to has an end byte that is not 0. Its length is
- * known to be there: "16, after the length checks of that same string group". */
+ * known to be there, since 16 stands after the length checks of the same strings (docs/FORMAT.md, "Modes"). */
 static struct told ended(struct bytes b, struct told read, const struct run *strings, size_t count)
 {
     const uint64_t *s = read.slots;

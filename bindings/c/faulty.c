@@ -2842,6 +2842,18 @@ STRUCTURES(vindaskot_type_read_in)
 #elif FAULT == 309 /* slots for more than 65,536 members are told as too few of them */
 STRUCTURES(vindaskot_type_members_in)
 
+#elif FAULT == 310 /* of a name and a value that are both too long the value is told */
+uint32_t __real_vindaskot_attribute_write(const uint8_t *, size_t, const uint8_t *, size_t, uint8_t *, size_t,
+                                          uint64_t *);
+uint32_t __wrap_vindaskot_attribute_write(const uint8_t *name, size_t name_len, const uint8_t *value, size_t value_len,
+                                          uint8_t *out, size_t out_len, uint64_t *answer)
+{
+    uint32_t status = __real_vindaskot_attribute_write(name, name_len, value, value_len, out, out_len, answer);
+    if (status == 7 && value_len > 255)
+        answer[1] = value_len;
+    return status;
+}
+
 #elif FAULT == 0
 /* No fault but a control: the search that 23 to 33, 38 and 39 share, with the right comparison, the salvage that 91 to
  * 117 and 132 share, and the reader of data types that those from 169 on share. */

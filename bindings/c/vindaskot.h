@@ -205,7 +205,7 @@ enum {
     VINDASKOT_FIELD_HASH_VALUE,
     VINDASKOT_FIELD_TYPE_HASH_VALUE,
     VINDASKOT_FIELD_SIZE,
-    VINDASKOT_FIELD_OFFSET,
+    VINDASKOT_FIELD_OFFSET, /* in bytes, or what slot FLAGS says: VINDASKOT_TYPE_FLAG_BIT_VALUES and its like, below */
     VINDASKOT_FIELD_TYPE_ID,
     VINDASKOT_FIELD_FLAGS,
     VINDASKOT_FIELD_NAME, /* place */
@@ -269,7 +269,7 @@ uint32_t vindaskot_symbol_flags_read(const uint8_t *bytes, size_t bytes_len, uin
 uint32_t vindaskot_symbol2_flags_read(const uint8_t *bytes, size_t bytes_len, uint64_t answer[VINDASKOT_AT_LEAST 2]);
 uint32_t vindaskot_type_flags_read(const uint8_t *bytes, size_t bytes_len, uint64_t answer[VINDASKOT_AT_LEAST 2]);
 
-/* The flags that decide which sections an entry has. */
+/* The flags that decide which sections an entry has. Those that say what an offset is stand with the data types. */
 #define VINDASKOT_SYMBOL_FLAG_TYPE_GUID 0x0008u
 #define VINDASKOT_SYMBOL_FLAG_ATTRIBUTES 0x1000u
 #define VINDASKOT_SYMBOL_FLAG_EXTENDED_FLAGS 0x8000u
@@ -489,6 +489,22 @@ uint32_t vindaskot_salvage_in(const uint8_t *bytes, size_t bytes_len, bool check
  * The first of them refuses the whole type, and its figures count in the entry that it is about, from that entry's own
  * start. Sections behind the attributes are not read, and what follows the root's claim is not looked at. */
 
+/* Offsets are told as sent, and no call depends on what these flags say of them. Offset and size are bytes, and the
+ * offset is where the member's data lie in the data of what it is a member of, but for an entry, a field by itself too,
+ * that has
+ *   BIT_VALUES     its own offset and size are bits
+ *   STATIC         its data do not lie there: its offset is not to be used
+ *   PROP_ITEM      a property: code reads and writes it, and it has no data there
+ *   REFERENCE_TO   what lies there is a reference: the members below it lie where it leads
+ * So the sum of the offsets on the way from the root's start, as a path and a listed member tell it, is the place of a
+ * member's data only where neither it nor an entry above it is static, a property or counted in bits, and none above it a
+ * reference. Below a member that has array records the offsets are those of its first element: another element's data lie
+ * further on, by the element's size for each one between. */
+#define VINDASKOT_TYPE_FLAG_REFERENCE_TO 0x0004u
+#define VINDASKOT_TYPE_FLAG_BIT_VALUES 0x0020u
+#define VINDASKOT_TYPE_FLAG_PROP_ITEM 0x0040u
+#define VINDASKOT_TYPE_FLAG_STATIC 0x20000u
+
 /* What a data type's slots hold, the root's and a member's: first those of a field. */
 enum {
     VINDASKOT_TYPE_LENGTH, /* bytes of the entry */
@@ -496,7 +512,8 @@ enum {
     VINDASKOT_TYPE_HASH_VALUE,
     VINDASKOT_TYPE_TYPE_HASH_VALUE,
     VINDASKOT_TYPE_SIZE,
-    VINDASKOT_TYPE_OFFSET, /* in its parent; from the root's start: slot OFFSET of a path or of a listed member */
+    VINDASKOT_TYPE_OFFSET, /* in its parent, in bytes or what slot FLAGS says; from the root's start: slot OFFSET of a path or
+                            * of a listed member */
     VINDASKOT_TYPE_TYPE_ID,
     VINDASKOT_TYPE_FLAGS,
     VINDASKOT_TYPE_NAME, /* place */

@@ -10,18 +10,14 @@ supplied=$(cd "$3" && pwd)
 glue=$(cd "$(dirname "$0")" && pwd)
 root=$(cd "$glue/../.." && pwd)
 fetched=$root/target/oracle
-crates=$fetched/crates/usr/share/cargo/registry
+crates=$fetched/files/usr/share/cargo/registry
 if [ ! -d "$crates" ]; then
-    mkdir -p "$fetched/deb" "$fetched/crates"
     packages=
     for crate in encoding-rs serde serde-derive serde-json thiserror thiserror-impl syn quote proc-macro2 unicode-ident cfg-if itoa ryu; do
         packages="$packages librust-$crate-dev"
     done
     # shellcheck disable=SC2086
-    (cd "$fetched/deb" && apt-get download $packages >&2)
-    for deb in "$fetched"/deb/*.deb; do
-        dpkg-deb -x "$deb" "$fetched/crates"
-    done
+    "$root/tools/debian" "$fetched" $packages >&2
 fi
 build=$root/target/$name
 rm -rf "$build/src"

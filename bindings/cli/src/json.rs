@@ -96,6 +96,7 @@ fn own(node: &Node<'_>) -> String {
         ("offset", record.offset().to_string()),
         ("offset_from_start", node.offset_from_start.to_string()),
         ("size", record.size().to_string()),
+        ("marks", array(node.marks.iter().map(|mark| quoted(mark)))),
         ("arrays", array(arrays)),
         ("version", record.version().to_string()),
         ("hash", record.hash_value().to_string()),

@@ -3,7 +3,7 @@
 use std::ffi::OsStr;
 use std::io::Write;
 
-use vindaskot::{AdsFieldInfo, ArrayInfo, DataType, Refusal, RefusalKind};
+use vindaskot::{AdsFieldInfo, AdsTypeFlags, ArrayInfo, DataType, Refusal, RefusalKind};
 
 use crate::entries::types;
 use crate::failure::Failure;
@@ -13,18 +13,28 @@ use crate::json;
 use crate::text::{shown, width};
 use crate::words;
 
-const HEADINGS: [&str; 8] = [
+const HEADINGS: [&str; 9] = [
     "place",
     "name",
     "type",
     "offset",
     "from start",
     "size",
+    "mark",
     "array",
     "attributes",
 ];
 /// The columns of text; numbers stand at the right of theirs.
-const TEXT: [bool; 8] = [false, true, true, false, false, false, true, true];
+const TEXT: [bool; 9] = [false, true, true, false, false, false, true, true, true];
+
+/// The flags of an entry whose offset counts bits, or leads to no place in the data of what it is a member of, with the word
+/// of each.
+const MARKS: [(AdsTypeFlags, &str); 4] = [
+    (AdsTypeFlags::BIT_VALUES, "bits"),
+    (AdsTypeFlags::STATIC, "static"),
+    (AdsTypeFlags::REFERENCE_TO, "reference"),
+    (AdsTypeFlags::PROP_ITEM, "property"),
+];
 
 /// Columns by which a member's name stands to the right of its parent's.
 const STEP: usize = 2;
@@ -36,6 +46,8 @@ pub struct Node<'a> {
     /// From 1, the data type's own.
     pub depth: usize,
     pub offset_from_start: u64,
+    /// Why its offsets are not those of its bytes: by its own flags, then by those of what it stands in.
+    pub marks: Vec<String>,
     pub record: DataType<'a>,
 }
 
@@ -47,17 +59,33 @@ pub fn nodes<'a>(upload: &Upload, at: usize, root: DataType<'a>) -> Result<Vec<N
         place: at,
         depth: 1,
         offset_from_start: 0,
+        marks: marks(root.flags(), AdsTypeFlags::default()),
         record: root,
     }];
+    // All flags on the way down to what was read last, a word for each depth.
+    let mut above = vec![root.flags()];
     for member in members {
+        let record = member.read_in(upload.mode).map_err(refused)?;
+        above.truncate(member.depth() - 1);
+        let around = above[above.len() - 1];
+        above.push(AdsTypeFlags(around.0 | record.flags().0));
         nodes.push(Node {
             place: at + member.place(),
             depth: member.depth(),
             offset_from_start: member.offset_from_start(),
-            record: member.read_in(upload.mode).map_err(refused)?,
+            marks: marks(record.flags(), around),
+            record,
         });
     }
     Ok(nodes)
+}
+
+/// The marks of an entry with these flags that stands in entries with those.
+fn marks(own: AdsTypeFlags, around: AdsTypeFlags) -> Vec<String> {
+    let of = |flags: AdsTypeFlags| MARKS.iter().filter(move |(flag, _)| flags.contains(*flag));
+    let own = of(own).map(|(_, word)| (*word).to_string());
+    let around = of(around).map(|(_, word)| format!("in {word}"));
+    own.chain(around).collect()
 }
 
 /// All data types of an upload, or the first of a name.
@@ -152,7 +180,7 @@ fn refused_of_that_name(upload: &Upload, asked: &[u8]) -> Option<String> {
 
 /// A line of the table: the cells of an entry, or a place and why the entry there was refused.
 enum Line {
-    Cells([String; 8]),
+    Cells([String; 9]),
     Refused(String, String),
 }
 
@@ -160,7 +188,7 @@ fn lines(nodes: &[Node<'_>]) -> Vec<Line> {
     nodes.iter().map(|node| Line::Cells(cells(node))).collect()
 }
 
-fn cells(node: &Node<'_>) -> [String; 8] {
+fn cells(node: &Node<'_>) -> [String; 9] {
     let record = &node.record;
     let indent = " ".repeat(STEP * (node.depth - 1));
     [
@@ -170,6 +198,7 @@ fn cells(node: &Node<'_>) -> [String; 8] {
         record.offset().to_string(),
         node.offset_from_start.to_string(),
         record.size().to_string(),
+        node.marks.join(", "),
         bounds(record),
         attributes(record),
     ]
@@ -205,7 +234,7 @@ fn table(upload: &Upload, lines: &[Line], out: &mut impl Write) -> Result<(), Fa
     Ok(())
 }
 
-fn widths(lines: &[Line]) -> [usize; 8] {
+fn widths(lines: &[Line]) -> [usize; 9] {
     let mut widths = HEADINGS.map(width);
     for line in lines {
         match line {
@@ -221,7 +250,7 @@ fn widths(lines: &[Line]) -> [usize; 8] {
 }
 
 /// The last cells are often empty: no line ends in blanks.
-fn row(cells: &[String; 8], widths: &[usize; 8]) -> String {
+fn row(cells: &[String; 9], widths: &[usize; 9]) -> String {
     let mut row = String::new();
     for (column, cell) in cells.iter().enumerate() {
         let gap = if column == 0 { "" } else { "  " };

@@ -25,17 +25,15 @@ struct Entry<'a> {
     type_name: &'a [u8],
     offset: u32,
     size: u32,
+    flags: u32,
     arrays: &'a [(i32, u32)],
     attributes: &'a [(&'a [u8], &'a [u8])],
 }
 
 impl Entry<'_> {
     fn around(&self, items: &[Vec<u8>]) -> Vec<u8> {
-        let flags = if self.attributes.is_empty() {
-            0
-        } else {
-            0x1000
-        };
+        let attributes = !self.attributes.is_empty();
+        let flags = self.flags | if attributes { 0x1000 } else { 0 };
         let words = [1, 0, 0, self.size, self.offset, 65, flags];
         let lengths = [self.name.len(), self.type_name.len(), 0];
         let counts = [self.arrays.len(), items.len()];
@@ -47,7 +45,7 @@ impl Entry<'_> {
             rest.extend([lower.to_le_bytes(), elements.to_le_bytes()].concat());
         }
         rest.extend(items.concat());
-        if flags != 0 {
+        if attributes {
             rest.extend((self.attributes.len() as u16).to_le_bytes());
         }
         for (name, value) in self.attributes {
@@ -245,7 +243,7 @@ fn a_member_that_was_cut() {
         b"",
     );
     let plain = String::from_utf8(plain.stdout).unwrap();
-    let plain = plain.replacen("2,790 bytes)", "2,790 bytes, checked)", 1);
+    let plain = plain.replacen("3,374 bytes)", "3,374 bytes, checked)", 1);
     assert_eq!(String::from_utf8(checked.stdout).unwrap(), plain);
 }
 
@@ -283,6 +281,48 @@ fn odd_ones() {
     session.run_on(&["type", "--json", "-"], &upload);
     session.run_on(&["type", "-", ""], &upload);
     session.hold("type-odd.txt");
+}
+
+/// Each of the four flags on a member, two levels of members in it, one of them an array, and no flag on what stands behind
+/// it; all of them at once; on the root; and every other flag, which marks nothing.
+#[test]
+fn marked_by_flags() {
+    let marks = [0x20, 0x2_0000, 0x4, 0x40];
+    let leaf = |flags: u32| Entry {
+        offset: 1,
+        flags,
+        ..named(b"leaf")
+    };
+    let array = Entry {
+        offset: 10,
+        arrays: &[(0, 3)],
+        ..named(b"aInner")
+    };
+    let member = |flags: u32| {
+        let inner = array.around(&[leaf(0).around(&[]), leaf(0x20).around(&[])]);
+        let one = Entry {
+            offset: 100,
+            flags,
+            ..named(b"member")
+        };
+        one.around(&[inner, leaf(0).around(&[])])
+    };
+    let mut members: Vec<_> = marks.map(member).into();
+    let all = marks.iter().sum::<u32>();
+    // Sections stand on 0x80, 0x200, 0x800 and 0x1000: with bytes for none of them they are left out.
+    members.extend([member(all), member(!all & !0x1A80), leaf(0).around(&[])]);
+    let root = |flags: u32| Entry {
+        flags,
+        ..named(b"ST_Root")
+    };
+    let upload = [
+        root(0).around(&members),
+        root(0x2_0000).around(&[leaf(0).around(&[])]),
+    ];
+    let mut session = Session::new(repository());
+    session.run_on(&["type", "-"], &upload.concat());
+    session.run_on(&["type", "--json", "-"], &upload.concat());
+    session.hold("type-marks.txt");
 }
 
 // ---- JSON, read again
@@ -408,7 +448,7 @@ fn the_tree_of_json_is_that_of_the_table() {
     let found: Vec<_> = json.lines().flat_map(read_json).collect();
     let table = text_of(&["type", "-"], &upload);
     let lines: Vec<_> = table.lines().skip(2).collect();
-    assert_eq!((json.lines().count(), found.len()), (6, 38));
+    assert_eq!((json.lines().count(), found.len()), (7, 48));
     assert_eq!(lines.len(), found.len());
     for (line, (depth, name, offset)) in lines.iter().zip(&found) {
         let indent = " ".repeat(2 * (depth - 1));

@@ -159,13 +159,14 @@ impl<'a> DataType<'a> {
         self.numbers.type_hash_value
     }
 
-    /// The size of the type's data.
+    /// The size of the type's data, in bytes; of a member that is a bit ([`AdsTypeFlags::BIT_VALUES`]), in bits.
     pub const fn size(&self) -> u32 {
         self.numbers.size
     }
 
-    /// The offset within what the entry is a member of. [`Member`] and [`MemberPlace`] have the offset from the start of
-    /// the whole.
+    /// The offset within what the entry is a member of, as sent: in bytes, unless [`flags`](Self::flags) say that it is in
+    /// bits ([`AdsTypeFlags::BIT_VALUES`]), or that no data lie there ([`AdsTypeFlags::STATIC`],
+    /// [`AdsTypeFlags::PROP_ITEM`]). [`Member`] and [`MemberPlace`] have the offset from the start of the whole.
     pub const fn offset(&self) -> u32 {
         self.numbers.offset
     }
@@ -502,13 +503,17 @@ impl<'a> Member<'a> {
         self.depth
     }
 
-    /// Its own offset, within what it is a member of.
+    /// Its own offset, within what it is a member of, as [`DataType::offset`] tells it.
     pub const fn offset(&self) -> u32 {
         self.data_type.offset()
     }
 
     /// Its offset from the start of the root's data: the sum of the offsets along its path, its own the last. The root's own
     /// offset is not in it.
+    ///
+    /// That is the place of its data, in bytes, where neither it nor an entry above it has [`AdsTypeFlags::BIT_VALUES`],
+    /// [`AdsTypeFlags::STATIC`] or [`AdsTypeFlags::PROP_ITEM`], and none above it [`AdsTypeFlags::REFERENCE_TO`]: below a
+    /// reference data lie where it leads. Below a member that has array records it is the place in the first element.
     pub const fn offset_from_start(&self) -> u64 {
         self.offset_from_start
     }
@@ -553,8 +558,7 @@ impl<'a> MemberPlace<'a> {
         self.depth
     }
 
-    /// Its offset from the start of the root's data: the sum of the offsets along its path, its own the last. The root's own
-    /// offset is not in it.
+    /// Its offset from the start of the root's data, as [`Member::offset_from_start`] tells it, which says when it is a place.
     pub const fn offset_from_start(&self) -> u64 {
         self.offset_from_start
     }

@@ -114,12 +114,13 @@ impl<'a> AdsFieldInfo<'a> {
         self.numbers.type_hash_value
     }
 
-    /// The size of the field's data.
+    /// The size of the field's data, in bytes; of a bit ([`AdsTypeFlags::BIT_VALUES`]), in bits.
     pub const fn size(&self) -> u32 {
         self.numbers.size
     }
 
-    /// The offset within what the field is part of.
+    /// The offset within what the field is part of, as sent: in bytes, unless [`flags`](Self::flags) say that it is in bits
+    /// ([`AdsTypeFlags::BIT_VALUES`]), or that no data lie there ([`AdsTypeFlags::STATIC`], [`AdsTypeFlags::PROP_ITEM`]).
     pub const fn offset(&self) -> u32 {
         self.numbers.offset
     }
@@ -386,7 +387,7 @@ pub struct FieldNumbers {
     pub type_hash_value: u32,
     /// The size of the field's data; a flagged copy mask is written with as many zeros.
     pub size: u32,
-    /// The offset within what the field is part of.
+    /// The offset within what the field is part of, in bytes unless the flags say otherwise.
     pub offset: u32,
     /// The number of the data type.
     pub type_id: u32,

@@ -106,11 +106,20 @@ impl AdsSymbol2Flags {
     }
 }
 
-/// A field's flags. Bits that no constant names are kept.
+/// The flags of a field, a data type or a member. Bits that no constant names are kept. The first four of the constants say
+/// what an offset is; by the others sections are there.
 #[derive(Debug, Clone, Copy, Default, PartialEq, Eq, PartialOrd, Ord, Hash)]
 pub struct AdsTypeFlags(pub u32);
 
 impl AdsTypeFlags {
+    /// What lies at the offset is a reference: the members below it lie where it leads.
+    pub const REFERENCE_TO: Self = Self(sys::TYPE_FLAG_REFERENCE_TO);
+    /// Size and offset are in bits.
+    pub const BIT_VALUES: Self = Self(sys::TYPE_FLAG_BIT_VALUES);
+    /// A property, which code reads and writes: its offset, and those below it, are no places.
+    pub const PROP_ITEM: Self = Self(sys::TYPE_FLAG_PROP_ITEM);
+    /// Static: its data does not lie in that of what it is a member of, and its offset is not to be used.
+    pub const STATIC: Self = Self(sys::TYPE_FLAG_STATIC);
     /// The entry has a 16-byte type GUID.
     pub const TYPE_GUID: Self = Self(sys::TYPE_FLAG_TYPE_GUID);
     /// The entry has a copy mask.

@@ -8,8 +8,9 @@ use common::tree::{self, Told, Tree};
 use common::{Random, place, refusal, types};
 use vindaskot::data_type::{parse_next_entry, parse_next_entry_in};
 use vindaskot::{
-    AdsAttribute, AdsFieldInfo, AdsFieldInfoIterator, ArrayInfo, DataType, DataTypeIterator,
-    FieldNumbers, LIMIT, MEMBER_SLOTS, Member, MemberPlace, Mode, Refusal, RefusalKind,
+    AdsAttribute, AdsFieldInfo, AdsFieldInfoIterator, AdsTypeFlags, ArrayInfo, DataType,
+    DataTypeIterator, FieldNumbers, LIMIT, MEMBER_SLOTS, Member, MemberPlace, Mode, Refusal,
+    RefusalKind,
 };
 
 const MODES: [Mode; 2] = [Mode::Present, Mode::Checked];
@@ -348,6 +349,45 @@ fn the_lens_table() {
     assert_eq!((end.offset(), end.offset_from_start()), (4, 40));
     assert_eq!(end.path().len(), end.depth() - 1);
     assert_eq!(table.member(20), Err(refusal(14, 20, 20)));
+}
+
+/// A member a line: offset from the start, size, name, and which of the four flags it has, as the sample's script has them.
+const LENS_PANEL: &str = "\
+64 1 bZoomLock [false, true, false, false]
+65 1 bFocusLock [false, true, false, false]
+16 8 refPoint [true, false, false, false]
+16 4 fZoom [false, false, false, false]
+20 4 fFocus [false, false, false, false]
+24 4 fIris [false, false, false, false]
+28 4 fFieldOfView [false, false, false, false]
+0 4 nPanels [false, false, false, true]
+0 4 fTilt [false, false, true, false]";
+
+/// What an offset counts, or whether it is a place, its flags say; it is told as sent.
+#[test]
+fn the_lens_panel() {
+    let upload = types();
+    let panel = DataTypeIterator::new(&upload).nth(6).unwrap().unwrap();
+    assert_eq!(panel.name(), b"FB_LensPanel");
+    let marks = [
+        AdsTypeFlags::REFERENCE_TO,
+        AdsTypeFlags::BIT_VALUES,
+        AdsTypeFlags::PROP_ITEM,
+        AdsTypeFlags::STATIC,
+    ];
+    assert_eq!(marks.map(AdsTypeFlags::as_raw), [0x4, 0x20, 0x40, 0x20000]);
+    let mut slots = [0; MEMBER_SLOTS * 9];
+    let lines = panel.members(&mut slots).unwrap().map(|member| {
+        let record = member.read().unwrap();
+        format!(
+            "{} {} {} {:?}",
+            member.offset_from_start(),
+            record.size(),
+            String::from_utf8_lossy(record.name()),
+            marks.map(|mark| record.flags().contains(mark)),
+        )
+    });
+    assert!(lines.eq(LENS_PANEL.lines()));
 }
 
 /// Every byte of the sample made 0, 1, 255 and one more, its lengths and counts too.
@@ -1035,7 +1075,7 @@ fn the_walk_over_the_sample() {
         .with_starts()
         .map(|(start, item)| (start, item.unwrap()))
         .collect();
-    assert_eq!(names.len(), 6);
+    assert_eq!(names.len(), 7);
     for (start, item) in names {
         assert_eq!(place(&upload, item.name()), start + 42);
     }

@@ -78,7 +78,7 @@ fn rust_functions(source: &str) -> BTreeMap<String, Vec<String>> {
 }
 
 fn number(text: &str) -> u64 {
-    let text = text.trim_end_matches('u');
+    let text = text.trim_end_matches('u').replace('_', "");
     match text.strip_prefix("0x") {
         Some(digits) => u64::from_str_radix(digits, 16).unwrap(),
         None => text.parse().unwrap(),
@@ -129,6 +129,36 @@ fn the_constants_are_those_of_the_header() {
     let c = c_constants(&source, &c_words(&source));
     assert!(!c.is_empty());
     assert_eq!(rust_constants(&file("src/sys.rs")), c);
+}
+
+/// The flags that have a constant, by their names in the proved crate.
+#[test]
+fn the_flags_are_those_of_the_proved_crate() {
+    let constants = rust_constants(&file("src/sys.rs"));
+    let words = [
+        ("SYMBOL_FLAG_", "symbol_flags", "impl AdsSymbolFlags: u16 {"),
+        (
+            "SYMBOL2_FLAG_",
+            "symbol_flags",
+            "impl AdsSymbol2Flags: u32 {",
+        ),
+        ("TYPE_FLAG_", "type_flags", "impl AdsTypeFlags: u32 {"),
+    ];
+    let mut held = 0;
+    for (prefix, module, word) in words {
+        let source = file(&format!("../../crates/flags/src/{module}.rt"));
+        let (_, flags) = source.split_once(word).unwrap();
+        let (flags, _) = flags.split_once("\n    }").unwrap();
+        for (name, value) in &constants {
+            if let Some(flag) = name.strip_prefix(prefix) {
+                let (_, bits) = flags.split_once(&format!("const {flag} = ")).unwrap();
+                let (bits, _) = bits.split_once(';').unwrap();
+                assert_eq!(number(bits), *value, "{name}");
+                held += 1;
+            }
+        }
+    }
+    assert_eq!(held, 12);
 }
 
 /// The header's number, the name that the linker asks for and the archive's own answer are of one interface.

@@ -21,7 +21,8 @@ fn answer<W: Write>(case: &Case, spare: &mut [u8], out: &mut W) -> io::Result<()
     match case.kind {
         b'f' => records::flags(case.bytes(0), out),
         b'a' => records::attribute(case.bytes(0), out),
-        b'r' | b'z' => records::refactor(case.bytes(0), out),
+        b'r' => records::refactor(case.bytes(0), out),
+        b'z' => records::refactor_size(case.bytes(0), out),
         b'c' => records::chain(case.bytes(0), out),
         b's' => symbols::direct(case.bytes(0), out),
         b'i' => fields::direct(case.bytes(0), out),

@@ -177,8 +177,20 @@ pub fn refactor_infos<W: Write>(all: RefactorInfos<'_>, out: &mut W) -> io::Resu
     Ok(())
 }
 
-/// A record by itself takes as many bytes as it is written with.
+/// A record at the start of some bytes, with how many of them it takes.
 pub fn refactor<W: Write>(bytes: &[u8], out: &mut W) -> io::Result<()> {
+    match refactor::first(bytes) {
+        Ok((r, rest)) => {
+            let taken = bytes.len().saturating_sub(rest.len());
+            write!(out, " ok {taken}")?;
+            record(&r, out)
+        }
+        Err(why) => refused(why, out),
+    }
+}
+
+/// The same, with how many bytes it is written with.
+pub fn refactor_size<W: Write>(bytes: &[u8], out: &mut W) -> io::Result<()> {
     match AdsRefactorInfo::parse(bytes, Mode::Present) {
         Ok(r) => {
             size(r.wire_size(), out)?;
