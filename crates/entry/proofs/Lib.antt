@@ -3,3 +3,4 @@ pub mod Claims
 pub mod Direct
 pub mod Bounded
 pub mod Theorems
+pub mod Alike

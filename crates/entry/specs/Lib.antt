@@ -2,3 +2,4 @@ pub mod Entry
 pub mod Walk
 pub mod Bounded
 pub mod Theorems
+pub mod Alike
