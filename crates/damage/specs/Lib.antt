@@ -1,0 +1,4 @@
+pub mod Others
+pub mod Stays
+pub mod Salvaged
+pub mod Theorems
