@@ -1,3 +1,4 @@
 pub mod Lists
 pub mod Stays
 pub mod Theorems
+pub mod ShutsOut

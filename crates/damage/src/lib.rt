@@ -7,6 +7,7 @@ ghost use Rattle.refusal.specs.declared.Mode.{Mode};
 ghost use Rattle.walk.specs.Mapped.{map_ok};
 ghost use Rattle.damage.specs.Salvaged.{SalvageWrites};
 ghost use Rattle.damage.specs.Theorems.{StaysInPlace, StaysAnywhere};
+ghost use Rattle.damage.specs.ShutsOut.{DamageShutsOut};
 
 use walk::Entry;
 
@@ -38,4 +39,9 @@ pub fn stays_in_place<'a, E: Entry<'a>>()
 /// Wherever the two uploads lie, all that is told of other entries is the same.
 pub fn stays_anywhere<'a, K: Telling<'a>>()
     ensures { (mode : Mode) → StaysAnywhere K.Record.HEADER (K.Record.read mode) K.Record.length_of K.told }
+{}
+
+/// A walk that ends at a refused entry, a step that looks past its entry, and a salvage that drops what follows upon what it drops, are not what these theorems allow.
+pub fn damage_shuts_out()
+    ensures { DamageShutsOut }
 {}

@@ -9,6 +9,7 @@ ghost use Rattle.symbol.proofs.Anywhere.{symbols_anywhere};
 ghost use Rattle.symbol_find.specs.Find.{find, find_indexed};
 ghost use Rattle.symbols_damaged.specs.Finding.{FindingStays};
 ghost use Rattle.symbols_damaged.specs.Listed.{rows_of, ListingStays, ListedByRows};
+ghost use Rattle.symbols_damaged.specs.ShutsOut.{SymbolsShutOut};
 
 use damage::Telling;
 use symbol::AdsSymbolInfo;
@@ -55,4 +56,9 @@ pub fn listing_stays()
 /// What is listed of a line that spells an upload is these rows, and no other line's text depends on them.
 pub fn listed_by_rows()
     ensures { ListedByRows }
+{}
+
+/// Finding that ends at a refused entry, and a listing whose line number is told by entry, are not what these theorems allow.
+pub fn symbols_shut_out()
+    ensures { SymbolsShutOut }
 {}
