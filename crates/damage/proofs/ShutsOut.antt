@@ -1,9 +1,9 @@
 -- Wrong versions are shut out: by two entries of five bytes, of which one becomes another.
-use Rattle.std.proofs.Common.{ℕ, zero, suc, ◌+◌, ◌<◌, ◌≤◌, ◌≡◌, inl, inr, refl, sym, ap, subst, ◌∙◌, Bool, true, false, List, [], ◌∷◌, length, get_or, set, take, drop, arith, Bor, Option, Some, None, Result, Ok, Err}
+use Rattle.std.proofs.Common.{ℕ, ◌≡◌, inl, inr, refl, sym, ap, subst, Bool, true, false, List, [], ◌∷◌, length, get_or, set, arith, Option, Some, None, Result, Ok, Err}
 use Rattle.std.specs.Prelude.{eqb}
 use borrow.Author.Tests.{eqb-true, eqb-false}
 use lib.Seq.{get_or-set_other}
-use Rattle.le.specs.Le.{le4, part}
+use Rattle.le.specs.Le.{le4}
 use Rattle.refusal.specs.declared.Refusal.{Refusal}
 use Rattle.entry.specs.Entry.{claim_at}
 use Rattle.entry.specs.Walk.{steps, steps_from}
@@ -13,7 +13,6 @@ use Rattle.entry.specs.Alike.{among, IsWhole, DiffersInside}
 use Rattle.walk.specs.declared.Stepped.{Stepped}
 use Rattle.walk.specs.Step.{step_at}
 use Rattle.walk.specs.Pieces.{piece_at, pieces_from}
-use Rattle.damage.specs.Salvaged.{Kept}
 use Rattle.damage.specs.ShutsOut.{marked, DamageShutsOut}
 
 abbrev good : List ℕ

@@ -1,5 +1,5 @@
 -- docs/FORMAT.md, "One bad entry". Wrong versions of a walk, of a step and of a salvage, which what stays shuts out.
-use Rattle.std.specs.Prelude.{ℕ, ◌+◌, Bool, true, false, List, [], ◌∷◌, Option, Some, None, Result, Ok, Err, is_err, eqb, get_or, length, option_map, if◌then◌else◌}
+use Rattle.std.specs.Prelude.{ℕ, ◌+◌, Bool, false, List, [], ◌∷◌, Option, Some, None, Result, Ok, Err, is_err, eqb, get_or, length, option_map, if◌then◌else◌}
 use Rattle.std.specs.List.{cons_option}
 use Rattle.std.specs.Borrow.{Bor}
 use Rattle.part.specs.Slice.{part}
