@@ -1,6 +1,7 @@
 -- Wrong versions are shut out: by two symbols, of which the first has no name, and in the other version an end byte that is not 0.
-use Rattle.std.proofs.Common.{ℕ, ◌+◌, ◌-◌, ◌<◌, ◌≤◌, ◌≡◌, inl, inr, refl, sym, ap, subst, ◌∙◌, Bool, true, false, List, [], ◌∷◌, ◌++◌, length, get_or, set, take, drop, replicate, arith, Bor, Option, Some, None, Result, Ok, Err}
-use Rattle.std.specs.Prelude.{eqb, codes}
+use Rattle.std.proofs.Common.{ℕ, ◌+◌, ◌-◌, ◌<◌, ◌≤◌, ◌≡◌, inl, inr, refl, sym, ap, subst, ◌∙◌, Bool, true, false, List, [], ◌∷◌, length, get_or, set, drop, arith, Bor, Some, Result, Ok, Err}
+use Rattle.std.specs.Prelude.{eqb}
+use Rattle.std.proofs.lemmas.Fmt.{decimal_digit}
 use native.Mathlib.Nat.{add-zero}
 use borrow.Author.Tests.{eqb-true, eqb-false, lt-leb, le-ltb}
 use lib.Seq.{get_or-set_other}
@@ -22,13 +23,13 @@ use Rattle.entry.specs.Walk.{steps, steps_from}
 use Rattle.entry.specs.Alike.{among, IsWhole, DiffersInside}
 use Rattle.entry.proofs.Alike.{among_cases}
 use Rattle.entry.proofs.Direct.{part_all, part_long, room_of}
-use Rattle.walk.specs.Step.{parse_of, step_at}
+use Rattle.walk.specs.Step.{step_at}
 use Rattle.walk.specs.Pieces.{piece_at, pieces_from}
 use Rattle.symbol.specs.declared.AdsSymbolInfo.{AdsSymbolInfo}
 use Rattle.symbol.specs.Symbol.{guid_of, attributes_of, extended_of, refactor_infos_of, with_strings, symbol_ended, ended_symbol, symbol_of}
 use Rattle.symbol.specs.Kind as kind
 use Rattle.attribute.specs.Attribute.{ends}
-use Rattle.symbol_find.specs.Find.{has_name, is_named}
+use Rattle.symbol_find.specs.Find.{is_named}
 use Rattle.symbol_find.specs.Meaning.{HasName}
 use Rattle.listing.specs.Row.{entry_row}
 use Rattle.listing.specs.Listing.{row}
@@ -57,8 +58,8 @@ module _ (mode : Mode) (s : Bor (List ℕ)) (name : List ℕ) (at : ℕ) (small 
         lt-leb (length s.now) at (omega arith),
         le-ltb limit (length s.now) small,
         le-ltb (length s.now - at) 4 (omega arith),
-        le-ltb (length s.now - at) (le4 s.now at) (omega (arith, e)),
         e,
+        le-ltb (length s.now - at) n (omega arith),
       )
 
   given : (n : ℕ) (symbol : AdsSymbolInfo) → symbol.length ≡ n → (c : Result ℕ Refusal) → claim_of 30 (part s at n).now ≡ c → and_then c (λ size. symbol_of mode (part (part s at n) 0 size)) ≡ Ok symbol
@@ -68,7 +69,7 @@ module _ (mode : Mode) (s : Bor (List ℕ)) (name : List ℕ) (at : ℕ) (small 
   given n symbol l (Ok size) e h =
       let own : Bor (List ℕ) = part s at n in
       let fits : size ≤ length own.now = room_of 30 own.now size e in
-      let a : length (part own 0 size).now ≡ size = part_long own 0 size fits in
+      let a : length (part own 0 size).now ≡ size = part_long own 0 size (omega (arith, fits)) in
       let is : size ≡ n = sym a ∙ sym (kind.long mode (part own 0 size) symbol h) ∙ l in
       let c = claimed_is own.now size e in
       let k : 30 ≤ n = omega (arith, c.1, is) in
@@ -125,7 +126,7 @@ unfolding le2 le4 claim_at step_at fold folded same_name equal_bytes guid_of att
 bad_not = refl
 
 none_has : (s : List ℕ) → length s ≤ limit → is_named Checked (lying s) (65 ∷ []) 0 ≡ false → (p : ℕ) → among (0 ∷ []) p ≡ true → HasName Checked (lying s) (65 ∷ []) p → ⊥
-none_has s small no p q h = not-both (named_of Checked (lying s) (65 ∷ []) 0 small (subst (HasName Checked (lying s) (65 ∷ [])) (one_of 0 p q) h)) no
+none_has s small other p q h = not-both (named_of Checked (lying s) (65 ∷ []) 0 small (subst (HasName Checked (lying s) (65 ∷ [])) (one_of 0 p q) h)) other
 
 found_or : Result ℕ Refusal → ℕ
 found_or (Ok at) = at
@@ -146,11 +147,11 @@ first_character (r ∷ more) = get_or r.text 0 0
 
 good_number : first_character (others (λ r. r.start) (0 ∷ []) (by_entry Checked 1 good)) ≡ 50
 unfolding le2 le4 claim_at piece_at pieces_from guid_of attributes_of extended_of refactor_infos_of with_strings symbol_ended ends ended ended_symbol symbol_of row entry_row first_character
-good_number = refl
+good_number = rw (decimal_digit 2 (omega arith)) refl
 
 bad_number : first_character (others (λ r. r.start) (0 ∷ []) (by_entry Checked 1 bad)) ≡ 49
 unfolding le2 le4 claim_at piece_at pieces_from guid_of attributes_of extended_of refactor_infos_of with_strings symbol_ended ends ended ended_symbol symbol_of row entry_row first_character
-bad_number = refl
+bad_number = rw (decimal_digit 1 (omega arith)) refl
 
 pub symbols_shut_out : SymbolsShutOut
 symbols_shut_out = record {
