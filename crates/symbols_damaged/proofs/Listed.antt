@@ -15,11 +15,7 @@ use Rattle.damage.proofs.Theorems.{stays_in_place_of}
 use Rattle.listing.specs.Listing.{row, rows, ok_of, lying, longest, line_text, header, lines_text, listing}
 use Rattle.entry.specs.Alike.{among}
 use Rattle.damage.specs.Others.{others}
-use Rattle.symbols_damaged.specs.Listed.{Row, rows_of, ListingStays, ListedByRows}
-
--- a row by its piece
-abbrev row_of : ℕ → Piece AdsSymbolInfo → Row
-row_of line p = record { start = p.start; text = row line p }
+use Rattle.symbols_damaged.specs.Listed.{row_of, rows_of, ListingStays, ListedByRows}
 
 map-starts : (line : ℕ) (ps : List (Piece AdsSymbolInfo)) → map (λ r. r.start) (map (row_of line) ps) ≡ map (λ p. p.start) ps
 map-starts line [] = refl

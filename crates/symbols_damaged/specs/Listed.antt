@@ -3,7 +3,9 @@ use Rattle.std.specs.Prelude.{ℕ, ◌+◌, ◌≤◌, ◌≡◌, List, ◌∷�
 use Rattle.refusal.specs.declared.Mode.{Mode}
 use Rattle.entry.specs.Alike.{DiffersInside}
 use Rattle.hex.specs.Hex.{decode_of}
+use Rattle.walk.specs.declared.Piece.{Piece}
 use Rattle.walk.specs.Pieces.{pieces}
+use Rattle.symbol.specs.declared.AdsSymbolInfo.{AdsSymbolInfo}
 use Rattle.symbol.specs.Symbol.{symbol_of}
 use Rattle.listing.specs.Listing.{row, lying, longest, header, lines, lines_text, listing}
 use Rattle.damage.specs.Others.{others}
@@ -13,9 +15,12 @@ pub record Row : Type 0 where
   pub start : ℕ
   pub text : List ℕ
 
--- the rows of an upload that stands in so manieth a line
+abbrev pub row_of : ℕ → Piece AdsSymbolInfo → Row
+row_of line p = record { start = p.start; text = row line p }
+
+-- those of an upload that stands in the line with this number
 abbrev pub rows_of : Mode → ℕ → List ℕ → List Row
-rows_of mode line s = map (λ p. record { start = p.start; text = row line p }) (pieces (symbol_of mode) (lying s))
+rows_of mode line s = map (row_of line) (pieces (symbol_of mode) (lying s))
 
 -- there are as many, each of the piece at the same place, and all but those of the entries that differ are the same text
 pub record RowsStay (rows : Mode → ℕ → List ℕ → List Row) (mode : Mode) (line : ℕ) (s t places : List ℕ) : Type 0 where

@@ -12,9 +12,9 @@ use Rattle.index.specs.Steps.{gives}
 use Rattle.symbol.specs.declared.AdsSymbolInfo.{AdsSymbolInfo}
 use Rattle.symbol.specs.Symbol.{symbol_of}
 use Rattle.symbol_find.specs.Find.{is_named}
-use Rattle.listing.specs.Listing.{row, lying}
+use Rattle.listing.specs.Listing.{lying}
 use Rattle.symbols_damaged.specs.Finding.{FindingStays}
-use Rattle.symbols_damaged.specs.Listed.{Row, ListingStays}
+use Rattle.symbols_damaged.specs.Listed.{Row, row_of, ListingStays}
 
 -- finding that ends at a refused entry: it looks at the steps before the first that gives no symbol
 abbrev pub ends_at_refused : Mode → Bor (List ℕ) → List ℕ → Result ℕ Refusal
@@ -23,7 +23,7 @@ ends_at_refused mode s name = ok_or (first_of (is_named mode s name) (take_while
 -- a listing whose line number is told by entry: it counts the entries that are accepted
 abbrev pub counted : ℕ → List (Piece AdsSymbolInfo) → List Row
 counted line [] = []
-counted line (p ∷ ps) = record { start = p.start; text = row line p } ∷ counted (if is_ok p.answer then line + 1 else line) ps
+counted line (p ∷ ps) = row_of line p ∷ counted (if is_ok p.answer then line + 1 else line) ps
 
 abbrev pub by_entry : Mode → ℕ → List ℕ → List Row
 by_entry mode line s = counted line (pieces (symbol_of mode) (lying s))
