@@ -5,3 +5,4 @@ pub mod Direct
 pub mod Bounded
 pub mod Theorems
 pub mod BoundedMeant
+pub mod Alike

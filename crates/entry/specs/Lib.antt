@@ -5,3 +5,4 @@ pub mod Walk
 pub mod Bounded
 pub mod BoundedMeant
 pub mod Theorems
+pub mod Alike

@@ -8,6 +8,7 @@ ghost use Rattle.entry.specs.DirectClaims.{DirectClaims};
 ghost use Rattle.entry.specs.Bounded.{bounded_walk};
 ghost use Rattle.entry.specs.BoundedMeant.{BoundedMeant};
 ghost use Rattle.entry.specs.Theorems.{AllSteps, StepsEnough, ZeroClaims};
+ghost use Rattle.entry.specs.Alike.{WalkedAlike};
 
 use refusal::{LIMIT, Refusal};
 
@@ -166,4 +167,9 @@ pub fn steps_enough()
 /// Where a step would stay, before the end, an entry claims no bytes.
 pub fn zero_claims()
     ensures { ZeroClaims }
+{}
+
+/// Two uploads of one length that differ only inside some whole entries, behind their first four bytes, are walked alike: the same places, the same claims, and all other entries' bytes the same.
+pub fn walked_alike()
+    ensures { WalkedAlike }
 {}

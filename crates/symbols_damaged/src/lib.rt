@@ -1,0 +1,64 @@
+//! One bad symbol stays one bad symbol: what is read, salvaged, indexed, found and listed of the others. Nothing to run, but its theorems. docs/FORMAT.md, "One bad entry".
+#![tactic(auto)]
+
+ghost use Rattle.refusal.specs.declared.Mode.{Mode};
+ghost use Rattle.damage.specs.Theorems.{StaysInPlace, StaysAnywhere};
+ghost use Rattle.symbol.specs.Symbol.{symbol_of};
+ghost use Rattle.symbol.specs.Told.{Told, told_of};
+ghost use Rattle.symbol.proofs.Anywhere.{symbols_anywhere};
+ghost use Rattle.symbol_find.specs.Find.{find, find_indexed};
+ghost use Rattle.symbols_damaged.specs.Finding.{FindingStays};
+ghost use Rattle.symbols_damaged.specs.Listed.{rows_of, ListingStays, ListedByRows};
+ghost use Rattle.symbols_damaged.specs.ShutsOut.{SymbolsShutOut};
+
+use damage::Telling;
+use symbol::AdsSymbolInfo;
+
+/// Symbols, with what they tell.
+pub struct TellingSymbols;
+
+impl<'a> Telling<'a> for TellingSymbols {
+    type Record = AdsSymbolInfo<'a>;
+
+    ghost Told = { Told };
+
+    ghost told = { told_of };
+
+    ghost alike = { symbols_anywhere };
+}
+
+// The theorems. Each is the contract of a function that does nothing, so that none goes unnoticed if its proof does.
+
+/// Where the two uploads lie in the same place in memory, all that is given of other symbols is the same.
+pub fn symbols_in_place()
+    ensures { (mode : Mode) → StaysInPlace 30 (symbol_of mode) }
+{
+    damage::stays_in_place::<AdsSymbolInfo>()
+}
+
+/// Wherever the two uploads lie, all that is told of other symbols is the same.
+pub fn symbols_anywhere()
+    ensures { (mode : Mode) → StaysAnywhere 30 (symbol_of mode) (λ r. r.length) told_of }
+{
+    damage::stays_anywhere::<TellingSymbols>()
+}
+
+/// A name that no damaged entry has is found or refused alike, without an index, through each upload's own, and through that of the other.
+pub fn finding_stays()
+    ensures { FindingStays find find_indexed }
+{}
+
+/// A listing has as many rows, and all but those of damaged entries are the same text.
+pub fn listing_stays()
+    ensures { ListingStays rows_of }
+{}
+
+/// What is listed of a line that spells an upload is these rows, and no other line's text depends on them.
+pub fn listed_by_rows()
+    ensures { ListedByRows }
+{}
+
+/// Finding that ends at a refused entry, and a listing whose line number is told by entry, are not what these theorems allow.
+pub fn symbols_shut_out()
+    ensures { SymbolsShutOut }
+{}
