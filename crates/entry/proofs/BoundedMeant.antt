@@ -1,11 +1,7 @@
 -- What the bounded walk means: proved.
-use Rattle.std.proofs.Common.{ℕ, zero, suc, ◌<◌, ◌≤◌, ◌≡◌, refl, sym, subst, Bool, true, false, List, [], ◌∷◌, length, arith, Result, if◌then◌else◌}
-use Rattle.std.specs.Prelude.{leb, Ok, Err}
+use Rattle.std.proofs.Common.{ℕ, zero, suc, ◌<◌, ◌≡◌, refl, Bool, true, false, List, [], ◌∷◌, length, arith, if◌then◌else◌}
+use Rattle.std.specs.Prelude.{leb}
 use borrow.Author.Tests.{leb-true, leb-false, eqb-true, eqb-false}
-use Rattle.refusal.specs.declared.Refusal.{Refusal}
-use Rattle.refusal.specs.declared.Refusal.TheVariants.{ZeroEntryLength}
-use Rattle.entry.specs.declared.WalkEnd.{WalkEnd}
-use Rattle.entry.specs.declared.WalkEnd.TheVariants.{Finished, OutOfSteps}
 use Rattle.entry.specs.Entry.{claim_at}
 use Rattle.entry.specs.Walk.{stands, steps_from, cursor_after}
 use Rattle.entry.specs.Bounded.{end_after, bounded_walk}

@@ -1,5 +1,5 @@
 -- What is claimed for an entry that is read directly: the five answers, proved.
-use Rattle.std.proofs.Common.{ℕ, ◌<◌, ◌≤◌, ◌≡◌, refl, Bool, true, false, List, length}
+use Rattle.std.proofs.Common.{◌≡◌, refl, Bool, true, false, length}
 use Rattle.std.specs.Prelude.{ltb}
 use borrow.Author.Tests.{ltb-true, ltb-false}
 use Rattle.le.specs.Le.{le4}

@@ -1,4 +1,4 @@
--- For a kind of entry: fit records written one after another, each entry grown by any bytes at its end, come back from the walk.
+-- docs/FORMAT.md, "Fit records". For a kind of entry: fit records written one after another, each entry grown by any bytes at its end, come back from the walk.
 use Rattle.std.specs.Prelude.{ℕ, suc, ◌+◌, ◌-◌, ◌≤◌, ◌≡◌, List, [], ◌∷◌, ◌++◌, map, ltb, leb, eqb, length, take, drop, if◌then◌else◌}
 use Rattle.std.specs.Borrow.{Bor}
 use Rattle.le.specs.Le.{bytes4}

@@ -1,4 +1,4 @@
--- The useless versions of a walk's step that records which come back shut out.
+-- docs/FORMAT.md, "Fit records". The useless versions of a walk's step that records which come back shut out.
 use Rattle.std.specs.Prelude.{ℕ, ◌≡◌, Bool, true, false, List}
 use Rattle.std.specs.Borrow.{Bor}
 use Rattle.regrown.specs.Regrown.{Tells, Entry, Refused, End, Grown, ComeBack}

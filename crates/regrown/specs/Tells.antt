@@ -1,4 +1,4 @@
--- What a step tells, by what a record tells.
+-- docs/FORMAT.md, "Fit records". What a step tells, by what a record tells.
 use Rattle.std.specs.Prelude.{ℕ, ◌≡◌, List, Option, Some, None, Result, Ok, Err}
 use Rattle.std.specs.Borrow.{Bor}
 use Rattle.refusal.specs.Refusal.{figures_of}

@@ -1,4 +1,4 @@
--- What room for an index means, in both modes.
+-- docs/FORMAT.md, "Room". What room for an index means, in both modes.
 use Rattle.std.specs.Prelude.{ℕ, ◌+◌, ◌/◌, ◌<◌, ◌≤◌, ◌≡◌, true, false, List, Some, Result, Ok, Err, ltb, leb, length, filter, if◌then◌else◌}
 use Rattle.std.specs.List.{list_any}
 use Rattle.std.specs.Borrow.{Bor}

@@ -7,7 +7,7 @@ use Rattle.std.proofs.lemmas.List.Elements.{All-nil, All-cons, All-head}
 use borrow.Author.Tests.{leb-false}
 use Rattle.le.specs.Le.{part}
 use Rattle.le.specs.Put.{put, Wrote}
-use Rattle.le.proofs.Laws.{put_then, put-none, length_part}
+use Rattle.le.proofs.Laws.{put_then, put-none, length_part, same_bytes}
 use Rattle.refusal.specs.Refusal.{figures_of}
 use Rattle.refusal.specs.declared.Refusal.{Refusal}
 use Rattle.walk.specs.declared.Piece.{Piece}
@@ -101,6 +101,10 @@ module _ {R : Type 0} (s : List ℕ) {left rest : List (Piece R)} {p : Piece R} 
   pub dropped_err : (why : Refusal) → p.answer ≡ Err why → dropped left ≡ (p.start ∷ (p.end - p.start) ∷ (figures_of why).number ∷ []) ++ dropped rest
   unfolding dropped
   dropped_err why e = simp turn (simp e)
+
+-- a run is written under the number of its refusal
+pub run_numbered : {old new : List ℕ} {at start long number told next : ℕ} → told ≡ number → Wrote old at (start ∷ long ∷ told ∷ []) new next → Wrote old at (start ∷ long ∷ number ∷ []) new next
+run_numbered {start = start} {long = long} e w = same_bytes (ap (λ (n : ℕ). start ∷ long ∷ n ∷ []) e) w
 
 pub kept_none : {R : Type 0} (s : List ℕ) {left : List (Piece R)} → left ≡ [] → kept s left ≡ []
 unfolding kept

@@ -1,4 +1,4 @@
--- The pieces of an upload cover it exactly: what is kept of it and the runs that are dropped, one after another, are the upload.
+-- docs/FORMAT.md, "Salvage". The pieces of an upload cover it exactly: what is kept of it and the runs that are dropped, one after another, are the upload.
 use Rattle.std.specs.Prelude.{◌-◌, ◌≡◌, ℕ, List, [], ◌∷◌, ◌++◌}
 use Rattle.std.specs.Prelude.{Result}
 use Rattle.std.specs.Borrow.{Bor}

@@ -1,6 +1,6 @@
 -- What finding means: proved.
 use Rattle.std.proofs.Common.{ℕ, ◌≤◌, ◌≡◌, refl, sym, ap, ◌∙◌, Bool, true, false, List, [], ◌∷◌, ◌++◌, length, Bor, if◌then◌else◌}
-use Rattle.std.specs.Prelude.{ltb, ◌<◌, ◌||◌, All, filter, take, Option, Some, None, Result, Ok, Err, ok_or}
+use Rattle.std.specs.Prelude.{ltb, ◌||◌, filter, take, Option, Some, None, Result, Ok, Err, ok_or}
 use Rattle.std.specs.List.{find as first_of, list_any}
 use Rattle.std.proofs.lemmas.List.Elements.{All-nil, All-cons, All-head, All-tail}
 use borrow.Author.Tests.{le-ltb, ltb-false, lt-ltb}

@@ -1,5 +1,5 @@
 -- What a direct parse gives: proved.
-use Rattle.std.proofs.Common.{ℕ, ◌≡◌, refl, List, length, Bor, Result}
+use Rattle.std.proofs.Common.{ℕ, List, Bor, Result}
 use Rattle.part.specs.Slice.{part}
 use Rattle.part.specs.Outcome.{and_then}
 use Rattle.refusal.specs.declared.Refusal.{Refusal}

@@ -1,6 +1,6 @@
 -- What a step gives: proved.
-use Rattle.std.proofs.Common.{ℕ, ◌+◌, ◌<◌, ◌≤◌, ◌≡◌, refl, sym, ap, subst, ◌∙◌, Bool, true, false, List, length, arith, Bor, Result}
-use Rattle.std.specs.Prelude.{ltb, Option, Some, Err}
+use Rattle.std.proofs.Common.{ℕ, ◌+◌, ◌<◌, ◌≤◌, ◌≡◌, refl, ap, ◌∙◌, Bool, true, false, List, length, arith, Bor, Result}
+use Rattle.std.specs.Prelude.{ltb, Some, Err}
 use Rattle.std.specs.Option.{option_map}
 use borrow.Author.Tests.{ltb-true, ltb-false}
 use Rattle.le.specs.Le.{le4}
