@@ -49,9 +49,12 @@ pub record IsWritable (n : NewSymbol) : Type 0 where
   pub within : size_of n ≤ limit
 
 -- what a symbol's types say of its blocks
+abbrev pub HoldsBytes : List ℕ → Type 0
+HoldsBytes = All (λ b. b < 256)
+
 pub record AreBytes (n : NewSymbol) : Type 0 where
-  pub attributes : All (λ b. b < 256) n.attributes.bytes.now
-  pub refactor_infos : All (λ b. b < 256) n.refactor_infos.bytes.now
+  pub attributes : HoldsBytes n.attributes.bytes.now
+  pub refactor_infos : HoldsBytes n.refactor_infos.bytes.now
 
 -- these are written, each as so many bytes, and no others are
 pub record IsWritten (n : NewSymbol) : Type 0 where

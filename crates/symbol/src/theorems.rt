@@ -5,7 +5,7 @@ ghost use Rattle.symbol.specs.Modes.{SymbolsModes};
 ghost use Rattle.symbol.specs.Shown.{SymbolsShown, SymbolsNamed};
 ghost use Rattle.symbol.specs.Head.{HeadsRead};
 ghost use Rattle.symbol.specs.Told.{IsTyped, SymbolsAnywhere};
-ghost use Rattle.symbol.specs.Writable.{SymbolsWritten};
+ghost use Rattle.symbol.specs.Writable.{HoldsBytes, SymbolsWritten};
 ghost use Rattle.symbol.specs.Barred.{SymbolsBarred};
 ghost use Rattle.symbol.specs.ReadOn.{SymbolsReadOn};
 ghost use Rattle.symbol.specs.ReadBack.{SymbolsReadBack};
@@ -47,6 +47,11 @@ pub fn symbols_named()
 /// What the theorems ask of the numbers of a symbol that is written, and of its GUID, every `NewSymbol` has.
 pub fn symbols_typed(symbol: NewSymbol<'_>)
     ensures { IsTyped symbol.entry }
+{}
+
+/// And of a block that is written every slice that is lent has: it holds bytes.
+pub fn blocks_typed(block: &[u8])
+    ensures { HoldsBytes block.now }
 {}
 
 /// What a symbol tells is told by its bytes, wherever they lie.
