@@ -61,10 +61,10 @@ unfolding fit grown field_bytes entry_bytes header_bytes numbers_bytes lengths_b
 shut = shuts_out IsFit field_bytes meant cursor_of (tells (λ (r : AdsFieldInfo). r.length) told_of) fit (omega arith)
 
 pub reached : WrittenFieldsFit
-reached p old new count t g w =
+reached p old new count t m g b w =
     let d = done_by (field_written p) old new count w in
     let i = (accepted_is p d.bytes d.given).1 in
-    record { fit = record { typed = t; accepted = d.given ∙ ap Ok i; agrees = g }; bytes = d.first ∙ i }
+    record { fit = record { typed = t; accepted = d.given ∙ ap Ok i; agrees = record { no_methods = m; guid_agrees = g; no_block = λ f. (b f).0; no_count = λ f. (b f).1 } }; bytes = d.first ∙ i }
 
 -- what the first with a name tells is that of the first told one with it
 turn : (a : AdsAttribute) (all : List AdsAttribute) (name : List ℕ) (b : Bool) → pointwise nat_eq a.name.now name ≡ b → map_ok attributes.told_of (named all name) ≡ named_told (attributes.told all) name

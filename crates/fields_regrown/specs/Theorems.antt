@@ -1,7 +1,8 @@
 -- docs/FORMAT.md, "Fit records": the theorems of fields that are written.
-use Rattle.std.specs.Prelude.{ℕ, ◌≤◌, ◌≡◌, List, Result, Ok, ok_or, find, nat_eq, length, take}
+use Rattle.std.specs.Prelude.{ℕ, ◌≤◌, ◌≡◌, false, is_some, List, Result, Ok, ok_or, find, nat_eq, length, take}
 use Rattle.std.specs.Cmp.Lexicographic.{pointwise}
 use Rattle.std.specs.Borrow.{Bor}
+use Rattle.le.specs.Le.{has}
 use Rattle.refusal.specs.Refusal.{limit}
 use Rattle.refusal.specs.declared.Mode.{Mode}
 use Rattle.refusal.specs.declared.Refusal.{Refusal}
@@ -18,7 +19,7 @@ use Rattle.attribute.specs.Told as attributes
 use Rattle.field.specs.declared.AdsFieldInfo.{AdsFieldInfo}
 use Rattle.field.specs.declared.writer.NewField.{NewField}
 use Rattle.field.specs.Field.{field_of}
-use Rattle.field.specs.Told.{told_of, meant, IsTyped, Agrees}
+use Rattle.field.specs.Told.{told_of, meant, IsTyped}
 use Rattle.field.specs.Writing.{field_bytes, field_written}
 use Rattle.fields_regrown.specs.Kind.{IsFit}
 
@@ -30,13 +31,15 @@ FieldsComeBack = (mode : Mode) → ComeBack IsFit field_bytes meant (step_at (fi
 abbrev pub FieldsShutOut : Type 0
 FieldsShutOut = ShutsOut IsFit field_bytes meant cursor_of (tells (λ (r : AdsFieldInfo). r.length) told_of)
 
--- where `to_vec` answers that it wrote so many bytes of a field that agrees with its flags, the field is fit, and these bytes are those that come back
+-- where `to_vec` answers that it wrote so many bytes of a field whose method flag is clear, whose GUID is given exactly if it is flagged, and whose block is empty
+-- and its count 0 unless flagged, the field is fit, and these bytes are those that come back
 pub record IsReached (p : NewField) (count : ℕ) (new : List ℕ) : Type 0 where
   pub fit : IsFit p
   pub bytes : take count new ≡ field_bytes p
 
 abbrev pub WrittenFieldsFit : Type 0
-WrittenFieldsFit = (p : NewField) (old new : List ℕ) (count : ℕ) → IsTyped p → Agrees p → Writes (field_written p) old new (Ok count) → IsReached p count new
+WrittenFieldsFit = (p : NewField) (old new : List ℕ) (count : ℕ) → IsTyped p → has p.flags.0 0x0800 ≡ false → is_some p.guid ≡ has p.flags.0 0x0080
+    → (has p.flags.0 0x1000 ≡ false → (length p.attributes.bytes.now ≡ 0) × (p.attributes.count ≡ 0)) → Writes (field_written p) old new (Ok count) → IsReached p count new
 
 -- nothing that is written is left out of what is meant: two fit fields that mean the same are written as the same bytes
 abbrev pub FieldsFaithful : Type 0

@@ -45,7 +45,8 @@ pub fn fields_shut_out()
     ensures { FieldsShutOut }
 {}
 
-/// Where the field writer answers that it wrote so many bytes of a field that agrees with its flags, the field is fit, and these are the bytes that come back.
+/// Where the field writer answers that it wrote so many bytes of a field that has no methods, a GUID exactly if it is flagged, and attributes only if they are, the
+/// field is fit, and these are the bytes that come back.
 pub fn written_fields_fit()
     ensures { WrittenFieldsFit }
 {}
