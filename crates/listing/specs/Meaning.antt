@@ -8,12 +8,12 @@ use Rattle.walk.specs.Pieces.{pieces}
 use Rattle.symbol.specs.Symbol.{symbol_of}
 use Rattle.listing.specs.Listing.{lying, rows, row, line_text, listing}
 
--- the smallest entry and three bytes behind it; an empty line; an entry with every section, in small letters; and what is no byte, without an LF
+-- the smallest entry and three bytes behind it; an empty line; an entry with attributes, extended flags and a chain, without a type name, in small letters; and what is no byte, without an LF
 abbrev pub four_lines : List ℕ
-four_lines = codes "2500000020400000080000000200000002000000000000000100030000005A00494E540000250000\n\n3e00000020400000080000001000000005000000009007000100030000005a00494e54000002000000000000000000040000000000000000000000000000\n0G"
+four_lines = codes "2500000020400000080000000200000002000000000000000100030000005A00494E540000250000\n\n3b00000020400000080000001000000005000000009007000100000000005a00000002000000000000000000040000000000000000000000000000\n0G"
 
 abbrev pub four_listed : List ℕ
-four_listed = codes "line at len group offset size type flags unread attrs refs name typename high\n1 0 37 16416 8 2 2 0 0 0 0 5A 494E54 0\n1 37 refused 2 41 40\n3 0 62 16416 8 16 5 36864 4 2 1 5A 494E54 7\n4 0 refused 12 0 0\n"
+four_listed = codes "line at len group offset size type flags unread attrs refs name typename high\n1 0 37 16416 8 2 2 0 0 0 0 5A 494E54 0\n1 37 refused 2 41 40\n3 0 59 16416 8 16 5 36864 4 2 1 5A - 7\n4 0 refused 12 0 0\n"
 
 -- the lines in letters; 16,384 bytes, in twice as many digits, are read, and a digit more is bad
 pub record ListingMeant : Type 0 where

@@ -1,4 +1,4 @@
--- What one promise of a call allows is one: status, answer and buffers.
+-- docs/FORMAT.md, "Refusals", and bindings/c/vindaskot.h, "How a call answers": what one promise of a call allows is one, status, answer and buffers.
 use Rattle.std.specs.Prelude.{ℕ, ◌≡◌, List, Result}
 use Rattle.refusal.specs.declared.Figures.{Figures}
 use Rattle.refusal.specs.declared.Refusal.{Refusal}

@@ -1,4 +1,4 @@
--- An entry whose places fit its length, as those of an accepted one do.
+-- docs/FORMAT.md, "Symbol entries" and "Field entries": an entry whose places fit its length, as those of an accepted one do.
 use Rattle.std.specs.Prelude.{◌+◌, ◌≤◌, length}
 use Rattle.symbol.specs.declared.AdsSymbolInfo.{AdsSymbolInfo}
 use Rattle.field.specs.declared.AdsFieldInfo.{AdsFieldInfo}

@@ -1,4 +1,4 @@
--- What the slots of a record hold, in order, and what lent slots and GUID bytes hold after a call: as they were unless there is a record.
+-- docs/FORMAT.md, "Symbol entries", "Field entries", "Attributes" and "Refactor records": what the slots of a record hold, in order, and what lent slots and GUID bytes hold after a call: as they were unless there is a record.
 use Rattle.std.specs.Prelude.{ℕ, ◌+◌, ◌-◌, Bool, cond, List, [], ◌∷◌, length, Option, Some, None, Result, Ok, Err, is_some}
 use Rattle.refusal.specs.declared.Refusal.{Refusal}
 use Rattle.symbol.specs.declared.AdsSymbolInfo.{AdsSymbolInfo}

@@ -1,4 +1,4 @@
--- What can be asked of the data type at the start of some bytes: an array record and a member by number, counted from 0. The reading refusals, then 14.
+-- docs/FORMAT.md, "Data type entries": what can be asked of the data type at the start of some bytes: an array record and a member by number, counted from 0. The reading refusals, then 14.
 use Rattle.std.specs.Prelude.{ℕ, List, Result, Ok}
 use Rattle.std.specs.Borrow.{Bor}
 use Rattle.part.specs.Outcome.{and_then}

@@ -1,4 +1,4 @@
--- What the slots of a data type hold, in order, and those of an array record and of a member's path.
+-- docs/FORMAT.md, "Data type entries": what the slots of a data type hold, in order, and those of an array record and of a member's path.
 use Rattle.std.specs.Prelude.{ℕ, ◌+◌, List, [], ◌∷◌, ◌++◌, length}
 use Rattle.data_type.specs.declared.AdsDataTypeInfo.{AdsDataTypeInfo}
 use Rattle.data_type.specs.declared.array.AdsArrayInfo.{AdsArrayInfo}

@@ -1,4 +1,4 @@
--- What the writers' calls make of what is lent: a GUID from bytes, and what is to be written from numbers and bytes.
+-- docs/FORMAT.md, "Writing": what the writers' calls make of what is lent: a GUID from bytes, and what is to be written from numbers and bytes.
 use Rattle.std.specs.Prelude.{ℕ, List, Option, Some, None, Result, Ok, Err, eqb, length, take, if◌then◌else◌}
 use Rattle.std.specs.Borrow.{Bor}
 use Rattle.refusal.specs.declared.Refusal.{Refusal}

@@ -1,5 +1,5 @@
-use Rattle.std.proofs.Common.{List, ℕ, ◌-◌, ◌++◌, length, take, sym, ap, subst, ◌∙◌, arith}
-use Rattle.listing.specs.Listing.{Reading}
+use Rattle.std.proofs.Common.{List, ℕ, ◌+◌, ◌-◌, ◌++◌, length, take, sym, ap, subst, ◌∙◌, arith}
+use Rattle.listing.specs.Listing.{longest, Reading}
 use Rattle.listing.proofs.Lines.{holds, turns, on_ok, on_err, front_so_far, front_of_line, part_front, part_after, less_after}
 use Rattle.listing.proofs.Line.take.Goals as goal
 
@@ -23,7 +23,7 @@ loop-end-preserved g c = (
       (turns read c.loop-end.rest.now c.in-Some.end c.hold.new.self c.end.new.self (g.W.Write.contents c.end.new.output) (c.loop-end.invariant.2 read before r)
       c.in-Some.ensures.0.high c.in-Some.ensures.0.before c.in-Some.ensures.1 c.hold.ensures.number
       (c.in_ok-hold.ensures.digits
-      ∙ ap (λ (x : List ℕ). c.loop-end.self.digits.items ++ take (32769 - length c.loop-end.self.digits.items) x) (c.part_of.ensures.result_value ∙ part_front c.loop-end.rest.now c.in-Some.end))
+      ∙ ap (λ (x : List ℕ). c.loop-end.self.digits.items ++ take (longest + 1 - length c.loop-end.self.digits.items) x) (c.part_of.ensures.result_value ∙ part_front c.loop-end.rest.now c.in-Some.end))
       c.in_ok-end.ensures.all c.in_ok-end.ensures.number c.in_ok-end.ensures.digits),
 )
 
@@ -43,7 +43,7 @@ returns-in_err-end-clause-front g c =
     front_of_line read c.loop-end.rest.now more c.in-Some.end c.hold.new.self (g.W.Write.contents c.end.new.output) (c.loop-end.invariant.2 read before r)
     c.in-Some.ensures.0.high c.in-Some.ensures.0.before c.in-Some.ensures.1 c.hold.ensures.number
     (c.in_ok-hold.ensures.digits
-    ∙ ap (λ (x : List ℕ). c.loop-end.self.digits.items ++ take (32769 - length c.loop-end.self.digits.items) x) (c.part_of.ensures.result_value ∙ part_front c.loop-end.rest.now c.in-Some.end))
+    ∙ ap (λ (x : List ℕ). c.loop-end.self.digits.items ++ take (longest + 1 - length c.loop-end.self.digits.items) x) (c.part_of.ensures.result_value ∙ part_front c.loop-end.rest.now c.in-Some.end))
     c.in_err-end.ensures.front)
 
 pub returns-clause-front : goal.returns-clause-front
