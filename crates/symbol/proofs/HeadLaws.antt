@@ -1,11 +1,8 @@
 -- A head is read exactly where its symbol is.
-use Rattle.std.proofs.Common.{ℕ, ◌≡◌, ap, sym, ◌∙◌, List, Ok, Err, Bor}
-use Rattle.refusal.specs.declared.Mode.{Mode}
-use Rattle.refusal.specs.declared.Refusal.{Refusal}
+use Rattle.std.proofs.Common.{ap, sym, ◌∙◌, Ok}
 use Rattle.walk.specs.Mapped.{map_ok}
 use Rattle.symbol.specs.declared.AdsSymbolInfo.{AdsSymbolInfo}
-use Rattle.symbol.specs.declared.SymbolHead.{SymbolHead}
-use Rattle.symbol.specs.Symbol.{with_strings, symbol_of}
+use Rattle.symbol.specs.Symbol.{with_strings}
 use Rattle.symbol.specs.Head.{head, head_of, HeadsRead}
 use Rattle.symbol.proofs.Laws.{accepted_is}
 
