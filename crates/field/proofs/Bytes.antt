@@ -1,8 +1,7 @@
 -- The bytes of a field that is written: proved.
 use Rattle.std.proofs.Common.{ℕ, ◌+◌, ◌<◌, ◌≡◌, refl, sym, ap, ◌∙◌, subst, Bool, true, false, List, [], ◌∷◌, ◌++◌, length, drop, arith, append_assoc, append-nil}
-use Rattle.std.specs.Prelude.{Option, Some, None, replicate, if◌then◌else◌}
-use Rattle.le.specs.Le.{le4, bytes2}
-use Rattle.refusal.specs.Refusal.{limit}
+use Rattle.std.specs.Prelude.{Option, Some, None, if◌then◌else◌}
+use Rattle.le.specs.Le.{le4}
 use Rattle.writing.specs.Layout.{lengths_bytes, strings_bytes, attributes_bytes, entry_bytes}
 use Rattle.writing.proofs.Entry.{length_entry}
 use Rattle.field.specs.declared.writer.NewField.{NewField}

@@ -1,9 +1,8 @@
 -- A field in the two modes: proved.
 use Rattle.std.proofs.Common.{ℕ, zero, suc, ◌+◌, ◌-◌, ◌≤◌, ◌≡◌, refl, sym, ap, ap₂, ◌∙◌, Bool, true, false, List, [], ◌∷◌, ◌++◌, map, length, get_or, min, Ok, Err, Result, arith, Bor}
 use Rattle.std.specs.Prelude.{eqb, leb, ltb, if◌then◌else◌}
-use Rattle.std.specs.List.{All}
-use borrow.Author.Tests.{le-ltb, ltb-false, ltb-true, leb-true}
-use Rattle.std.proofs.lemmas.List.{get_or-drop, map-append}
+use borrow.Author.Tests.{ltb-false, leb-true}
+use Rattle.std.proofs.lemmas.List.{get_or-drop}
 use Rattle.le.specs.Le.{le2, le4, has}
 use Rattle.part.specs.Slice.{part, after}
 use Rattle.part.specs.Outcome.{and_then}
@@ -11,22 +10,21 @@ use Rattle.refusal.specs.EndBytes.{ended, in_mode}
 use Rattle.refusal.specs.declared.Mode.{Mode}
 use Rattle.refusal.specs.declared.Mode.TheVariants.{Present, Checked}
 use Rattle.refusal.specs.declared.Refusal.{Refusal}
-use Rattle.refusal.specs.declared.Refusal.TheVariants.{TooShort, EntryLengthMismatch}
 use Rattle.attribute.specs.declared.AdsAttribute.{AdsAttribute}
 use Rattle.attribute.specs.Attribute.{first_of, listed, ends}
 use Rattle.attribute.proofs.Again.{n_of, v_of, here, fits, first_here, ends_here, length_name, length_value}
 use Rattle.attribute.proofs.Laws.{listed_more, listed_stop, listed_none, listed_again}
 use Rattle.field.specs.declared.AdsFieldInfo.{AdsFieldInfo}
-use Rattle.field.specs.Front.{with_strings, string_ends, front_of, front_by_header, HasStrings}
+use Rattle.field.specs.Front.{with_strings, string_ends, front_of, HasStrings}
 use Rattle.field.specs.Field.{field_of}
 use Rattle.field.specs.Within.{shown}
 use Rattle.field.specs.Placed.{attributes_at, attributes_there}
-use Rattle.field.specs.Ended.{end_in, IsEnded, attribute_strings}
+use Rattle.field.specs.Ended.{end_in, attribute_strings}
 use Rattle.field.specs.Modes.{strings_met, strings_of, IsOfModes, FieldsModes}
 use Rattle.field.proofs.Within.{IsEndOf, end_after, end_after_at, accepted_is, record_is, name_long, type_long, comment_long, list_is, length_end}
 use Rattle.field.proofs.Tested.{strings_tested, attributes_tested, list_whole, read_is}
 use Rattle.field.proofs.Placed.{placed}
-use Rattle.field.proofs.Ended.{end_of, refused_by, tested, passes, passed, refuses}
+use Rattle.field.proofs.Ended.{end_of, tested, passes, passed, refuses}
 
 both_by : (x : ℕ × ℕ) (xs ys : List (ℕ × ℕ)) → ended (xs ++ ys) ≡ and_then (ended xs) (λ _. ended ys) → (t : Bool) → eqb x.1 0 ≡ t
     → ended (x ∷ (xs ++ ys)) ≡ and_then (ended (x ∷ xs)) (λ _. ended ys)

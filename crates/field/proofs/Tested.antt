@@ -8,7 +8,7 @@ use Rattle.refusal.specs.declared.Mode.{Mode}
 use Rattle.refusal.specs.declared.Refusal.{Refusal}
 use Rattle.field.specs.declared.AdsFieldInfo.{AdsFieldInfo}
 use Rattle.field.specs.declared.front.Front.{Front}
-use Rattle.field.specs.Front.{with_strings, string_ends, front_of, front_by_header, HasStrings}
+use Rattle.field.specs.Front.{string_ends, front_of, front_by_header, HasStrings}
 use Rattle.field.specs.Tail.{type_guid_flag, guid_of, sections_of, complete, attribute_ends, tail_of}
 use Rattle.field.specs.Field.{joined, behind_items, field_of}
 use Rattle.field.proofs.Within.{tail_at, record_is}

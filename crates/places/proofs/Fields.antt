@@ -3,7 +3,6 @@ use Rattle.std.proofs.Common.{ℕ, zero, suc, ◌+◌, ◌-◌, ◌<◌, ◌≤�
 use Rattle.std.specs.Prelude.{ltb, if◌then◌else◌}
 use borrow.Author.Tests.{lt-leb, ltb-true}
 use Rattle.le.specs.Le.{le4}
-use Rattle.part.specs.Slice.{after}
 use Rattle.refusal.specs.declared.Mode.{Mode}
 use Rattle.refusal.specs.declared.Refusal.{Refusal}
 use Rattle.walk.specs.Mapped.{map_ok}
