@@ -14,7 +14,7 @@ use Rattle.index.specs.Index.{starts}
 use Rattle.regrown.specs.Regrown.{Tells, Entry, Refused, End, lying}
 use Rattle.regrown.specs.Tells.{tells}
 use Rattle.salvage.specs.declared.Salvaged.{Salvaged}
-use Rattle.salvage.specs.Both.{wrote, WritesBoth}
+use Rattle.salvage.specs.Both.{WritesBoth}
 use Rattle.salvage.specs.Salvage.{salvaging}
 
 -- what a walk told, without its refusals: its records one after another from a place on, and then the end
@@ -28,7 +28,7 @@ relaid at (End next ∷ more) = relaid at more
 pub record Answers (out runs new slots : List ℕ) (r : Result Salvaged Refusal) : Type 0 where
   pub few_bytes : length out < length new → r ≡ Err (OutputTooSmall (length new) (length out))
   pub few_slots : length new ≤ length out → length runs < length slots → r ≡ Err (OutputTooSmall (length slots) (length runs))
-  pub enough : length new ≤ length out → length slots ≤ length runs → r ≡ Ok (wrote (length new) (length slots))
+  pub enough : length new ≤ length out → length slots ≤ length runs → r ≡ Ok (record { bytes = length new; slots = length slots })
 
 -- `read` is a mode's reader of an entry's own bytes, `Reason` the numbers that a step within an upload of no more than the limit is refused with
 module _ {R S : Type 0} (read : Bor (List ℕ) → Result R Refusal) (length_of : R → ℕ) (told : R → S) (Reason : ℕ → Type 0) where
@@ -82,9 +82,9 @@ module _ {R S : Type 0} (read : Bor (List ℕ) → Result R Refusal) (length_of 
   pub record Meant (s : Bor (List ℕ)) (out runs out' runs' : List ℕ) (r : Result Salvaged Refusal) : Type 0 where
     pub too_large : limit < length s.now → r ≡ Err (TooLarge (length s.now))
     pub within : length s.now ≤ limit → (new : List ℕ) × (slots : List ℕ) × Salvages s new slots × Answers out runs new slots r
-    pub wrote_it : (bytes slots : ℕ) → r ≡ Ok (wrote bytes slots) → Wrote s out runs out' runs' bytes slots
+    pub wrote_it : (bytes slots : ℕ) → r ≡ Ok (record { bytes = bytes; slots = slots }) → Wrote s out runs out' runs' bytes slots
     pub refused : (why : Refusal) → r ≡ Err why → (out' ≡ out) × (runs' ≡ runs)
-    pub done_it : length s.now ≤ limit → length s.now ≤ length out → 3 * length (steps s.now) ≤ length runs → (bytes : ℕ) × (slots : ℕ) × (r ≡ Ok (wrote bytes slots))
+    pub done_it : length s.now ≤ limit → length s.now ≤ length out → 3 * length (steps s.now) ≤ length runs → (bytes : ℕ) × (slots : ℕ) × (r ≡ Ok (record { bytes = bytes; slots = slots }))
 
   abbrev pub SalvageMeant : Type 0
   SalvageMeant = (s : Bor (List ℕ)) (out runs out' runs' : List ℕ) (r : Result Salvaged Refusal) → WritesBoth (salvaging read s) out runs out' runs' r → Meant s out runs out' runs' r

@@ -6,9 +6,7 @@ use Rattle.part.specs.Slice.{part}
 use Rattle.part.specs.Outcome.{and_then}
 use Rattle.refusal.specs.declared.Refusal.{Refusal}
 use Rattle.entry.specs.Entry.{claim_at, claim_of}
-use Rattle.refusal.specs.declared.Mode.{Mode}
 use Rattle.walk.specs.declared.Stepped.{Stepped}
-use Rattle.walk.specs.declared.Walker.{Walker}
 
 module _ {R : Type 0} where
   -- of the entry at the start, whose header is so long
@@ -22,7 +20,3 @@ module _ {R : Type 0} where
         answer = option_map (λ claim. and_then claim (λ size. read (part s at size))) (claim_at s.now at).size;
         cursor = record { at = (claim_at s.now at).next };
       }
-
--- the step at a walker's cursor
-abbrev pub walker_step : {E : Type 0} → (Mode → Bor (List ℕ) → Result E Refusal) → Walker E → Stepped E
-walker_step read w = step_at (read w.mode) w.bytes w.cursor.at

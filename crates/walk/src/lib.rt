@@ -10,7 +10,7 @@ ghost use Rattle.refusal.specs.declared.Refusal.TheVariants.{TooShort};
 ghost use Rattle.entry.specs.Walk.{OneWalk};
 ghost use Rattle.entry.specs.Bounded.{bounded_walk};
 ghost use Rattle.walk.specs.Zero.{is_zero};
-ghost use Rattle.walk.specs.Step.{parse_of, step_at, walker_step};
+ghost use Rattle.walk.specs.Step.{parse_of, step_at};
 ghost use Rattle.walk.specs.Steps.{StepsMeant};
 ghost use Rattle.walk.specs.Direct.{ParsesMeant};
 ghost use Rattle.walk.specs.Pieces.{piece_at, pieces, walker_left, NextGives};
@@ -188,8 +188,8 @@ impl<'a, E: Entry<'a>> Walker<'a, E> {
 
     /// Makes one step: nothing at the end of the upload. At a zero claim, which is refused as too short, the walker stays.
     pub fn step(&mut self) -> Option<Result<E, Refusal>>
-        ensures gives { result ≡ (walker_step E.read self.old).answer }
-        ensures moves { self.new ≡ record self.old { cursor = (walker_step E.read self.old).cursor } }
+        ensures gives { result ≡ (step_at (E.read self.old.mode) self.old.bytes self.old.cursor.at).answer }
+        ensures moves { self.new ≡ record self.old { cursor = (step_at (E.read self.old.mode) self.old.bytes self.old.cursor.at).cursor } }
     {
         let stepped = self.cursor.step(self.bytes, self.mode);
         self.cursor = stepped.cursor;
