@@ -218,15 +218,20 @@ text_comes_back t = (whole, only)
         let l : length t ≤ limit = ltb-false limit (length t) r.0 in
         (l, pair_by s t (written_bytes s t 0 r.1) (text_back s t 0 r.1) l)
 
--- ---- the table, at some of its bytes, and outside it
-others : (b : ℕ) (s t : List ℕ) → (b < 0x80) ⊎ (0xA0 ≤ b) → length (b ∷ s) ≤ limit → decoding s ≡ Ok t → decoding (b ∷ s) ≡ Ok (encode_utf8 b ++ t)
+-- ---- the table, and the bytes outside it
+byte_more : (b p : ℕ) (s t : List ℕ) → code_point b ≡ p → length (b ∷ s) ≤ limit → decoding s ≡ Ok t → decoding (b ∷ s) ≡ Ok (encode_utf8 p ++ t)
 unfolding decoding decoded
-others b s t h l e =
+byte_more b p s t h l e =
     let r = within_by (ltb limit (length s)) s (Ok (decoded s)) t e in
     let q : decoded s ≡ t = cc in
-    let p : code_point b ≡ b = ⊎_elim (λ k. point_low k) (λ k. point_high k) h in
-    in_limit (b ∷ s) (Ok (decoded (b ∷ s))) l ∙ ap (λ (c : ℕ). Ok (encode_utf8 c ++ decoded s)) p ∙ ap (λ (x : List ℕ). Ok (encode_utf8 b ++ x)) q
+    in_limit (b ∷ s) (Ok (decoded (b ∷ s))) l ∙ ap (λ (c : ℕ). Ok (encode_utf8 c ++ decoded s)) h ∙ ap (λ (x : List ℕ). Ok (encode_utf8 p ++ x)) q
+
+inside : (b : ℕ) (s t : List ℕ) → 0x80 ≤ b → b < 0xA0 → length (b ∷ s) ≤ limit → decoding s ≡ Ok t → decoding (b ∷ s) ≡ Ok (encode_utf8 (get_or points (b - 0x80) 0) ++ t)
+inside b s t h k l e = byte_more b (get_or points (b - 128) 0) s t (point_mid {b = b} h k) l e
+
+others : (b : ℕ) (s t : List ℕ) → (b < 0x80) ⊎ (0xA0 ≤ b) → length (b ∷ s) ≤ limit → decoding s ≡ Ok t → decoding (b ∷ s) ≡ Ok (encode_utf8 b ++ t)
+others b s t h l e = byte_more b b s t (⊎_elim (λ k. point_low k) (λ k. point_high k) h) l e
 
 pub table_meant : TableMeant
-unfolding points code_point decoded decoding encode_utf8
-table_meant = record { table = refl; others = others }
+unfolding points decoded decoding
+table_meant = record { none = refl; inside = inside; others = others }

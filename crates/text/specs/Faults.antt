@@ -1,5 +1,5 @@
--- docs/FORMAT.md, "Text": which characters a text begins with, by std's UTF-8, and why bytes or a text are refused.
-use Rattle.std.specs.Prelude.{ℕ, List, [], ◌∷◌, ◌++◌, Ok, Err, ◌≡◌, ◌<◌, ◌≤◌, ◌⊎◌, ◌↔◌, length, take, drop, encode_utf8, encode_utf8_all}
+-- docs/FORMAT.md, "Text": which characters a text begins with, by std's UTF-8, why bytes or a text are refused, and which byte has which code point.
+use Rattle.std.specs.Prelude.{ℕ, List, [], ◌∷◌, ◌++◌, Ok, Err, ◌≡◌, ◌<◌, ◌≤◌, ◌-◌, ◌⊎◌, ◌↔◌, length, take, drop, get_or, encode_utf8}
 use Rattle.std.specs.Char.{IsScalar}
 use Rattle.refusal.specs.declared.Refusal.{Refusal}
 use Rattle.refusal.specs.declared.Refusal.TheVariants.{TooLarge, BadText}
@@ -38,7 +38,12 @@ pub record FaultsMeant : Type 0 where
   pub faults : (t : List ℕ) (why : Refusal) → length t ≤ 16777216
       → (encoding t ≡ Err why) ↔ ((place : ℕ) × (kind : ℕ) × (why ≡ BadText place kind) × IsFirstFault t place kind)
 
--- of the table the first byte, the last, and those that become themselves; and so does every byte outside it, before the text of those behind it
+-- the empty byte string becomes the empty text; a byte 80 to 9F becomes the code point of its place here, and every other itself, before the text of those behind it
 pub record TableMeant : Type 0 where
-  pub table : decoding (0x80 ∷ 0x81 ∷ 0x8D ∷ 0x8F ∷ 0x90 ∷ 0x9D ∷ 0x9F ∷ []) ≡ Ok (encode_utf8_all (0x20AC ∷ 0x81 ∷ 0x8D ∷ 0x8F ∷ 0x90 ∷ 0x9D ∷ 0x178 ∷ []))
+  pub none : decoding [] ≡ Ok []
+  pub inside : (b : ℕ) (s t : List ℕ) → 0x80 ≤ b → b < 0xA0 → length (b ∷ s) ≤ 16777216 → decoding s ≡ Ok t
+      → decoding (b ∷ s) ≡ Ok (encode_utf8 (get_or (
+          0x20AC ∷ 0x0081 ∷ 0x201A ∷ 0x0192 ∷ 0x201E ∷ 0x2026 ∷ 0x2020 ∷ 0x2021 ∷ 0x02C6 ∷ 0x2030 ∷ 0x0160 ∷ 0x2039 ∷ 0x0152 ∷ 0x008D ∷ 0x017D ∷ 0x008F
+          ∷ 0x0090 ∷ 0x2018 ∷ 0x2019 ∷ 0x201C ∷ 0x201D ∷ 0x2022 ∷ 0x2013 ∷ 0x2014 ∷ 0x02DC ∷ 0x2122 ∷ 0x0161 ∷ 0x203A ∷ 0x0153 ∷ 0x009D ∷ 0x017E ∷ 0x0178 ∷ []
+        ) (b - 0x80) 0) ++ t)
   pub others : (b : ℕ) (s t : List ℕ) → (b < 0x80) ⊎ (0xA0 ≤ b) → length (b ∷ s) ≤ 16777216 → decoding s ≡ Ok t → decoding (b ∷ s) ≡ Ok (encode_utf8 b ++ t)

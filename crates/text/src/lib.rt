@@ -462,7 +462,7 @@ pub fn faults_meant()
     ensures { FaultsMeant }
 {}
 
-/// The first byte of the table, the last, and the five that become themselves, as every byte outside it does.
+/// Each of the bytes 80 to 9F becomes the code point that the table has for it, and every other byte becomes itself.
 pub fn table_meant()
     ensures { TableMeant }
 {}
