@@ -117,15 +117,17 @@ impl<'p, 'a> Pairs<'p, 'a> {
         }
     }
 
-    /// Those that are as long and stand behind the same entry.
+    /// Those that are as long and stand right behind the same entry, or first.
     fn by_neighbour(&mut self) {
-        let mut next = 0;
+        let mut next = Some(0);
         for one in 0..self.a.len() {
-            let free = self.of_a[one].is_none() && self.of_b.get(next) == Some(&None);
-            if free && self.a[one].is_as_long_as(&self.b[next]) {
-                self.join(one, next);
+            let free = next.filter(|other| self.of_b.get(*other) == Some(&None));
+            if let (None, Some(other)) = (self.of_a[one], free) {
+                if self.a[one].is_as_long_as(&self.b[other]) {
+                    self.join(one, other);
+                }
             }
-            next = self.of_a[one].map_or(next, |other| other + 1);
+            next = self.of_a[one].map(|other| other + 1);
         }
     }
 
