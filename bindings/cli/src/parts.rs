@@ -250,20 +250,19 @@ type Sectioned<'s, 'a> = (&'s AdsSymbolInfo<'a>, Option<&'s Section<'a>>);
 
 /// How one part of two symbols differs.
 fn difference((a, one): Sectioned<'_, '_>, (b, other): Sectioned<'_, '_>) -> Option<Difference> {
-    let part = one.or(other)?.part;
-    if let (Some(one), Some(other)) = (one, other) {
-        if one.bytes == other.bytes {
-            return None;
-        }
-        let values = [told(a, one), told(b, other)];
-        if values[0].json == values[1].json {
-            let first = first_byte([one, other].map(|one| (one.at, one.bytes)));
-            return Some(Difference::new(part, first));
-        }
-        return Some(Difference::new(part, values));
+    if one.map(|one| one.bytes) == other.map(|other| other.bytes) {
+        return None;
     }
+    let part = one.or(other)?.part;
     let value = |symbol, one: Option<&_>| one.map_or_else(Value::absent, |one| told(symbol, one));
-    Some(Difference::new(part, [value(a, one), value(b, other)]))
+    let values = [value(a, one), value(b, other)];
+    let values = match (one, other) {
+        (Some(one), Some(other)) if values[0].json == values[1].json => {
+            first_byte([one, other].map(|one| (one.at, one.bytes)))
+        }
+        _ => values,
+    };
+    Some(Difference::new(part, values))
 }
 
 /// The first byte in which two runs of bytes differ, each with the place in its entry where it begins; where one of them

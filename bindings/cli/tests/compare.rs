@@ -7,7 +7,7 @@ use std::fs;
 use common::{Session, fed, folder, grown, hexadecimal, program, repository, sample, symbol};
 use vindaskot::{
     AdsAttribute, AdsRefactorInfo, AdsSymbol2Flags, AdsSymbolFlags, AdsSymbolInfoIterator,
-    AttributeWriter, IndexGroup, IndexOffset, Mode, RefactorWriter, SymbolNumbers, SymbolParts,
+    AttributeWriter, IndexGroup, IndexOffset, RefactorWriter, SymbolNumbers, SymbolParts,
 };
 
 /// A symbol with every section.
@@ -363,48 +363,51 @@ fn one_bad_entry() {
     }
 }
 
-/// Uploads with entries that come, go, move and are damaged: each entry is counted once, whichever is A.
+/// Numbers that are the same in every run.
+struct Random(u32);
+
+impl Random {
+    fn below(&mut self, end: usize) -> usize {
+        self.0 = self.0.wrapping_mul(1_664_525).wrapping_add(1_013_904_223);
+        (self.0 >> 8) as usize % end
+    }
+
+    /// Up to six entries of few names and lengths, one in four of them refused.
+    fn upload(&mut self) -> Vec<u8> {
+        let names: [&[u8]; 5] = [b"MAIN.a", b"MAIN.b", b"MAIN.B", b"MAIN.cc", b"MAIN.dd"];
+        let entry = |r: &mut Self| {
+            let mut entry = symbol(names[r.below(5)], b"LREAL", r.below(2) as u32, &[]);
+            entry[25] = u8::from(r.below(4) == 0);
+            entry
+        };
+        (0..self.below(7)).flat_map(|_| entry(self)).collect()
+    }
+}
+
+/// Uploads with entries that come, go, move and are damaged: each entry is counted once, whichever is A, and the status is
+/// 0 exactly where the bytes are the same.
 #[test]
 fn each_entry_once() {
     let folder = folder("compare-once");
-    let (a, b) = (folder.join("a.bin"), folder.join("b.bin"));
-    let paths = [&a, &b].map(|path| path.to_str().unwrap());
-    let mut state: u32 = 213;
-    let mut below = move |end: usize| {
-        state = state.wrapping_mul(1_664_525).wrapping_add(1_013_904_223);
-        (state >> 8) as usize % end
-    };
+    let paths = ["a.bin", "b.bin"].map(|name| folder.join(name));
+    let [a, b] = paths.each_ref().map(|path| path.to_str().unwrap());
+    let mut r = Random(213);
     for _ in 0..300 {
-        let mut upload = || {
-            let names: [&[u8]; 5] = [b"MAIN.a", b"MAIN.b", b"MAIN.B", b"MAIN.cc", b"MAIN.dd"];
-            let mut entries = Vec::new();
-            for _ in 0..below(7) {
-                let mut entry = symbol(names[below(5)], b"LREAL", below(2) as u32, &[]);
-                if below(4) == 0 {
-                    entry[25] = 1;
-                }
-                entries.extend(entry);
-            }
-            entries
-        };
-        let uploads = [upload(), upload()];
-        fs::write(&a, &uploads[0]).unwrap();
-        fs::write(&b, &uploads[1]).unwrap();
-        let walked = uploads
-            .each_ref()
-            .map(|upload| AdsSymbolInfoIterator::new_in(upload, Mode::Present).count());
-        let (status, numbers) = counted(&["compare", paths[0], paths[1]], b"");
+        let uploads = [r.upload(), r.upload()];
+        for (path, upload) in paths.iter().zip(&uploads) {
+            fs::write(path, upload).unwrap();
+        }
+        let (status, numbers) = counted(&["compare", a, b], b"");
         assert_eq!(status, Some(i32::from(uploads[0] != uploads[1])));
         let [in_a, in_b, alike, different, only_a, only_b, moved] = numbers[..] else {
             panic!("{numbers:?}");
         };
+        let walked = uploads.map(|upload| AdsSymbolInfoIterator::new(&upload).count());
         assert_eq!([in_a, in_b], walked);
-        assert_eq!(
-            [in_a, in_b],
-            [only_a, only_b].map(|alone| alike + different + alone)
-        );
-        assert!(moved <= alike + different);
-        let (_, mirrored) = counted(&["compare", paths[1], paths[0]], b"");
+        let both = alike + different;
+        assert_eq!([in_a, in_b], [both + only_a, both + only_b]);
+        assert!(moved <= both);
+        let (_, mirrored) = counted(&["compare", b, a], b"");
         assert_eq!(
             mirrored,
             [in_b, in_a, alike, different, only_b, only_a, moved]

@@ -263,6 +263,26 @@ fn every_byte_of_the_rig() {
     assert!(met.found > 30 * 2 * tried, "{met:?}");
 }
 
+/// The same upload with some bytes changed inside one to three whole entries, and the starts of these.
+fn changed(data: &[u8], r: &mut Random) -> (Vec<u8>, Vec<usize>) {
+    let steps = steps(data, Mode::Present);
+    let inside = steps.iter().map(|step| (step.start, step.inside(data)));
+    let whole: Vec<_> = inside.filter(|(_, inside)| !inside.is_empty()).collect();
+    let mut other = data.to_vec();
+    let mut starts = Vec::new();
+    for _ in 0..whole.len().min(1 + r.below(3)) {
+        let (start, inside) = &whole[r.below(whole.len())];
+        for _ in 0..1 + r.below(4) {
+            let at = inside.start + r.below(inside.len());
+            other[at] = if r.coin() { r.word() as u8 } else { 0xFF };
+        }
+        starts.push(*start);
+    }
+    starts.sort_unstable();
+    starts.dedup();
+    (other, starts)
+}
+
 /// Of uploads whose other entries may be damaged too, one to three entries changed inside, for better or worse.
 #[test]
 fn damaged_uploads() {
@@ -271,31 +291,14 @@ fn damaged_uploads() {
     let mut several = 0;
     for _ in 0..4000 {
         let data = damaged(&mut r);
-        let mut other = data.clone();
-        let mut changed = Vec::new();
-        let steps = steps(&data, Mode::Present);
-        let whole: Vec<_> = steps
-            .iter()
-            .filter(|step| !step.inside(&data).is_empty())
-            .collect();
-        for _ in 0..whole.len().min(1 + r.below(3)) {
-            let step = whole[r.below(whole.len())];
-            let inside = step.inside(&data);
-            for _ in 0..1 + r.below(4) {
-                let at = inside.start + r.below(inside.len());
-                other[at] = if r.coin() { r.word() as u8 } else { 0xFF };
-            }
-            changed.push(step.start);
-        }
-        changed.sort_unstable();
-        changed.dedup();
-        several += usize::from(changed.len() > 1);
+        let (other, starts) = changed(&data, &mut r);
+        several += usize::from(starts.len() > 1);
         let versions = if r.coin() {
             [&data, &other]
         } else {
             [&other, &data]
         };
-        met.hold(versions.map(Vec::as_slice), &changed);
+        met.hold(versions.map(Vec::as_slice), &starts);
     }
     assert!(
         met.changed.iter().flatten().all(|met| *met > 300),
