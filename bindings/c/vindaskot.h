@@ -151,7 +151,9 @@ uint32_t vindaskot_symbol_read_2(const uint8_t *bytes, size_t bytes_len,
 /* One step of the walk over an upload: VINDASKOT_FINISHED at the end, VINDASKOT_DONE with the entry at the cursor,
  * or a refusal. Begin with *cursor = 0; it is moved past the entry, and to the end after refusals 5, 3 (a claim
  * beyond the data) and 2 (under 4 bytes left). Only a claim of 0 is refused (2: 30, 0) without a move: a loop stops
- * where *cursor did not change. */
+ * where *cursor did not change. Two uploads are compared by a step of each by turns, each with a cursor of its own: as
+ * long as the cursors are equal the steps are of entries at the same place, and where the entries' bytes are equal too
+ * the answers are. */
 uint32_t vindaskot_symbol_step_2(const uint8_t *bytes, size_t bytes_len, size_t *cursor,
                                  uint64_t slots[VINDASKOT_AT_LEAST 21],
                                  uint8_t guid[VINDASKOT_AT_LEAST 16],

@@ -11,7 +11,9 @@ use crate::input::Form;
 
 pub const HELP: &str = include_str!("help.txt");
 
-const COMMANDS: [&str; 7] = ["find", "show", "list", "type", "check", "salvage", "room"];
+const COMMANDS: [&str; 8] = [
+    "find", "show", "list", "type", "check", "compare", "salvage", "room",
+];
 
 pub enum Request {
     Help,
@@ -47,6 +49,11 @@ pub enum Asked {
         json: bool,
     },
     Check,
+    Compare {
+        /// The file that the first is held against.
+        with: OsString,
+        json: bool,
+    },
     Salvage {
         /// Where what is kept is written to.
         to: OsString,
@@ -93,8 +100,8 @@ impl Options {
 
     /// Refuses one that is not for this command.
     fn suit(&self, command: &str) -> Result<(), Failure> {
-        if self.json && !["list", "type"].contains(&command) {
-            let why = format!("--json is for list and type, not for {command}");
+        if self.json && !["list", "type", "compare"].contains(&command) {
+            let why = format!("--json is for list, type and compare, not for {command}");
             return Err(usage(why));
         }
         let of_a_file = match (self.form, self.mode) {
@@ -160,6 +167,10 @@ fn of_a_file(options: Options, words: &mut Words) -> Result<Command, Failure> {
             name: words.left.next(),
             json: options.json,
         },
+        "compare" => Asked::Compare {
+            with: other_file(&file, words)?,
+            json: options.json,
+        },
         "salvage" => Asked::Salvage {
             to: words.next("a path that what is kept is written to")?,
         },
@@ -171,6 +182,17 @@ fn of_a_file(options: Options, words: &mut Words) -> Result<Command, Failure> {
         mode: options.mode,
         asked,
     })
+}
+
+/// A second file. Standard input can't be both.
+fn other_file(file: &OsStr, words: &mut Words) -> Result<OsString, Failure> {
+    let other = words.next("a second file, or - for standard input")?;
+    if file == "-" && other == "-" {
+        return Err(usage(
+            "compare reads standard input once, for one of A and B",
+        ));
+    }
+    Ok(other)
 }
 
 /// A number of bytes in decimal digits. Zeros may stand before it, since scripts pad their numbers. Rust's own reading

@@ -1,5 +1,6 @@
 //! The walk over an upload.
 
+use vindaskot::symbol::parse_next_entry_in;
 use vindaskot::{
     AdsSymbolInfo, AdsSymbolInfoIterator, DataType, DataTypeIterator, Refusal, WalkEnd, walk,
 };
@@ -16,7 +17,15 @@ pub fn entries(
     steps.map(|(at, entry)| (at, entry.map_err(|why| last_word(bytes, at, why))))
 }
 
-/// The same of an upload of data types.
+/// The entry at a place where a step of the walk begins.
+pub fn entry_at(upload: &Upload, at: usize) -> Result<AdsSymbolInfo<'_>, Refusal> {
+    let bytes = &upload.bytes;
+    let step = parse_next_entry_in(bytes, &mut { at }, upload.mode);
+    let entry = step.expect("no step begins at the end");
+    entry.map_err(|why| last_word(bytes, at, why))
+}
+
+/// All entries of an upload of data types, likewise.
 pub fn types(upload: &Upload) -> impl Iterator<Item = (usize, Result<DataType<'_>, Refusal>)> {
     let bytes = &upload.bytes;
     let steps = DataTypeIterator::new_in(bytes, upload.mode).with_starts();

@@ -2,7 +2,7 @@
 
 use std::io::{self, Write};
 
-use vindaskot::{AdsAttributes, AdsSymbolInfo, Refusal};
+use vindaskot::{AdsAttribute, AdsAttributes, AdsSymbolInfo, Refusal};
 
 use crate::entries::entries;
 use crate::failure::Failure;
@@ -27,14 +27,18 @@ pub fn list(upload: &Upload, out: &mut impl Write) -> Result<bool, Failure> {
 }
 
 pub fn refused(at: usize, why: &Refusal, out: &mut impl Write) -> io::Result<()> {
+    writeln!(out, "{}", refusal(at, why))
+}
+
+/// A refused entry.
+pub fn refusal(at: usize, why: &Refusal) -> String {
     let Refusal {
         number,
         expected,
         got,
     } = why;
     let reason = quoted(&words::refusal(why));
-    writeln!(
-        out,
+    format!(
         r#"{{"place":{at},"refused":{number},"expected":{expected},"got":{got},"reason":{reason}}}"#
     )
 }
@@ -113,7 +117,7 @@ fn joined<const N: usize>(members: [(&str, String); N]) -> String {
     members.join(",")
 }
 
-fn string(bytes: &[u8]) -> String {
+pub fn string(bytes: &[u8]) -> String {
     quoted(&exact(bytes))
 }
 
@@ -122,18 +126,20 @@ fn guid_or_null(id: Option<[u8; 16]>) -> String {
 }
 
 fn attributes(all: AdsAttributes<'_>) -> String {
-    array(all.map(|one| {
-        let (name, value) = (string(one.name()), string(one.value()));
-        format!(r#"{{"name":{name},"value":{value}}}"#)
-    }))
+    array(all.map(|one| attribute(&one)))
 }
 
-fn array(items: impl Iterator<Item = String>) -> String {
+pub fn attribute(one: &AdsAttribute<'_>) -> String {
+    let (name, value) = (string(one.name()), string(one.value()));
+    format!(r#"{{"name":{name},"value":{value}}}"#)
+}
+
+pub fn array(items: impl Iterator<Item = String>) -> String {
     format!("[{}]", items.collect::<Vec<_>>().join(","))
 }
 
 /// A string of JSON.
-fn quoted(text: &str) -> String {
+pub fn quoted(text: &str) -> String {
     let mut out = String::from("\"");
     for c in text.chars() {
         match c {

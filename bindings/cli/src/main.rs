@@ -3,6 +3,7 @@
 
 mod arguments;
 mod check;
+mod compare;
 mod entries;
 mod failure;
 mod find;
@@ -10,6 +11,8 @@ mod flags;
 mod input;
 mod json;
 mod list;
+mod pairs;
+mod parts;
 mod picture;
 mod room;
 mod salvage;
@@ -68,6 +71,10 @@ fn answer(command: &Command, out: &mut impl Write) -> Result<bool, Failure> {
         Asked::List { json: true } => json::list(&upload, out),
         Asked::List { json: false } => list::list(&upload, out),
         Asked::Check => check::check(&upload, out),
+        Asked::Compare { with, json } => {
+            let other = input::read(with, command.form, command.mode)?;
+            compare::compare([&upload, &other], *json, out)
+        }
         Asked::Salvage { to } => salvage::salvage(&upload, to, out),
         Asked::Type { name, json } => types::print(&upload, name.as_deref(), *json, out),
     }

@@ -10,7 +10,7 @@ use crate::find::named;
 use crate::flags;
 use crate::input::Upload;
 use crate::picture;
-use crate::text::{guid, many, shown};
+use crate::text::{guid, many, or_none, shown};
 
 pub fn show(
     upload: &Upload,
@@ -36,17 +36,10 @@ fn facts(at: usize, symbol: &AdsSymbolInfo<'_>) -> [(&'static str, String); 11] 
     let (group, offset) = (symbol.index_group(), symbol.index_offset());
     let length = symbol.as_bytes().len();
     let absent = || "none".to_string();
-    let string = |bytes: &[u8]| {
-        if bytes.is_empty() {
-            absent()
-        } else {
-            shown(bytes)
-        }
-    };
     [
-        ("name", string(symbol.name())),
-        ("type", string(symbol.type_name())),
-        ("comment", string(symbol.comment())),
+        ("name", or_none(symbol.name())),
+        ("type", or_none(symbol.type_name())),
+        ("comment", or_none(symbol.comment())),
         (
             "place",
             format!("at {at}, {}", many(length, "byte", "bytes")),

@@ -21,6 +21,15 @@ pub fn shown(bytes: &[u8]) -> String {
     out
 }
 
+/// The same, and that there is none where it is empty.
+pub fn or_none(bytes: &[u8]) -> String {
+    if bytes.is_empty() {
+        "none".into()
+    } else {
+        shown(bytes)
+    }
+}
+
 /// How many columns shown text takes.
 pub fn width(shown: &str) -> usize {
     shown.chars().count()

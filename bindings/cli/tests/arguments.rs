@@ -41,6 +41,10 @@ fn usage() {
         &["salvage", "samples/rig.bin"],
         &["salvage", "samples/rig.bin", "a", "b"],
         &["salvage", "--json", "samples/rig.bin", "a"],
+        &["compare"],
+        &["compare", "samples/rig.bin"],
+        &["compare", "-", "-"],
+        &["compare", "samples/rig.bin", "samples/rig.hex", "a"],
         &["type"],
         &["type", "samples/types.bin", "a", "b"],
         &["type", "--all", "samples/types.bin"],
@@ -75,6 +79,7 @@ fn a_name_that_is_not_utf_8() {
 fn a_closed_pipe_ends_quietly() {
     ends_quietly(&["show", "samples/rig.bin", "MAIN.stLens"]);
     ends_quietly(&["list", "--binary", "samples/rig.hex"]);
+    ends_quietly(&["compare", "--binary", "samples/rig.bin", "samples/rig.hex"]);
     ends_quietly(&["type", "samples/types.bin"]);
     ends_quietly(&["type", "--json", "--binary", "samples/types.hex"]);
 }
@@ -106,6 +111,7 @@ fn a_full_disk_is_an_error() {
         &["list", "samples/rig.bin"],
         &["list", "--json", "samples/rig.bin"],
         &["check", "samples/rig.bin"],
+        &["compare", "samples/rig.bin", "samples/rig.hex"],
     ] {
         let full = OpenOptions::new().write(true).open("/dev/full").unwrap();
         let mut command = program(&repository(), words);

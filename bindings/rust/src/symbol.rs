@@ -425,6 +425,31 @@ fn stepped<'a>(
 ///
 /// A refused entry is passed by its claimed length and the walk goes on. A claim of 0 gives no way on: its refusal,
 /// 2 (30, 0), is given once and is the last item. (The iterator of tcads-rs repeats it without end.)
+///
+/// Two uploads are compared step by step. Where they differ inside an entry, behind the four bytes of its length, every
+/// other step is the same in both, with its start:
+///
+/// ```
+/// use vindaskot::{AdsSymbolInfoIterator, Refusal, SymbolNumbers, SymbolParts};
+///
+/// fn main() -> Result<(), Refusal> {
+///     let mut upload = [0; 129];
+///     for (name, place) in [(b"MAIN.fZoom", 0), (b"MAIN.fIris", 43), (b"MAIN.fTilt", 86)] {
+///         let parts = SymbolParts { name, ..Default::default() };
+///         SymbolNumbers::default().write(&parts, &mut upload[place..])?;
+///     }
+///     // The length of the second name now leaves its entry, so that it is refused.
+///     let mut damaged = upload;
+///     damaged[43 + 25] = 0xFF;
+///     let steps = AdsSymbolInfoIterator::new(&upload).with_starts();
+///     let others = AdsSymbolInfoIterator::new(&damaged).with_starts();
+///     let mut different = steps.zip(others).filter(|(step, other)| step != other);
+///     let ((start, entry), (_, other)) = different.next().unwrap();
+///     assert_eq!((start, entry?.name(), other.is_err()), (43, &b"MAIN.fIris"[..], true));
+///     assert!(different.next().is_none());
+///     Ok(())
+/// }
+/// ```
 #[derive(Debug, Clone, PartialEq, Eq, Hash)]
 pub struct AdsSymbolInfoIterator<'a> {
     steps: Steps<'a>,
