@@ -1,23 +1,29 @@
 -- What stays of an upload s where t differs from it inside the entries at some places: proved.
-use Rattle.std.proofs.Common.{ℕ, ◌-◌, ◌≡◌, inl, inr, refl, sym, ap, subst, ◌∙◌, Bool, true, false, List, map, filter, filter_map, length, arith, Bor, Option, Some, None, Result, Ok, Err, is_ok, option_map, if◌then◌else◌}
+use Rattle.std.proofs.Common.{ℕ, ◌-◌, ◌≡◌, inl, inr, refl, sym, ap, subst, ◌∙◌, Bool, true, false, List, map, filter, filter_map, length, drop, arith, Bor, Option, Some, None, Result, Ok, Err, is_ok, option_map, if◌then◌else◌}
 use Rattle.std.specs.Prelude.{ltb, eqb}
 use Rattle.std.specs.List.{list_any}
+use Rattle.std.proofs.lemmas.List.{get_or-drop}
+use Rattle.std.proofs.Common.{length-drop}
+use native.Mathlib.Nat.{add-zero}
+use Rattle.le.specs.Le.{le4}
 use Rattle.le.specs.Le as le
 use Rattle.le.proofs.Laws.{not-both}
-use Rattle.part.specs.Slice.{part}
+use Rattle.part.specs.Slice.{part, after}
 use Rattle.part.specs.Outcome.{and_then}
 use Rattle.refusal.specs.Refusal.{limit, figures_of}
 use Rattle.refusal.specs.declared.Refusal.{Refusal}
 use Rattle.refusal.specs.declared.Refusal.TheVariants.{TooLarge, ZeroEntryLength}
 use Rattle.entry.specs.declared.Claimed.{Claimed}
-use Rattle.entry.specs.Entry.{claim_at}
+use Rattle.entry.specs.Entry.{claim_at, claim_of}
+use Rattle.entry.specs.DirectClaims.{IsClaimed, large as too_large, short as too_short, beyond as leads_beyond, below as too_low, whole}
+use Rattle.entry.proofs.DirectClaims.{direct_claims}
 use Rattle.entry.specs.Walk.{stands, steps}
 use Rattle.entry.specs.Alike.{among, Reached, DiffersInside, IsWalkedAlike}
 use Rattle.entry.proofs.Claims.{meets}
 use Rattle.entry.proofs.Alike.{walked_alike, any_alike}
 use Rattle.walk.specs.Mapped.{map_ok}
 use Rattle.walk.specs.declared.Piece.{Piece}
-use Rattle.walk.specs.Step.{step_at}
+use Rattle.walk.specs.Step.{parse_of, step_at}
 use Rattle.walk.specs.Pieces.{piece_at, pieces, claim_there}
 use Rattle.walk.proofs.Left.{piece_starts}
 use Rattle.walk.proofs.Theorems.{pieces_are}
@@ -71,6 +77,25 @@ module _ {R S : Type 0} (told : R → S) where
   run_alike start end (Ok r) (Err why) e = absurd (let z : ◌≡◌ {A = ℕ} 0 1 = cc in omega arith)
   run_alike start end (Err why) (Ok r) e = absurd (let z : ◌≡◌ {A = ℕ} 0 1 = cc in omega arith)
 
+-- what is claimed at the start of the bytes from a place on is the number there
+le4_from : (a : List ℕ) (at : ℕ) → le4 (drop at a) 0 ≡ le4 a at
+unfolding le4
+le4_from a at = simp (get_or-drop at a 0 0, get_or-drop at a 1 0, get_or-drop at a 2 0, get_or-drop at a 3 0, add-zero)
+
+claims_what_is_there : (header size : ℕ) (l : List ℕ) → claim_of header l ≡ Ok size → size ≡ le4 l 0
+claims_what_is_there header size l h = by (claim_of header l) (direct_claims header l) h
+  where
+    by : (c : Result ℕ Refusal) → IsClaimed header l c → c ≡ Ok size → size ≡ le4 l 0
+    by c (too_large a) h = absurd (let z : ◌≡◌ {A = ℕ} 0 1 = cc in omega arith)
+    by c (too_short a b) h = absurd (let z : ◌≡◌ {A = ℕ} 0 1 = cc in omega arith)
+    by c (leads_beyond a b d) h = absurd (let z : ◌≡◌ {A = ℕ} 0 1 = cc in omega arith)
+    by c (too_low a b d g) h = absurd (let z : ◌≡◌ {A = ℕ} 0 1 = cc in omega arith)
+    by c (whole a b d g) h = cc
+
+claims_by : (header : ℕ) (k l : List ℕ) → length k ≡ length l → le4 k 0 ≡ le4 l 0 → claim_of header k ≡ claim_of header l
+unfolding claim_of
+claims_by header k l h e = simp (h, e)
+
 module _ {R S : Type 0} (read : Bor (List ℕ) → Result R Refusal) (told : R → S) (s t : Bor (List ℕ)) (places : List ℕ) (d : DiffersInside s.now t.now places)
     (alike : (at size : ℕ) → (part s at size).now ≡ (part t at size).now → map_ok told (read (part s at size)) ≡ map_ok told (read (part t at size))) where
   abbrev w : IsWalkedAlike s.now t.now places
@@ -80,6 +105,24 @@ module _ {R S : Type 0} (read : Bor (List ℕ) → Result R Refusal) (told : R �
   unfolding le.part
   own at size (inl h) off c = w.own at size h off c
   own at size (inr h) off c = absurd (omega (arith, h, (meets s.now at size c).four))
+
+  -- a direct parse of all from an entry on
+  behind_claim : (at : ℕ) (c : Result ℕ Refusal) → ((size : ℕ) → c ≡ Ok size → map_ok told (read (part (after s at) 0 size)) ≡ map_ok told (read (part (after t at) 0 size)))
+      → map_ok told (and_then c (λ size. read (part (after s at) 0 size))) ≡ map_ok told (and_then c (λ size. read (part (after t at) 0 size)))
+  behind_claim at (Err why) h = refl
+  behind_claim at (Ok size) h = h size refl
+
+  pub behind_alike : (header : ℕ) → ((at size : ℕ) → (part (after s at) 0 size).now ≡ (part (after t at) 0 size).now → map_ok told (read (part (after s at) 0 size)) ≡ map_ok told (read (part (after t at) 0 size)))
+      → (at size : ℕ) → among (steps s.now) at ≡ true → among places at ≡ false → (claim_at s.now at).size ≡ Some (Ok size) → map_ok told (parse_of header read (after s at)) ≡ map_ok told (parse_of header read (after t at))
+  behind_alike header same at size h off c =
+      let here = (meets s.now at size c).claim in
+      let there = (meets t.now at size (ap (λ (x : Claimed). x.size) (sym (w.claim at (inl h))) ∙ c)).claim in
+      let numbers : le4 (drop at s.now) 0 ≡ le4 (drop at t.now) 0 = le4_from s.now at ∙ here ∙ sym there ∙ sym (le4_from t.now at) in
+      let lengths : length (drop at s.now) ≡ length (drop at t.now) = length-drop at s.now ∙ ap (λ (n : ℕ). n - at) d.long ∙ sym (length-drop at t.now) in
+      behind_claim at (claim_of header (drop at s.now)) (λ n e.
+      let is : size ≡ n = sym (claims_what_is_there header n (drop at s.now) e ∙ le4_from s.now at ∙ here) in
+      same at n (subst (λ (k : ℕ). (part s at k).now ≡ (part t at k).now) is (own at size (inl h) off c)))
+      ∙ ap (λ (x : Result ℕ Refusal). map_ok told (and_then x (λ size'. read (part (after t at) 0 size')))) (claims_by header (drop at s.now) (drop at t.now) lengths numbers)
 
   -- steps
   by_claim : (at : ℕ) (c : Option (Result ℕ Refusal)) → ((size : ℕ) → c ≡ Some (Ok size) → (part s at size).now ≡ (part t at size).now)

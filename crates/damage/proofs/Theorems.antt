@@ -3,7 +3,7 @@ use Rattle.std.proofs.Common.{ℕ, ◌+◌, ◌-◌, ◌≡◌, inl, refl, sym, 
 use mathlib.Core.Path.{ap₂}
 use Rattle.std.specs.List.{cons_option}
 use Rattle.le.specs.Le.{part as part_of}
-use Rattle.part.specs.Slice.{part}
+use Rattle.part.specs.Slice.{part, after}
 use Rattle.part.specs.Outcome.{and_then}
 use Rattle.refusal.specs.Refusal.{figures_of}
 use Rattle.refusal.specs.declared.Refusal.{Refusal}
@@ -93,7 +93,14 @@ module _ {R : Type 0} where
           }
 
       parses_in_place : ParsesStay (parse_of header read) (λ x. x) (lying m s) (lying m t) places
-      parses_in_place at size h off c = ap (λ (l : List ℕ). parse_of header read (record { ref_ptr = (m.0, m.1 + at); now = l })) (stays.own read (λ r. r) (lying m s) (lying m t) places d alike at size (inl h) off c)
+      parses_in_place =
+          record {
+            alone = λ at size h off c. ap (λ (l : List ℕ). parse_of header read (record { ref_ptr = (m.0, m.1 + at); now = l })) (stays.own read (λ r. r) (lying m s) (lying m t) places d alike at size (inl h) off c);
+            with_behind = λ at size h off c.
+                sym (same_ok (parse_of header read (after (lying m s) at)))
+                ∙ stays.behind_alike read (λ r. r) (lying m s) (lying m t) places d alike header (λ at' size' e. ap (λ (l : List ℕ). map_ok (λ r. r) (read (record { ref_ptr = (m.0, m.1 + at' + 0); now = l }))) e) at size h off c
+                ∙ same_ok (parse_of header read (after (lying m t) at));
+          }
 
       pieces_in_place : PiecesStay (pieces read) (λ p. p) (lying m s) (lying m t) places
       pieces_in_place = stays.pieces_stay read (λ r. r) (lying m s) (lying m t) places d alike (λ p. p) (λ at r off.
@@ -163,10 +170,15 @@ module _ {R S : Type 0} (length_of : R → ℕ) (told : R → S) where
       parse_by e f h (Ok size) = alike (part e 0 size) (part f 0 size) (ap (λ (l : List ℕ). (part (record { ref_ptr = e.ref_ptr; now = l }) 0 size).now) h)
 
       parses_anywhere : ParsesStay (parse_of header read) (map_ok told) s t places
-      parses_anywhere at size h off c =
-          let e = stays.own read sized s t places d both at size (inl h) off c in
-          parse_by (part s at size) (part t at size) e (claim_of header (part s at size).now)
-          ∙ ap (λ (l : List ℕ). map_ok told (and_then (claim_of header l) (λ size'. read (part (part t at size) 0 size')))) e
+      parses_anywhere =
+          record {
+            alone = λ at size h off c.
+                let e = stays.own read sized s t places d both at size (inl h) off c in
+                parse_by (part s at size) (part t at size) e (claim_of header (part s at size).now)
+                ∙ ap (λ (l : List ℕ). map_ok told (and_then (claim_of header l) (λ size'. read (part (part t at size) 0 size')))) e;
+            with_behind = λ at size h off c.
+                stays.behind_alike read told s t places d (λ at' size' e. alike (part s at' size') (part t at' size') e) header (λ at' size' e. alike (part (after s at') 0 size') (part (after t at') 0 size') e) at size h off c;
+          }
 
       pieces_anywhere : PiecesStay (pieces read) (piece_tells header read length_of told) s t places
       pieces_anywhere = stays.pieces_stay read sized s t places d both (piece_tells header read length_of told) (λ at r off.
