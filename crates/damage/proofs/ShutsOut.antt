@@ -5,7 +5,7 @@ use borrow.Author.Tests.{eqb-true, eqb-false}
 use lib.Seq.{get_or-set_other}
 use Rattle.le.specs.Le.{le4}
 use Rattle.refusal.specs.declared.Refusal.{Refusal}
-use Rattle.entry.specs.Entry.{claim_at}
+use Rattle.entry.specs.Entry.{claim_at, claim_of}
 use Rattle.entry.specs.Walk.{steps, steps_from}
 use Rattle.entry.proofs.Alike.{among_cases}
 use Rattle.le.proofs.Laws.{not-both}
@@ -56,13 +56,16 @@ tenth (Some (Ok own)) = get_or own 9 0
 tenth (Some (Err why)) = 0
 
 pub damage_shuts_out : DamageShutsOut
-unfolding marked tenth le4 claim_at steps steps_from step_at piece_at pieces_from
+unfolding marked tenth le4 claim_at claim_of steps steps_from step_at piece_at pieces_from
 damage_shuts_out = record {
   ends = λ stay.
       let e : ◌≡◌ {A = ℕ} 5 10 = (stay (0, 0) good (set good 4 0) (0 ∷ []) first_differs).goes 0 (inl refl) in
       omega arith;
   past = λ stay.
       let e : ◌≡◌ {A = ℕ} 1 2 = ap (λ (x : Stepped (List ℕ)). tenth x.answer) ((stay (0, 0) good (set good 9 2) (5 ∷ []) next_differs).other 0 (inl refl) refl) in
+      omega arith;
+  parse = λ stay.
+      let e : ◌≡◌ {A = ℕ} 1 2 = ap (λ (x : Result (List ℕ) Refusal). tenth (Some x)) (stay (0, 0) good (set good 9 2) (5 ∷ []) next_differs 0 5 10 refl refl refl) in
       omega arith;
   next = λ stay.
       let e : ◌≡◌ {A = ℕ} 1 0 = ap length ((stay (0, 0) good (set good 4 0) (0 ∷ []) first_differs).entries) in

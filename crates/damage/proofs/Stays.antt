@@ -1,23 +1,31 @@
 -- What stays of an upload s where t differs from it inside the entries at some places: proved.
-use Rattle.std.proofs.Common.{ℕ, ◌-◌, ◌≡◌, inl, inr, refl, sym, ap, subst, ◌∙◌, Bool, true, false, List, map, filter, filter_map, length, arith, Bor, Option, Some, None, Result, Ok, Err, is_ok, option_map, if◌then◌else◌}
+use Rattle.std.proofs.Common.{ℕ, ◌-◌, ◌<◌, ◌≤◌, ◌≡◌, inl, inr, refl, sym, ap, subst, ◌∙◌, Bool, true, false, List, map, filter, filter_map, length, drop, arith, Bor, Option, Some, None, Result, Ok, Err, is_ok, option_map, if◌then◌else◌}
 use Rattle.std.specs.Prelude.{ltb, eqb}
 use Rattle.std.specs.List.{list_any}
+use Rattle.std.proofs.lemmas.List.{length-take}
+use Rattle.std.proofs.Common.{length-drop, min}
+use borrow.Author.Tests.{lt-ltb, ltb-true, ltb-false}
+use native.Mathlib.Nat.{add-zero}
+use Rattle.le.specs.Le.{le4}
 use Rattle.le.specs.Le as le
-use Rattle.le.proofs.Laws.{not-both}
+use Rattle.le.proofs.Laws.{not-both, part-part}
 use Rattle.part.specs.Slice.{part}
 use Rattle.part.specs.Outcome.{and_then}
 use Rattle.refusal.specs.Refusal.{limit, figures_of}
 use Rattle.refusal.specs.declared.Refusal.{Refusal}
 use Rattle.refusal.specs.declared.Refusal.TheVariants.{TooLarge, ZeroEntryLength}
 use Rattle.entry.specs.declared.Claimed.{Claimed}
-use Rattle.entry.specs.Entry.{claim_at}
+use Rattle.entry.specs.Entry.{claim_at, claim_of}
+use Rattle.entry.specs.DirectClaims.{IsClaimed, large as too_large, short as too_short, beyond as leads_beyond, below as too_low, whole}
+use Rattle.entry.proofs.DirectClaims.{direct_claims}
+use Rattle.entry.proofs.Direct.{own_claim}
 use Rattle.entry.specs.Walk.{stands, steps}
 use Rattle.entry.specs.Alike.{among, Reached, DiffersInside, IsWalkedAlike}
 use Rattle.entry.proofs.Claims.{meets}
 use Rattle.entry.proofs.Alike.{walked_alike, any_alike}
 use Rattle.walk.specs.Mapped.{map_ok}
 use Rattle.walk.specs.declared.Piece.{Piece}
-use Rattle.walk.specs.Step.{step_at}
+use Rattle.walk.specs.Step.{parse_of, step_at}
 use Rattle.walk.specs.Pieces.{piece_at, pieces, claim_there}
 use Rattle.walk.proofs.Left.{piece_starts}
 use Rattle.walk.proofs.Theorems.{pieces_are}
@@ -71,6 +79,28 @@ module _ {R S : Type 0} (told : R → S) where
   run_alike start end (Ok r) (Err why) e = absurd (let z : ◌≡◌ {A = ℕ} 0 1 = cc in omega arith)
   run_alike start end (Err why) (Ok r) e = absurd (let z : ◌≡◌ {A = ℕ} 0 1 = cc in omega arith)
 
+-- what a direct parse takes for an entry is what is claimed, a header at least, and there
+record IsTaken (header size : ℕ) (l : List ℕ) : Type 0 where
+  claim : size ≡ le4 l 0
+  long : header ≤ size
+  there : size ≤ length l
+
+taken_by : (header size : ℕ) (l : List ℕ) (c : Result ℕ Refusal) → IsClaimed header l c → c ≡ Ok size → IsTaken header size l
+taken_by header size l c (too_large a) h = absurd (let z : ◌≡◌ {A = ℕ} 0 1 = cc in omega arith)
+taken_by header size l c (too_short a b) h = absurd (let z : ◌≡◌ {A = ℕ} 0 1 = cc in omega arith)
+taken_by header size l c (leads_beyond a b d) h = absurd (let z : ◌≡◌ {A = ℕ} 0 1 = cc in omega arith)
+taken_by header size l c (too_low a b d g) h = absurd (let z : ◌≡◌ {A = ℕ} 0 1 = cc in omega arith)
+taken_by header size l c (whole a b d g) h = let is : size ≡ le4 l 0 = cc in record { claim = is; long = omega (arith, is, g); there = omega (arith, is, d) }
+
+-- bytes of one length are claimed alike, where they begin with the same number, and where they are too few
+claims_by : (header : ℕ) (k l : List ℕ) → length k ≡ length l → le4 k 0 ≡ le4 l 0 → claim_of header k ≡ claim_of header l
+unfolding claim_of
+claims_by header k l h e = simp (h, e)
+
+claims_short : (header : ℕ) (k l : List ℕ) → length k ≡ length l → length l < header → claim_of header k ≡ claim_of header l
+unfolding claim_of
+claims_short header k l h few = simp (h, lt-ltb (length l) header few)
+
 module _ {R S : Type 0} (read : Bor (List ℕ) → Result R Refusal) (told : R → S) (s t : Bor (List ℕ)) (places : List ℕ) (d : DiffersInside s.now t.now places)
     (alike : (at size : ℕ) → (part s at size).now ≡ (part t at size).now → map_ok told (read (part s at size)) ≡ map_ok told (read (part t at size))) where
   abbrev w : IsWalkedAlike s.now t.now places
@@ -80,6 +110,48 @@ module _ {R S : Type 0} (read : Bor (List ℕ) → Result R Refusal) (told : R �
   unfolding le.part
   own at size (inl h) off c = w.own at size h off c
   own at size (inr h) off c = absurd (omega (arith, h, (meets s.now at size c).four))
+
+  -- a direct parse of bytes from an entry's start on
+  parse_claim : (at n : ℕ) (c : Result ℕ Refusal) → ((size : ℕ) → c ≡ Ok size → map_ok told (read (part (part s at n) 0 size)) ≡ map_ok told (read (part (part t at n) 0 size)))
+      → map_ok told (and_then c (λ size. read (part (part s at n) 0 size))) ≡ map_ok told (and_then c (λ size. read (part (part t at n) 0 size)))
+  parse_claim at n (Err why) h = refl
+  parse_claim at n (Ok size) h = h size refl
+
+  as_long : (at n : ℕ) (u : Bor (List ℕ)) → length (part u at n).now ≡ min n (length u.now - at)
+  as_long at n u = length-take n (drop at u.now) ∙ ap (λ (k : ℕ). min n k) (length-drop at u.now)
+
+  begins_with : (at size n : ℕ) (u : Bor (List ℕ)) → (claim_at u.now at).size ≡ Some (Ok size) → 4 ≤ n → le4 (part u at n).now 0 ≡ size
+  unfolding le.part
+  begins_with at size n u c enough = own_claim u.now at n enough ∙ (meets u.now at size c).claim
+
+  inside : (at size n : ℕ) (u : Bor (List ℕ)) → size ≤ n → (part (part u at n) 0 size).now ≡ (part u at size).now
+  unfolding le.part
+  inside at size n u h = part-part u.now at n 0 size (omega (arith, h)) ∙ ap (λ (k : ℕ). le.part u.now k size) (add-zero at)
+
+  module _ (header : ℕ) (four : 4 < header) (at size n : ℕ) (r : among (steps s.now) at ≡ true) (off : among places at ≡ false) (c : (claim_at s.now at).size ≡ Some (Ok size)) where
+    other_claim : (claim_at t.now at).size ≡ Some (Ok size)
+    other_claim = ap (λ (x : Claimed). x.size) (sym (w.claim at (inl r))) ∙ c
+
+    as_long_both : length (part s at n).now ≡ length (part t at n).now
+    as_long_both = as_long at n s ∙ ap (λ (k : ℕ). min n (k - at)) d.long ∙ sym (as_long at n t)
+
+    claimed_by : (few : Bool) → ltb n 4 ≡ few → claim_of header (part s at n).now ≡ claim_of header (part t at n).now
+    claimed_by true e = claims_short header (part s at n).now (part t at n).now as_long_both (omega (arith, as_long at n t, ltb-true n 4 e, four))
+    claimed_by false e =
+        let room : 4 ≤ n = ltb-false n 4 e in
+        claims_by header (part s at n).now (part t at n).now as_long_both (begins_with at size n s c room ∙ sym (begins_with at size n t other_claim room))
+
+    pub parse_alike : ((k : ℕ) → (part (part s at n) 0 k).now ≡ (part (part t at n) 0 k).now → map_ok told (read (part (part s at n) 0 k)) ≡ map_ok told (read (part (part t at n) 0 k)))
+        → map_ok told (parse_of header read (part s at n)) ≡ map_ok told (parse_of header read (part t at n))
+    parse_alike same =
+        parse_claim at n (claim_of header (part s at n).now) (λ k e.
+        let x = taken_by header k (part s at n).now (claim_of header (part s at n).now) (direct_claims header (part s at n).now) e in
+        let room : 4 ≤ n = omega (arith, x.long, x.there, as_long at n s, four) in
+        let is : size ≡ k = sym (x.claim ∙ begins_with at size n s c room) in
+        let enough : size ≤ n = omega (arith, is, x.there, as_long at n s) in
+        let bytes : (part (part s at n) 0 size).now ≡ (part (part t at n) 0 size).now = inside at size n s enough ∙ own at size (inl r) off c ∙ sym (inside at size n t enough) in
+        same k (subst (λ (i : ℕ). (part (part s at n) 0 i).now ≡ (part (part t at n) 0 i).now) is bytes))
+        ∙ ap (λ (x : Result ℕ Refusal). map_ok told (and_then x (λ k. read (part (part t at n) 0 k)))) (claimed_by (ltb n 4) refl)
 
   -- steps
   by_claim : (at : ℕ) (c : Option (Result ℕ Refusal)) → ((size : ℕ) → c ≡ Some (Ok size) → (part s at size).now ≡ (part t at size).now)

@@ -1,13 +1,11 @@
 -- The theorems, proved.
-use Rattle.std.proofs.Common.{ℕ, ◌+◌, ◌-◌, ◌≡◌, inl, refl, sym, ap, ◌∙◌, List, [], ◌∷◌, ◌++◌, length, arith, Bor, Option, Some, None, Result, Ok, Err, option_map, filter_map, flat_map}
+use Rattle.std.proofs.Common.{ℕ, ◌+◌, ◌-◌, ◌<◌, ◌≡◌, refl, sym, ap, ◌∙◌, List, [], ◌∷◌, ◌++◌, length, arith, Bor, Option, Some, None, Result, Ok, Err, option_map, filter_map, flat_map}
 use mathlib.Core.Path.{ap₂}
 use Rattle.std.specs.List.{cons_option}
 use Rattle.le.specs.Le.{part as part_of}
 use Rattle.part.specs.Slice.{part}
-use Rattle.part.specs.Outcome.{and_then}
 use Rattle.refusal.specs.Refusal.{figures_of}
 use Rattle.refusal.specs.declared.Refusal.{Refusal}
-use Rattle.entry.specs.Entry.{claim_of}
 use Rattle.entry.specs.Alike.{DiffersInside}
 use Rattle.entry.proofs.Alike.{walked_alike}
 use Rattle.walk.specs.Mapped.{map_ok}
@@ -76,7 +74,7 @@ module _ {R : Type 0} where
       let is : a ≡ b = simp (e, f) in
       is
 
-  module _ (header : ℕ) (read : Bor (List ℕ) → Result R Refusal) (by_steps : BySteps read) where
+  module _ (header : ℕ) (four : 4 < header) (read : Bor (List ℕ) → Result R Refusal) (by_steps : BySteps read) where
     module _ (m : ℕ × ℕ) (s t places : List ℕ) (d : DiffersInside s t places) where
       alike : (at size : ℕ) → (part (lying m s) at size).now ≡ (part (lying m t) at size).now → map_ok (λ r. r) (read (part (lying m s) at size)) ≡ map_ok (λ r. r) (read (part (lying m t) at size))
       alike at size h = ap (λ (l : List ℕ). map_ok (λ r. r) (read (record { ref_ptr = (m.0, m.1 + at); now = l }))) h
@@ -93,7 +91,10 @@ module _ {R : Type 0} where
           }
 
       parses_in_place : ParsesStay (parse_of header read) (λ x. x) (lying m s) (lying m t) places
-      parses_in_place at size h off c = ap (λ (l : List ℕ). parse_of header read (record { ref_ptr = (m.0, m.1 + at); now = l })) (stays.own read (λ r. r) (lying m s) (lying m t) places d alike at size (inl h) off c)
+      parses_in_place at size n h off c =
+          sym (same_ok (parse_of header read (part (lying m s) at n)))
+          ∙ stays.parse_alike read (λ r. r) (lying m s) (lying m t) places d alike header four at size n h off c (λ k e. ap (λ (l : List ℕ). map_ok (λ r. r) (read (record { ref_ptr = (m.0, m.1 + at + 0); now = l }))) e)
+          ∙ same_ok (parse_of header read (part (lying m t) at n))
 
       pieces_in_place : PiecesStay (pieces read) (λ p. p) (lying m s) (lying m t) places
       pieces_in_place = stays.pieces_stay read (λ r. r) (lying m s) (lying m t) places d alike (λ p. p) (λ at r off.
@@ -131,7 +132,7 @@ module _ {R S : Type 0} (length_of : R → ℕ) (told : R → S) where
   first_of_ok (Ok r) = refl
   first_of_ok (Err why) = refl
 
-  module _ (header : ℕ) (read : Bor (List ℕ) → Result R Refusal) (by_steps : BySteps read)
+  module _ (header : ℕ) (four : 4 < header) (read : Bor (List ℕ) → Result R Refusal) (by_steps : BySteps read)
       (long : (e : Bor (List ℕ)) (r : R) → read e ≡ Ok r → length_of r ≡ length e.now)
       (alike : (e f : Bor (List ℕ)) → e.now ≡ f.now → map_ok told (read e) ≡ map_ok told (read f)) where
     sized_by : (e f : Bor (List ℕ)) (x y : Result R Refusal) → read e ≡ x → read f ≡ y → e.now ≡ f.now → map_ok told x ≡ map_ok told y → map_ok sized x ≡ map_ok sized y
@@ -158,15 +159,9 @@ module _ {R S : Type 0} (length_of : R → ℕ) (told : R → S) where
                 ∙ sym (sized_is (step_at read t at).cursor.at (step_at read t at).answer);
           }
 
-      parse_by : (e f : Bor (List ℕ)) → e.now ≡ f.now → (c : Result ℕ Refusal) → map_ok told (and_then c (λ size. read (part e 0 size))) ≡ map_ok told (and_then c (λ size. read (part f 0 size)))
-      parse_by e f h (Err why) = refl
-      parse_by e f h (Ok size) = alike (part e 0 size) (part f 0 size) (ap (λ (l : List ℕ). (part (record { ref_ptr = e.ref_ptr; now = l }) 0 size).now) h)
-
       parses_anywhere : ParsesStay (parse_of header read) (map_ok told) s t places
-      parses_anywhere at size h off c =
-          let e = stays.own read sized s t places d both at size (inl h) off c in
-          parse_by (part s at size) (part t at size) e (claim_of header (part s at size).now)
-          ∙ ap (λ (l : List ℕ). map_ok told (and_then (claim_of header l) (λ size'. read (part (part t at size) 0 size')))) e
+      parses_anywhere at size n h off c =
+          stays.parse_alike read told s t places d (λ at' size' e. alike (part s at' size') (part t at' size') e) header four at size n h off c (λ k e. alike (part (part s at n) 0 k) (part (part t at n) 0 k) e)
 
       pieces_anywhere : PiecesStay (pieces read) (piece_tells header read length_of told) s t places
       pieces_anywhere = stays.pieces_stay read sized s t places d both (piece_tells header read length_of told) (λ at r off.

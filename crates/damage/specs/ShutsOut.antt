@@ -1,4 +1,4 @@
--- docs/FORMAT.md, "One bad entry". Wrong versions of a walk, of a step and of a salvage, which what stays shuts out.
+-- docs/FORMAT.md, "One bad entry". Wrong versions of a walk, of a step, of a direct parse and of a salvage, which what stays shuts out.
 use Rattle.std.specs.Prelude.{ℕ, ◌+◌, Bool, false, List, [], ◌∷◌, Option, Some, None, Result, Ok, Err, is_err, eqb, get_or, length, option_map, if◌then◌else◌}
 use Rattle.std.specs.List.{cons_option}
 use Rattle.std.specs.Borrow.{Bor}
@@ -6,13 +6,13 @@ use Rattle.part.specs.Slice.{part}
 use Rattle.part.specs.Outcome.{and_then}
 use Rattle.refusal.specs.declared.Refusal.{Refusal}
 use Rattle.refusal.specs.declared.Refusal.TheVariants.{TooShort}
-use Rattle.entry.specs.Entry.{claim_at}
+use Rattle.entry.specs.Entry.{claim_at, claim_of}
 use Rattle.walk.specs.declared.Piece.{Piece}
 use Rattle.walk.specs.declared.Stepped.{Stepped}
 use Rattle.walk.specs.Step.{step_at}
 use Rattle.walk.specs.Pieces.{pieces}
 use Rattle.walk.specs.Theorems.{cursor_of}
-use Rattle.damage.specs.Stays.{StepsStay}
+use Rattle.damage.specs.Stays.{StepsStay, ParsesStay}
 use Rattle.damage.specs.Salvaged.{Kept, kept_of, dropped_runs, SalvageStays}
 use Rattle.damage.specs.Theorems.{InPlace}
 
@@ -38,6 +38,10 @@ module _ {R : Type 0} (read : Bor (List ℕ) → Result R Refusal) where
         cursor = record { at = (claim_at s.now at).next };
       }
 
+  -- a direct parse that looks past its entry likewise
+  abbrev pub parses_past : Bor (List ℕ) → Result R Refusal
+  parses_past s = and_then (claim_of 5 s.now) (λ size. read (part s 0 (size + 5)))
+
   -- a salvage that drops what follows upon what it drops
   abbrev pub kept_behind : List ℕ → Bool → List (Piece R) → List Kept
   kept_behind s dropped [] = []
@@ -53,4 +57,5 @@ marked e = if eqb (get_or e.now 4 0) 0 then Err (TooShort 5 4) else Ok e.now
 pub record DamageShutsOut : Type 0 where
   pub ends : InPlace (StepsStay (ends_at_refused marked) cursor_of (λ x. x)) → ⊥
   pub past : InPlace (StepsStay (looks_past marked) cursor_of (λ x. x)) → ⊥
+  pub parse : InPlace (ParsesStay (parses_past marked) (λ x. x)) → ⊥
   pub next : InPlace (SalvageStays (drops_the_next marked) (dropped_runs marked)) → ⊥

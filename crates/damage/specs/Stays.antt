@@ -1,4 +1,4 @@
--- docs/FORMAT.md, "One bad entry". What stays as it is of an upload s where t differs from it inside the entries at some places: the steps, the pieces and the index.
+-- docs/FORMAT.md, "One bad entry". What stays as it is of an upload s where t differs from it inside the entries at some places: the steps, the direct parses, the pieces and the index.
 use Rattle.std.specs.Prelude.{ℕ, ◌≡◌, true, false, List, map, Some, Result, Ok, Err}
 use Rattle.std.specs.Borrow.{Bor}
 use Rattle.part.specs.Slice.{part}
@@ -16,10 +16,11 @@ pub record StepsStay {T S : Type 0} (step : Bor (List ℕ) → ℕ → T) (curso
   pub goes : (at : ℕ) → Reached s.now at → cursor (step s at) ≡ cursor (step t at)
   pub other : (at : ℕ) → Reached s.now at → among places at ≡ false → told (step s at) ≡ told (step t at)
 
--- where a step finds an entry's own bytes, but at those places, a direct parse of them tells the same
+-- where a step finds an entry's own bytes, but at those places, a direct parse of however many bytes from there on tells the same: of the entry's own alone, of fewer, and
+-- of these with what stands behind them, be it damaged or not
 abbrev pub ParsesStay : {T S : Type 0} → (Bor (List ℕ) → T) → (T → S) → Bor (List ℕ) → Bor (List ℕ) → List ℕ → Type 0
 ParsesStay parse told s t places =
-    (at size : ℕ) → among (steps s.now) at ≡ true → among places at ≡ false → (claim_at s.now at).size ≡ Some (Ok size) → told (parse (part s at size)) ≡ told (parse (part t at size))
+    (at size n : ℕ) → among (steps s.now) at ≡ true → among places at ≡ false → (claim_at s.now at).size ≡ Some (Ok size) → told (parse (part s at n)) ≡ told (parse (part t at n))
 
 -- the pieces: each begins and ends where it did, and all but those at the entries that differ tell the same, in order
 pub record PiecesStay {R S : Type 0} (pieces : Bor (List ℕ) → List (Piece R)) (told : Piece R → S) (s t : Bor (List ℕ)) (places : List ℕ) : Type 0 where

@@ -41,7 +41,7 @@ pub fn stays_anywhere<'a, K: Telling<'a>>()
     ensures { (mode : Mode) → StaysAnywhere K.Record.HEADER (K.Record.read mode) K.Record.length_of K.told }
 {}
 
-/// A walk that ends at a refused entry, a step that looks past its entry, and a salvage that drops what follows upon what it drops, are not what these theorems allow.
+/// A walk that ends at a refused entry, a step and a direct parse that look past their entry, and a salvage that drops what follows upon what it drops, are not what these theorems allow.
 pub fn damage_shuts_out()
     ensures { DamageShutsOut }
 {}

@@ -78,7 +78,7 @@ pub struct Member<'a> {
 
 /// A sub-item, by its front and its array records alone.
 #[derive(Clone, Copy, Debug)]
-pub(crate) struct Item<'a> {
+pub struct Item<'a> {
     /// The own bytes of its entry.
     pub own: &'a [u8],
     /// The offset that its header tells.

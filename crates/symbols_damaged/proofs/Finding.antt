@@ -1,5 +1,5 @@
 -- What is found where another upload differs inside some entries: proved.
-use Rattle.std.proofs.Common.{ℕ, ◌≤◌, ◌≡◌, inl, inr, subst, refl, sym, ap, ◌∙◌, Bool, true, false, List, [], ◌∷◌, ◌++◌, length, filter, Bor, Option, Some, None, Result, Ok, Err, option_map, ok_or, if◌then◌else◌}
+use Rattle.std.proofs.Common.{ℕ, ◌≤◌, ◌≡◌, inl, inr, subst, refl, sym, ap, ◌∙◌, Bool, true, false, List, [], ◌∷◌, ◌++◌, length, filter, arith, Bor, Option, Some, None, Result, Ok, Err, option_map, ok_or, if◌then◌else◌}
 use Rattle.std.specs.Prelude.{ltb, eqb, nat_eq}
 use Rattle.std.specs.List.{find as first_of, list_any}
 use Rattle.std.specs.Cmp.Lexicographic.{pointwise}
@@ -180,7 +180,7 @@ module _ (mode : Mode) (s t : Bor (List ℕ)) (places name : List ℕ) (d : Diff
       let f = found_is_first.walk mode s name at h in
       let off = elsewhere at (among places at) refl f.has in
       let r : among (steps s.now) at ≡ true = ap (λ (l : List ℕ). among l at) f.among ∙ among_middle f.before at f.behind in
-      let stay = stays_anywhere_of (λ (r : AdsSymbolInfo). r.length) told_of 30 (symbol_of mode) (by_symbols mode) (kind.long mode) (symbols_anywhere mode) in
+      let stay = stays_anywhere_of (λ (r : AdsSymbolInfo). r.length) told_of 30 (omega arith) (symbol_of mode) (by_symbols mode) (kind.long mode) (symbols_anywhere mode) in
       record {
         elsewhere = off;
         symbol = (stay.step s t places d).other at (inl r) off;

@@ -37,7 +37,7 @@ flat_map-rows line (p ∷ ps) = ap (λ (l : List ℕ). row line p ++ l) (flat_ma
 
 pub listing_stays : ListingStays rows_of
 listing_stays mode line s t places d =
-    let p = (stays_in_place_of 30 (symbol_of mode) (by_symbols mode)).piece (0, 0) s t places d in
+    let p = (stays_in_place_of 30 (omega arith) (symbol_of mode) (by_symbols mode)).piece (0, 0) s t places d in
     let same : others (λ p. p.start) places (pieces (symbol_of mode) (lying s)) ≡ others (λ p. p.start) places (pieces (symbol_of mode) (lying t)) = sym (map-id _) ∙ p.other ∙ map-id _ in
     record {
       starts = map-starts line (pieces (symbol_of mode) (lying s)) ∙ p.starts ∙ sym (map-starts line (pieces (symbol_of mode) (lying t)));

@@ -1,45 +1,34 @@
 -- docs/FORMAT.md, "One bad entry" and "Data type entries". What a data type tells does not depend on where it lies in memory.
-use Rattle.std.proofs.Common.{◌≡◌, ℕ, zero, suc, ◌+◌, ◌*◌, ◌⊎◌, inl, inr, Bool, true, false, List, [], ◌∷◌, length, refl, sym, ap, ◌∙◌, Bor}
+use Rattle.std.proofs.Common.{◌≡◌, ℕ, zero, suc, ◌+◌, ◌-◌, ◌*◌, ◌⊎◌, inl, inr, Bool, true, false, List, [], ◌∷◌, ◌++◌, length, map, refl, sym, ap, ap₂, ◌∙◌, Bor}
 use Rattle.std.specs.Prelude.{Option, Result, Ok, Err, ltb, if◌then◌else◌}
+use Rattle.std.proofs.lemmas.List.{map-append}
 use Rattle.le.specs.Le.{le2, le4}
 use Rattle.part.specs.Slice.{part, after}
 use Rattle.part.specs.Outcome.{and_then}
 use Rattle.refusal.specs.declared.Mode.{Mode}
+use Rattle.refusal.specs.declared.Mode.TheVariants.{Present}
 use Rattle.refusal.specs.declared.Refusal.{Refusal}
 use Rattle.refusal.specs.declared.Refusal.TheVariants.{TooShort, EntryLengthMismatch, ClaimBelowHeader, TooDeep}
 use Rattle.walk.specs.Mapped.{map_ok}
 use Rattle.attribute.specs.declared.Attributes.{Attributes}
 use Rattle.attribute.specs.Told as attributes
 use Rattle.field.specs.declared.tail.Tail.{Tail}
-use Rattle.field.specs.Front.{with_strings}
+use Rattle.field.specs.Front.{with_strings, front_of}
 use Rattle.field.specs.Tail.{tail_of}
 use Rattle.field.specs.Told as field
 use Rattle.data_type.specs.declared.AdsDataTypeInfo.{AdsDataTypeInfo}
 use Rattle.data_type.specs.declared.array.AdsArrayInfo.{AdsArrayInfo}
 use Rattle.data_type.specs.declared.array.ArrayInfos.{ArrayInfos}
+use Rattle.data_type.specs.declared.members.Item.{Item}
+use Rattle.data_type.specs.declared.members.Member.{Member}
+use Rattle.data_type.specs.declared.members.Position.{Position}
 use Rattle.data_type.specs.declared.reader.Items.{Items}
 use Rattle.data_type.specs.Array.{listed, first_of}
+use Rattle.data_type.specs.Members.{root, below, item_in, each, members_below}
 use Rattle.data_type.specs.DataType.{joined, taken, ItemReader, items_from, arrays_of, sub_items_of, type_with, too_deep, item_by, type_at, levels, type_of}
 use Rattle.data_type.specs.Theorems.{as_field}
+use Rattle.types_regrown.specs.Told.{ToldMember, told_member, Told, told_of}
 use Rattle.types_damaged.specs.Anywhere.{moved, on, tail_moved, front_moved, attributes_at, attributes_told}
-
--- all that a data type tells: what a field tells, its array records, how many members it says that it has, and the bytes from its first sub-item on, with how many these are
-pub record Told : Type 0 where
-  pub field : field.Told
-  pub arrays : List AdsArrayInfo
-  pub member_count : ℕ
-  pub sub_items : List ℕ
-  pub sub_item_count : ℕ
-
-abbrev pub told_of : AdsDataTypeInfo → Told
-told_of r =
-    record {
-      field = field.told_of (as_field r);
-      arrays = listed r.arrays.bytes r.arrays.count;
-      member_count = r.member_count;
-      sub_items = r.sub_items.bytes.now;
-      sub_item_count = r.sub_items.count;
-    }
 
 -- array records
 arrays_told : (m : ℕ × ℕ) (s : Bor (List ℕ)) (n : ℕ) → listed (moved m s) n ≡ listed s n
@@ -85,6 +74,67 @@ taken_moved : (m : ℕ × ℕ) (s : Bor (List ℕ)) → Taken m s (taken (moved 
 unfolding taken
 taken_moved m s = taken_by m s (ltb (length s.now) 4) (ltb (length s.now) (le4 s.now 0)) (ltb (le4 s.now 0) 42) (TooShort 4 (length s.now)) (EntryLengthMismatch (le4 s.now 0) (length s.now)) (ClaimBelowHeader 42 (le4 s.now 0))
 
+-- a sub-item by its front and its array records
+abbrev item_at : ℕ × ℕ → ℕ × ℕ → ℕ × ℕ → Item → Item
+item_at a b c i = record { own = moved a i.own; offset = i.offset; first = moved b i.first; count = i.count; behind = moved c i.behind }
+
+abbrev ItemsIn : Result Item Refusal → Result Item Refusal → Type 0
+ItemsIn x y = ((why : Refusal) × (x ≡ Err why) × (y ≡ Err why)) ⊎ ((a : ℕ × ℕ) × (b : ℕ × ℕ) × (c : ℕ × ℕ) × (i : Item) × (x ≡ Ok (item_at a b c i)) × (y ≡ Ok i))
+
+item_front : (m : ℕ × ℕ) (e : Bor (List ℕ)) (n t k : ℕ) (c : ℕ × ℕ) (behind : Bor (List ℕ))
+    → ItemsIn
+    (and_then (arrays_of (with_strings (moved m e) n t k)) (λ a. Ok (record { own = moved m e; offset = (with_strings (moved m e) n t k).offset; first = a.1; count = (with_strings (moved m e) n t k).sub_item_count; behind = moved c behind })))
+    (and_then (arrays_of (with_strings e n t k)) (λ a. Ok (record { own = e; offset = (with_strings e n t k).offset; first = a.1; count = (with_strings e n t k).sub_item_count; behind = behind })))
+unfolding with_strings
+item_front m e n t k c behind = elim (arrays_moved m e n t k) [
+  | inl w ↦ rw (w.1, w.2) (inl (w.0, refl, refl))
+  | inr w ↦ rw (w.0, w.1) (inr (m, on (on m (45 + n + t + k)) (8 * le2 e.now 38), c, record { own = e; offset = le4 e.now 20; first = after (after e (45 + n + t + k)) (8 * le2 e.now 38); count = le2 e.now 40; behind = behind }, refl, refl))
+]
+
+item_own : (m : ℕ × ℕ) (e : Bor (List ℕ)) (c : ℕ × ℕ) (behind : Bor (List ℕ))
+    → ItemsIn
+    (and_then (front_of Present (moved m e)) (λ f. and_then (arrays_of f) (λ a. Ok (record { own = moved m e; offset = f.offset; first = a.1; count = f.sub_item_count; behind = moved c behind }))))
+    (and_then (front_of Present e) (λ f. and_then (arrays_of f) (λ a. Ok (record { own = e; offset = f.offset; first = a.1; count = f.sub_item_count; behind = behind }))))
+item_own m e c behind = elim (front_moved Present m e) [
+  | inl w ↦ rw (w.1, w.2) (inl (w.0, refl, refl))
+  | inr w ↦ rw (w.0, w.1) (item_front m e (le2 e.now 32) (le2 e.now 34) (le2 e.now 36) c behind)
+]
+
+item_moved : (m : ℕ × ℕ) (s : Bor (List ℕ)) → ItemsIn (item_in (moved m s)) (item_in s)
+unfolding item_in
+item_moved m s = elim (taken_moved m s) [
+  | inl w ↦ rw (w.1, w.2) (inl (w.0, refl, refl))
+  | inr w ↦ rw (w.0, w.1) (item_own (on m 0) (part s 0 (le4 s.now 0)) (on m (le4 s.now 0)) (after s (le4 s.now 0)))
+]
+
+-- the members of an entry, by what one at a place brings
+module _ (brings : ℕ → Item → List Member) (alike : (a b c : ℕ × ℕ) (place : ℕ) (i : Item) → map told_member (brings place (item_at a b c i)) ≡ map told_member (brings place i)) (end : ℕ) where
+  each_by : (n place : ℕ) (a b c : ℕ × ℕ) (i : Item) → map told_member (each brings end (moved c i.behind) n) ≡ map told_member (each brings end i.behind n)
+      → map told_member (brings place (item_at a b c i) ++ each brings end (moved c i.behind) n) ≡ map told_member (brings place i ++ each brings end i.behind n)
+  each_by n place a b c i on =
+      map-append told_member (brings place (item_at a b c i)) (each brings end (moved c i.behind) n)
+      ∙ ap₂ (λ (x y : List ToldMember). x ++ y) (alike a b c place i) on
+      ∙ sym (map-append told_member (brings place i) (each brings end i.behind n))
+
+  each_moved : (n : ℕ) (m : ℕ × ℕ) (s : Bor (List ℕ)) → map told_member (each brings end (moved m s) n) ≡ map told_member (each brings end s n)
+  unfolding each
+  each_moved zero m s = refl
+  each_moved (suc n) m s = elim (item_moved m s) [
+    | inl w ↦ rw (w.1, w.2) refl
+    | inr w ↦ rw (w.4, w.5) (each_by n (end - length s.now) w.0 w.1 w.2 w.3 (each_moved n w.2 w.3.behind))
+  ]
+
+members_told : (left : ℕ) (above : Position) (end : ℕ) (m : ℕ × ℕ) (s : Bor (List ℕ)) (count : ℕ) → map told_member (members_below left above end (moved m s) count) ≡ map told_member (members_below left above end s count)
+unfolding members_below
+members_told zero above end m s count = refl
+members_told (suc left) above end m s count =
+    each_moved
+    (λ place item. let p : Position = below above place item.offset in record { position = p; own = item.own } ∷ members_below left p (place + length item.own.now) item.first item.count)
+    (λ a b c place i.
+    let p : Position = below above place i.offset in
+    ap (λ (l : List ToldMember). record { position = p; own = i.own.now } ∷ l) (members_told left p (place + length i.own.now) b i.first i.count))
+    end count m s
+
 -- a sub-item as it is read, and so many of them
 abbrev Read : Result (AdsDataTypeInfo × Bor (List ℕ)) Refusal → Result (AdsDataTypeInfo × Bor (List ℕ)) Refusal → Type 0
 Read x y =
@@ -128,8 +178,10 @@ module _ (mode : Mode) (m : ℕ × ℕ) (e : Bor (List ℕ)) (n t k : ℕ) where
   unfolding with_strings
   joined_told members g l x =
       let r : AdsDataTypeInfo = joined (with_strings e n t k) (arrays_in (le2 e.now 38) rest) (sub_items_of (with_strings e n t k) (after rest (8 * le2 e.now 38))) members (tail_made g x) in
-      ap (λ (all : List attributes.Told). record (told_of r) { field = record (field.told_of (as_field r)) { attributes = all }; arrays = listed (part (moved there rest) 0 (8 * le2 e.now 38)) (le2 e.now 38) }) (attributes_told l x.bytes x.count)
-      ∙ ap (λ (all : List AdsArrayInfo). record (told_of r) { arrays = all }) (arrays_told (on there 0) (part rest 0 (8 * le2 e.now 38)) (le2 e.now 38))
+      ap (λ (all : List attributes.Told). record (told_of r) { field = record (field.told_of (as_field r)) { attributes = all }; arrays = listed (part (moved there rest) 0 (8 * le2 e.now 38)) (le2 e.now 38); members = map told_member (members_below levels root (length e.now) (after (moved there rest) (8 * le2 e.now 38)) (le2 e.now 40)) }) (attributes_told l x.bytes x.count)
+      ∙ ap₂ (λ (all : List AdsArrayInfo) (ms : List ToldMember). record (told_of r) { arrays = all; members = ms })
+      (arrays_told (on there 0) (part rest 0 (8 * le2 e.now 38)) (le2 e.now 38))
+      (members_told levels root (length e.now) (on there (8 * le2 e.now 38)) (after rest (8 * le2 e.now 38)) (le2 e.now 40))
 
   type_tail : (members : ℕ) (a b : Result Tail Refusal) (p : ℕ × ℕ) (s : Bor (List ℕ)) → tail_of mode (with_strings (moved m e) n t k) (moved p s) ≡ a → tail_of mode (with_strings e n t k) s ≡ b
       → Types
@@ -165,7 +217,7 @@ module _ (mode : Mode) where
     | inl w ↦ rw (w.1, w.2) (inl (w.0, refl, refl))
     | inr w ↦ rw (w.0, w.1) (elim (alike (on m 0) (part s 0 (le4 s.now 0))) [
       | inl v ↦ rw (v.1, v.2) (inl (v.0, refl, refl))
-      | inr v ↦ rw (v.2, v.3) (inr (on m (le4 s.now 0), v.0, v.1, after s (le4 s.now 0), refl, refl, ap (λ (x : Told). x.member_count) v.4))
+      | inr v ↦ rw (v.2, v.3) (inr (on m (le4 s.now 0), v.0, v.1, after s (le4 s.now 0), refl, refl, ap (λ (x : Told). x.count) v.4))
     ])
   ]
 

@@ -5,7 +5,8 @@ ghost use Rattle.refusal.specs.declared.Mode.{Mode};
 ghost use Rattle.damage.specs.Theorems.{StaysInPlace, StaysAnywhere};
 ghost use Rattle.field.specs.Field.{field_of};
 ghost use Rattle.field.specs.Told.{Told as FieldTold, told_of as field_told};
-ghost use Rattle.types_damaged.specs.TypesAnywhere.{Told as TypeTold, told_of as type_told, types_anywhere};
+ghost use Rattle.types_regrown.specs.Told.{Told as TypeTold, told_of as type_told};
+ghost use Rattle.types_damaged.specs.TypesAnywhere.{types_anywhere};
 ghost use Rattle.types_damaged.specs.Anywhere.{fields_anywhere};
 ghost use Rattle.data_type.specs.DataType.{type_of};
 
@@ -26,7 +27,7 @@ impl<'a> Telling<'a> for TellingFields {
     ghost alike = { fields_anywhere };
 }
 
-/// Data types, with what they tell: a field, array records, and the bytes of the sub-items.
+/// Data types, with what they tell: a field, array records, and the members.
 pub struct TellingTypes;
 
 impl<'a> Telling<'a> for TellingTypes {
