@@ -195,6 +195,7 @@ field_told mode e r h =
       type_name_len = n.type_name;
       comment_len = n.comment;
       guid_told = guid_told r.guid;
+      attributes_at = refl;
       attributes = list_told mode e r h;
       attribute_count = refl;
     }

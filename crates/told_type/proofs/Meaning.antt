@@ -76,6 +76,7 @@ type_told mode e r h =
         type_name_len = f.type_name_len;
         comment_len = f.comment_len;
         guid_told = f.guid_told;
+        attributes_at = f.attributes_at;
         attributes = f.attributes;
         attribute_count = f.attribute_count;
       };
