@@ -17,7 +17,8 @@ use Rattle.field.specs.Field.{field_of}
 use Rattle.field.specs.Within.{IsWithin}
 use Rattle.field.proofs.Within.{fields_within, list_place}
 use Rattle.places.specs.declared.of_field.PlacedField.{PlacedField}
-use Rattle.places.specs.Field.{attributes_at, placed, placed_of}
+use Rattle.field.specs.Placed.{attributes_from}
+use Rattle.places.specs.Field.{placed, placed_of}
 use Rattle.places.specs.FieldKind.{read_of}
 use Rattle.places.proofs.Fields.{placed_is}
 use Rattle.told.specs.Slots.{bit, guid_bytes, symbol_slots, field_slots}
@@ -164,11 +165,11 @@ module _ (mode : Mode) (e : Bor (List ℕ)) (r : AdsFieldInfo) (h : field_of mod
       }
 
   -- the list begins at the place that is told, if it has a byte
-  pub list_told : 0 < length r.attributes.bytes.now → after e (attributes_at e.now) ≡ r.attributes.bytes
+  pub list_told : 0 < length r.attributes.bytes.now → after e (attributes_from e.now) ≡ r.attributes.bytes
   list_told some =
       let l = list_place mode e r h in
       let long : length r.attributes.bytes.now ≡ length e.now - l.at = ap (λ (s : Bor (List ℕ)). length s.now) l.is ∙ length-drop l.at e.now in
-      let at : attributes_at e.now ≡ l.at = sym (placed_is mode e r h) ∙ simp (lt-ltb 0 (length r.attributes.bytes.now) some) (omega (arith, long, l.fits, some)) in
+      let at : attributes_from e.now ≡ l.at = sym (placed_is mode e r h) ∙ simp (lt-ltb 0 (length r.attributes.bytes.now) some) (omega (arith, long, l.fits, some)) in
       ap (after e) at ∙ sym l.is
 
 -- of a field with its place
@@ -194,6 +195,7 @@ field_told mode e r h =
       type_name_len = n.type_name;
       comment_len = n.comment;
       guid_told = guid_told r.guid;
+      attributes_at = refl;
       attributes = list_told mode e r h;
       attribute_count = refl;
     }

@@ -1,21 +1,27 @@
 -- docs/FORMAT.md, "Symbol entries", "Field entries", "Attributes" and "Refactor records": what the slots of a record say of the bytes that it was read from,
 -- slot by slot, as bindings/c/vindaskot.h numbers them. A string, and what a list is read from, are the part of the bytes at the place told.
-use Rattle.std.specs.Prelude.{ℕ, ◌-◌, ◌<◌, ◌≡◌, if◌then◌else◌, List, Option, Some, None, Ok, Contains, get_or, length, replicate}
+use Rattle.std.specs.Prelude.{ℕ, ◌-◌, ◌<◌, ◌≡◌, if◌then◌else◌, List, Option, Some, None, Ok, Err, Contains, get_or, length, replicate}
 use Rattle.std.specs.Borrow.{Bor}
 use Rattle.le.specs.Le.{le2, le4}
 use Rattle.part.specs.Slice.{part, after}
+use Rattle.refusal.specs.Refusal.{numbered, figures_of}
 use Rattle.refusal.specs.declared.Mode.{Mode}
+use Rattle.refusal.specs.declared.Refusal.{Refusal}
 use Rattle.attribute.specs.declared.AdsAttribute.{AdsAttribute}
 use Rattle.attribute.specs.Attribute as attribute
 use Rattle.refactor.specs.declared.AdsRefactorInfo.{AdsRefactorInfo}
+use Rattle.refactor.specs.declared.RefactorInfos.{RefactorInfos}
 use Rattle.refactor.specs.Refactor as refactor
 use Rattle.flags.specs.declared.symbol_flags.AdsSymbol2Flags.{AdsSymbol2Flags}
 use Rattle.symbol.specs.declared.AdsSymbolInfo.{AdsSymbolInfo}
 use Rattle.symbol.specs.Symbol.{symbol_of}
 use Rattle.field.specs.declared.AdsFieldInfo.{AdsFieldInfo}
+use Rattle.field.specs.Placed.{attributes_from}
+use Rattle.places.specs.Alone.{chain_read}
 use Rattle.places.specs.Places.{attribute_places, refactor_places}
 use Rattle.places.specs.declared.of_field.PlacedField.{PlacedField}
 use Rattle.places.specs.Field.{placed_of}
+use Rattle.told.specs.Told.{numbers_told}
 use Rattle.told.specs.Slots.{symbol_slots, symbol_guid, field_slots, field_guid, attribute_slots, refactor_slots}
 
 -- 0 and 16 zeros where there is no GUID, else 1 and its bytes
@@ -54,7 +60,8 @@ pub record SymbolTold (e : Bor (List ℕ)) (r : AdsSymbolInfo) (slot : ℕ → �
 abbrev pub SymbolsTold : Type 0
 SymbolsTold = (mode : Mode) (e : Bor (List ℕ)) (r : AdsSymbolInfo) → symbol_of mode e ≡ Ok r → SymbolTold e r (λ k. get_or (symbol_slots r) k 0) (symbol_guid r)
 
--- a field likewise. Where its list has no byte, and so no attribute, the place may lie past the entry
+-- a field likewise. Its list lies from the place on where the headers and lengths before it lead; where it has no byte, and so no attribute, this may lie past the
+-- entry
 pub record FieldTold (e : Bor (List ℕ)) (r : AdsFieldInfo) (slot : ℕ → ℕ) (guid : List ℕ) : Type 0 where
   pub whole : slot 0 ≡ length e.now
   pub version : slot 1 ≡ le4 e.now 4
@@ -71,6 +78,7 @@ pub record FieldTold (e : Bor (List ℕ)) (r : AdsFieldInfo) (slot : ℕ → ℕ
   pub type_name_len : slot 11 ≡ le2 e.now 34
   pub comment_len : slot 13 ≡ le2 e.now 36
   pub guid_told : GuidTold r.guid (slot 14) guid
+  pub attributes_at : slot 15 ≡ attributes_from e.now
   pub attributes : 0 < length r.attributes.bytes.now → after e (slot 15) ≡ r.attributes.bytes
   pub attribute_count : slot 16 ≡ r.attributes.count
 
@@ -100,3 +108,14 @@ abbrev pub RefactorsTold : Type 0
 RefactorsTold =
     (e : Bor (List ℕ)) (at count : ℕ) (r : AdsRefactorInfo) → Contains (refactor.listed (after e at) count) r
     → RefactorTold e r (λ k. get_or (refactor_slots (refactor_places e r)) k 0)
+
+-- a chain that stands alone: how many records it has, and the place from which on what is left after it lies
+pub record ChainTold (mode : Mode) (s : Bor (List ℕ)) (p : RefactorInfos × Bor (List ℕ)) : Type 0 where
+  pub place : ℕ
+  pub rest : after s place ≡ p.1
+  pub told : numbers_told (chain_read mode s) ≡ numbered 0 p.0.count place
+
+-- and a refusal as it is
+pub record ChainsTold : Type 0 where
+  pub accepted : (mode : Mode) (s : Bor (List ℕ)) (p : RefactorInfos × Bor (List ℕ)) → refactor.chain_alone mode s ≡ Ok p → ChainTold mode s p
+  pub refused : (mode : Mode) (s : Bor (List ℕ)) (why : Refusal) → refactor.chain_alone mode s ≡ Err why → numbers_told (chain_read mode s) ≡ figures_of why

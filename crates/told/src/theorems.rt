@@ -1,6 +1,7 @@
 // The theorems, as the contracts of functions that do nothing.
 ghost use Rattle.told.specs.One.{OneTelling, OneWriting, OneWritingBoth};
-ghost use Rattle.told.specs.Meaning.{SymbolsTold, FieldsTold, AttributesTold, RefactorsTold};
+ghost use Rattle.told.specs.Lent.{LentKept};
+ghost use Rattle.told.specs.Meaning.{SymbolsTold, FieldsTold, AttributesTold, RefactorsTold, ChainsTold};
 
 /// Two statuses and two answers that one promise allows are equal.
 pub fn one_telling()
@@ -15,6 +16,11 @@ pub fn one_writing()
 /// And of two lent buffers.
 pub fn one_writing_both()
     ensures { OneWritingBoth }
+{}
+
+/// Lent slots, GUID bytes and places of a path are written over by what was found; a refusal and a step at the end leave them as they were.
+pub fn lent_kept<A>()
+    ensures { LentKept A }
 {}
 
 /// Each slot of a symbol says what the bytes of its entry say: a number at its place, a string or a list by its own place.
@@ -35,4 +41,9 @@ pub fn attributes_told()
 /// And of a refactor record.
 pub fn refactors_told()
     ensures { RefactorsTold }
+{}
+
+/// Of a chain the two numbers are how many records it has, and the place after them.
+pub fn chains_told()
+    ensures { ChainsTold }
 {}

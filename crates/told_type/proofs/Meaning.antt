@@ -4,8 +4,10 @@ use Rattle.std.specs.Prelude.{Some, None, Option, ok_or, slice_get}
 use Rattle.std.proofs.lemmas.Bool.{cases_lt}
 use Rattle.le.specs.Le.{le2}
 use Rattle.part.specs.Slice.{part, after}
+use Rattle.part.specs.Outcome.{and_then}
 use Rattle.refusal.specs.declared.Mode.{Mode}
 use Rattle.refusal.specs.declared.Refusal.{Refusal}
+use Rattle.refusal.specs.declared.Refusal.TheVariants.{NoSuchNumber}
 use Rattle.walk.specs.Step.{parse_of}
 use Rattle.field.specs.declared.front.Front.{Front}
 use Rattle.field.specs.Front.{with_strings, front_of}
@@ -30,6 +32,7 @@ use Rattle.told.specs.Slots.{field_slots}
 use Rattle.told.proofs.Meaning.{field_told}
 use Rattle.told.proofs.Parts.{part_after}
 use Rattle.told_type.specs.declared.PlacedMember.{PlacedMember}
+use Rattle.told_type.specs.Asked.{type_member}
 use Rattle.told_type.specs.Slots.{type_slots, type_guid, array_slots, member_slots, member_guid, path_slots}
 use Rattle.told_type.specs.Meaning.{TypeTold, TypesTold, ArraysTold, MemberTold, MembersTold}
 
@@ -76,6 +79,7 @@ type_told mode e r h =
         type_name_len = f.type_name_len;
         comment_len = f.comment_len;
         guid_told = f.guid_told;
+        attributes_at = f.attributes_at;
         attributes = f.attributes;
         attribute_count = f.attribute_count;
       };
@@ -115,31 +119,51 @@ numbered_at (Some x) why m h = let is : x ≡ m = cc in ap Some is
 numbered_at None why m h = cc
 
 -- of a member, by its own bytes and its position
-module _ (mode : Mode) (s own : Bor (List ℕ)) (at : Position) (p : PlacedType) (read : placed_of mode own ≡ Ok p) (lies : own ≡ part s (get_or at.path (at.depth - 2) 0) (length own.now)) (below : 2 ≤ at.depth) where
+module _ (mode : Mode) (s own : Bor (List ℕ)) (at : Position) (p : PlacedType) (read : placed_of mode own ≡ Ok p) (lies : own ≡ part s (get_or at.path (at.depth - 2) 0) (length own.now)) (below : 2 ≤ at.depth) (r : AdsDataTypeInfo) (number : ℕ) (found : slice_get (members_of r) number ≡ Some (record { position = at; own = own })) where
   last_place : (n : ℕ) → 2 ≤ n → get_or (n ∷ at.offset ∷ at.path) n 0 ≡ get_or at.path (n - 2) 0
   last_place n h =
       let k : n ≡ suc (suc (n - 2)) = omega arith in
       ap (λ (i : ℕ). get_or (n ∷ at.offset ∷ at.path) i 0) k
 
-  member_told : MemberTold s (record { position = at; placed = p }) (λ k. get_or (type_slots p) k 0) (λ k. get_or (at.depth ∷ at.offset ∷ at.path) k 0) (type_guid p)
+  member_told : MemberTold s r number (record { position = at; placed = p }) (λ k. get_or (type_slots p) k 0) (λ k. get_or (at.depth ∷ at.offset ∷ at.path) k 0) (type_guid p)
   member_told =
       let t = types_told mode own p read in
       let place : get_or (at.depth ∷ at.offset ∷ at.path) at.depth 0 ≡ get_or at.path (at.depth - 2) 0 = last_place at.depth below in
       let bytes : own ≡ part s (get_or (at.depth ∷ at.offset ∷ at.path) at.depth 0) (get_or (type_slots p) 0 0) =
       lies ∙ ap (λ (i : ℕ). part s i (length own.now)) (sym place) ∙ ap (part s (get_or (at.depth ∷ at.offset ∷ at.path) at.depth 0)) (sym t.as_of_field.whole) in
+      let member : Bor (List ℕ) → Option Member = λ o. Some (record { position = at; own = o }) in
       record {
+        asked = found ∙ ap member bytes;
         depth = refl;
         offset = refl;
         places = λ k. let j : k + 2 ≡ suc (suc k) = omega arith in ap (λ (i : ℕ). get_or (at.depth ∷ at.offset ∷ at.path) i 0) j;
         told = subst (λ (e : Bor (List ℕ)). TypeTold e p.data_type (λ k. get_or (type_slots p) k 0) (type_guid p)) bytes t;
       }
 
+-- a member with what its own bytes are read as
+abbrev placed_at : Mode → Member → Result PlacedMember Refusal
+placed_at mode m = and_then (placed_of mode m.own) (λ p. Ok (record { position = m.position; placed = p }))
+
+module _ (mode : Mode) (s : Bor (List ℕ)) (r : AdsDataTypeInfo) (accepted : parse_of 42 (type_of mode) s ≡ Ok r) where
+  of_accepted : (number : ℕ) (m : PlacedMember) → type_member mode s number ≡ Ok m → and_then (numbered r number) (placed_at mode) ≡ Ok m
+  of_accepted number m h = sym (ap (λ (w : Result AdsDataTypeInfo Refusal). and_then w (λ x. and_then (numbered x number) (placed_at mode))) accepted) ∙ h
+
+  told : (number : ℕ) (m : PlacedMember) → type_member mode s number ≡ Ok m → MemberTold s r number m (λ k. get_or (member_slots m) k 0) (λ k. get_or (path_slots m) k 0) (member_guid m)
+  told number m h =
+      let x = and_then_ok (numbered r number) _ m (of_accepted number m h) in
+      let p = and_then_ok (placed_of mode x.0.own) _ m x.1.1 in
+      let is : record { position = x.0.position; placed = p.0 } ≡ m = cc p.1.1 in
+      let found : slice_get (members_of r) number ≡ Some x.0 = numbered_at (slice_get (members_of r) number) _ x.0 x.1.0 in
+      let stands = (types_meant mode s r accepted).stands number x.0 found in
+      subst (λ (q : PlacedMember). MemberTold s r number q (λ k. get_or (member_slots q) k 0) (λ k. get_or (path_slots q) k 0) (member_guid q)) is
+      (member_told mode s x.0.own x.0.position p.0 p.1.0 stands.own stands.below r number found)
+
+  past : (number : ℕ) → length (members_of r) ≤ number → type_member mode s number ≡ Err (NoSuchNumber (length (members_of r)) number)
+  past number h =
+      let t = types_meant mode s r accepted in
+      let none : numbered r number ≡ Err (NoSuchNumber r.member_count number) = t.past number (omega (arith, t.counted)) in
+      let by : type_member mode s number ≡ Err (NoSuchNumber r.member_count number) = cc in
+      by ∙ ap (λ (n : ℕ). Err (NoSuchNumber n number)) t.counted
+
 pub members_told : MembersTold
-members_told mode s number m h =
-    let r = and_then_ok (parse_of 42 (type_of mode) s) _ m h in
-    let x = and_then_ok (numbered r.0 number) _ m r.1.1 in
-    let p = and_then_ok (placed_of mode x.0.own) _ m x.1.1 in
-    let is : record { position = x.0.position; placed = p.0 } ≡ m = cc p.1.1 in
-    let stands = (types_meant mode s r.0 r.1.0).stands number x.0 (numbered_at (slice_get (members_of r.0) number) _ x.0 x.1.0) in
-    subst (λ (q : PlacedMember). MemberTold s q (λ k. get_or (member_slots q) k 0) (λ k. get_or (path_slots q) k 0) (member_guid q)) is
-    (member_told mode s x.0.own x.0.position p.0 p.1.0 stands.own stands.below)
+members_told = record { told = λ mode s r a number m h. told mode s r a number m h; past = λ mode s r a number h. past mode s r a number h }

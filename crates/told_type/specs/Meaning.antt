@@ -1,12 +1,15 @@
 -- docs/FORMAT.md, "Data type entries": what the slots of a data type, of its array records and of its members say of the bytes, slot by slot, as
 -- bindings/c/vindaskot.h numbers them.
-use Rattle.std.specs.Prelude.{ℕ, ◌+◌, ◌*◌, ◌≡◌, List, [], ◌∷◌, Ok, get_or, length}
+use Rattle.std.specs.Prelude.{ℕ, ◌+◌, ◌*◌, ◌≤◌, ◌≡◌, List, [], ◌∷◌, Some, Ok, Err, slice_get, get_or, length}
 use Rattle.std.specs.Borrow.{Bor}
 use Rattle.le.specs.Le.{le2, le4}
 use Rattle.part.specs.Slice.{part}
 use Rattle.refusal.specs.declared.Mode.{Mode}
+use Rattle.refusal.specs.declared.Refusal.TheVariants.{NoSuchNumber}
+use Rattle.walk.specs.Step.{parse_of}
 use Rattle.data_type.specs.declared.AdsDataTypeInfo.{AdsDataTypeInfo}
 use Rattle.data_type.specs.declared.array.AdsArrayInfo.{AdsArrayInfo}
+use Rattle.data_type.specs.DataType.{type_of}
 use Rattle.data_type.specs.Members.{members_of}
 use Rattle.data_type.specs.Theorems.{as_field}
 use Rattle.places.specs.declared.of_type.PlacedType.{PlacedType}
@@ -33,14 +36,18 @@ ArraysTold =
     (mode : Mode) (s : Bor (List ℕ)) (number : ℕ) (a : AdsArrayInfo) → type_array mode s number ≡ Ok a
     → let at : ℕ = 45 + le2 s.now 32 + le2 s.now 34 + le2 s.now 36 + 8 * number in array_slots a ≡ le4 s.now at ∷ le4 s.now (at + 4) ∷ []
 
--- a member is told as a data type of its own bytes, which begin at the last place of its path; the path is a depth, an offset, and a place for each depth from 2 on
-pub record MemberTold (s : Bor (List ℕ)) (m : PlacedMember) (slot path : ℕ → ℕ) (guid : List ℕ) : Type 0 where
+-- a member of a data type is the one that stands in its place among the members, the first at 0: it has that position and those bytes. It is told as a data type of these,
+-- which begin at the last place of its path; the path is a depth, an offset, and a place for each depth from 2 on
+pub record MemberTold (s : Bor (List ℕ)) (r : AdsDataTypeInfo) (number : ℕ) (m : PlacedMember) (slot path : ℕ → ℕ) (guid : List ℕ) : Type 0 where
+  pub asked : slice_get (members_of r) number ≡ Some (record { position = m.position; own = part s (path (path 0)) (slot 0) })
   pub depth : path 0 ≡ m.position.depth
   pub offset : path 1 ≡ m.position.offset
   pub places : (k : ℕ) → path (k + 2) ≡ get_or m.position.path k 0
   pub told : TypeTold (part s (path (path 0)) (slot 0)) m.placed.data_type slot guid
 
-abbrev pub MembersTold : Type 0
-MembersTold =
-    (mode : Mode) (s : Bor (List ℕ)) (number : ℕ) (m : PlacedMember) → type_member mode s number ≡ Ok m
-    → MemberTold s m (λ k. get_or (member_slots m) k 0) (λ k. get_or (path_slots m) k 0) (member_guid m)
+-- of an accepted data type; past its members 14, with how many it has
+pub record MembersTold : Type 0 where
+  pub told : (mode : Mode) (s : Bor (List ℕ)) (r : AdsDataTypeInfo) → parse_of 42 (type_of mode) s ≡ Ok r → (number : ℕ) (m : PlacedMember) → type_member mode s number ≡ Ok m
+      → MemberTold s r number m (λ k. get_or (member_slots m) k 0) (λ k. get_or (path_slots m) k 0) (member_guid m)
+  pub past : (mode : Mode) (s : Bor (List ℕ)) (r : AdsDataTypeInfo) → parse_of 42 (type_of mode) s ≡ Ok r → (number : ℕ) → length (members_of r) ≤ number
+      → type_member mode s number ≡ Err (NoSuchNumber (length (members_of r)) number)

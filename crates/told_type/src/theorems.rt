@@ -11,7 +11,7 @@ pub fn arrays_told()
     ensures { ArraysTold }
 {}
 
-/// A member is told as a data type that begins at the last place of its path.
+/// The member with a number is told, as a data type that begins at the last place of its path; past the members 14.
 pub fn members_told()
     ensures { MembersTold }
 {}
