@@ -1,6 +1,8 @@
 -- A field in the two modes: proved.
-use Rattle.std.proofs.Common.{ℕ, zero, suc, ◌+◌, ◌-◌, ◌≤◌, ◌≡◌, refl, sym, ap, ap₂, ◌∙◌, Bool, true, false, List, [], ◌∷◌, ◌++◌, map, length, get_or, min, Ok, Err, Result, arith, Bor}
+use Rattle.std.proofs.Common.{ℕ, subst, zero, suc, ◌+◌, ◌-◌, ◌<◌, ◌≤◌, ◌≡◌, refl, sym, ap, ap₂, ◌∙◌, Bool, true, false, List, [], ◌∷◌, ◌++◌, map, length, get_or, min, Ok, Err, Result, arith, Bor}
 use Rattle.std.specs.Prelude.{eqb, leb, ltb, if◌then◌else◌}
+use Rattle.std.specs.List.{All}
+use Rattle.std.proofs.lemmas.List.Elements.{All-nil, All-cons, All-head, All-tail}
 use borrow.Author.Tests.{ltb-false, leb-true}
 use Rattle.std.proofs.lemmas.List.{get_or-drop}
 use Rattle.le.specs.Le.{le2, le4, has}
@@ -17,11 +19,11 @@ use Rattle.attribute.proofs.Laws.{listed_more, listed_stop, listed_none, listed_
 use Rattle.field.specs.declared.AdsFieldInfo.{AdsFieldInfo}
 use Rattle.field.specs.Front.{with_strings, string_ends, front_of, HasStrings}
 use Rattle.field.specs.Field.{field_of}
-use Rattle.field.specs.Within.{shown}
+use Rattle.field.specs.Within.{IsAttributeIn, shown}
 use Rattle.field.specs.Placed.{attributes_at, attributes_there}
 use Rattle.field.specs.Ended.{end_in, attribute_strings}
 use Rattle.field.specs.Modes.{strings_met, strings_of, IsOfModes, FieldsModes}
-use Rattle.field.proofs.Within.{IsEndOf, end_after, end_after_at, accepted_is, record_is, name_long, type_long, comment_long, list_is, length_end}
+use Rattle.field.proofs.Within.{IsEndOf, end_after, end_after_at, accepted_is, record_is, name_long, type_long, comment_long, list_is, length_end, within}
 use Rattle.field.proofs.Tested.{strings_tested, attributes_tested, list_whole, read_is}
 use Rattle.field.proofs.Placed.{placed}
 use Rattle.field.proofs.Ended.{end_of, tested, passes, passed, refuses}
@@ -81,6 +83,20 @@ ends_are {e} s at (suc left) i a = by_first (λ q next j b. ends_are q next left
         ∙ ap (λ (l : List (ℕ × ℕ)). end_of e q.0.name ∷ end_of e q.0.value ∷ l) (on q.1 next (end_after (n_of s + v_of s + 4) t i) (omega (arith, a, end_after_at (n_of s + v_of s + 4) t i)))
         ∙ sym (ap (map (end_of e)) (ap attribute_strings (listed_more s left q (first_here s t)) ∙ two_strings q.0 (listed q.1 left)))
 
+-- the byte behind a string of an entry is one of its bytes
+abbrev EndsThere : Bor (List ℕ) → Bor (List ℕ) → Type 0
+EndsThere e s = end_in e s < length e.now
+
+attribute_there : (e : Bor (List ℕ)) (all : List AdsAttribute) → All (IsAttributeIn e) all → All (EndsThere e) (attribute_strings all)
+attribute_there e [] i = rw no_strings (All-nil (EndsThere e))
+attribute_there e (a ∷ all) i =
+    let h = All-head (IsAttributeIn e) a all i in
+    let x : a.name.ref_ptr.1 ≡ e.ref_ptr.1 + h.at = ap (λ (s : Bor (List ℕ)). s.ref_ptr.1) h.name in
+    let y : a.value.ref_ptr.1 ≡ e.ref_ptr.1 + (h.at + length a.name.now + 1) = ap (λ (s : Bor (List ℕ)). s.ref_ptr.1) h.value in
+    let name : EndsThere e a.name = omega (arith, x, h.room) in
+    let value : EndsThere e a.value = omega (arith, y, h.room) in
+    rw (two_strings a all) (All-cons (EndsThere e) a.name (a.value ∷ attribute_strings all) name (All-cons (EndsThere e) a.value (attribute_strings all) value (attribute_there e all (All-tail (IsAttributeIn e) a all i))))
+
 -- one test after another
 either : {B : Type 0} (x y : Result Unit Refusal) (z : Result B Refusal) → and_then x (λ _. and_then y (λ _. z)) ≡ and_then (and_then x (λ _. y)) (λ _. z)
 either (Ok u) y z = refl
@@ -124,6 +140,20 @@ module _ (e : Bor (List ℕ)) (h : HasStrings e) where
   pub strings_are : strings_met e ≡ strings_of r
   unfolding with_strings
   strings_are = ap (λ (l : List AdsAttribute). part e 42 n ∷ part e (43 + n) t ∷ part e (44 + n + t) k ∷ attribute_strings l) attributes_are
+
+  pub ends_there : All (EndsThere e) (strings_met e)
+  unfolding with_strings
+  ends_there =
+      let x = name_long e h in
+      let y = type_long e h in
+      let z = comment_long e h in
+      let name : EndsThere e r.name = omega (arith, x, h.strings) in
+      let type : EndsThere e r.type_name = omega (arith, y, h.strings) in
+      let comment : EndsThere e r.comment = omega (arith, z, h.strings) in
+      let attributes = attribute_there e (shown r) (within e h).attributes in
+      subst (λ (l : List (Bor (List ℕ))). All (EndsThere e) l) (sym strings_are)
+      (All-cons (EndsThere e) r.name (r.type_name ∷ r.comment ∷ attribute_strings (shown r)) name
+      (All-cons (EndsThere e) r.type_name (r.comment ∷ attribute_strings (shown r)) type (All-cons (EndsThere e) r.comment (attribute_strings (shown r)) comment attributes)))
 
   first_strings : string_ends e.now n t k ≡ map (end_of e) (r.name ∷ r.type_name ∷ r.comment ∷ [])
   unfolding with_strings
@@ -178,6 +208,7 @@ module _ (e : Bor (List ℕ)) where
   pub is_of_modes : IsOfModes e
   is_of_modes =
       record {
+        there = ends_there e;
         early = early;
         alike = λ h all. in_modes e h Checked ∙ ap (λ (x : Result Unit Refusal). and_then x (λ _. field_of Present e)) (passes e (strings_met e) all);
         first = λ h s f. in_modes e h Checked ∙ ap (λ (x : Result Unit Refusal). and_then x (λ _. field_of Present e)) (refuses e (strings_met e) s f);

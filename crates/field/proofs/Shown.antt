@@ -21,7 +21,8 @@ fields_shown mode e r h =
     let w = fields_within mode e r h in
     let n = w.counted in
     record {
-      given = λ number l. given_of e (shown r) number (NoSuchNumber (length (shown r)) number) w.attributes (omega (arith, n));
+      given = λ number a g. ap (λ (o : Option AdsAttribute). ok_or o (NoSuchNumber (length (shown r)) number)) g;
+      within = λ number l. given_of e (shown r) number (NoSuchNumber (length (shown r)) number) w.attributes (omega (arith, n));
       no_more = λ number l. ap (λ (o : Option AdsAttribute). ok_or o (NoSuchNumber (length (shown r)) number)) (slice_get_past (shown r) number (omega (arith, n))) ∙ ap (λ (k : ℕ). Err (NoSuchNumber k number)) n;
     }
 

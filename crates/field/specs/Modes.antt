@@ -1,5 +1,5 @@
 -- docs/FORMAT.md, "Modes": a field in the two modes, by the bytes behind its strings.
-use Rattle.std.specs.Prelude.{ℕ, ◌+◌, ◌≡◌, List, [], ◌∷◌, Ok, Err, get_or, if◌then◌else◌}
+use Rattle.std.specs.Prelude.{ℕ, ◌+◌, ◌<◌, ◌≡◌, List, [], ◌∷◌, Ok, Err, length, get_or, if◌then◌else◌}
 use Rattle.std.specs.List.{All}
 use Rattle.std.specs.Borrow.{Bor}
 use Rattle.le.specs.Le.{le2}
@@ -30,9 +30,10 @@ strings_met e =
 abbrev pub strings_of : AdsFieldInfo → List (Bor (List ℕ))
 strings_of r = r.name ∷ r.type_name ∷ r.comment ∷ attribute_strings (shown r)
 
--- an entry whose header or strings are not there is refused alike in both modes. One in which every string that is met is ended is read, or refused, alike; any
+-- an entry whose header or strings are not there is refused alike in both modes. Else the byte behind each string that is met is one of the entry. One in which every string that is met is ended is read, or refused, alike; any
 -- other is refused by the first that is not. So what the checked mode accepts is ended, and is what the present mode accepts
 pub record IsOfModes (e : Bor (List ℕ)) : Type 0 where
+  pub there : HasStrings e → All (λ s. end_in e s < length e.now) (strings_met e)
   pub early : (HasStrings e → ⊥) → field_of Checked e ≡ field_of Present e
   pub alike : HasStrings e → All (IsEnded e) (strings_met e) → field_of Checked e ≡ field_of Present e
   pub first : HasStrings e → (s : Bor (List ℕ)) → FirstUnended e (strings_met e) s → field_of Checked e ≡ Err (EndByte (end_in e s) (get_or e.now (end_in e s) 0))

@@ -1,6 +1,6 @@
 -- docs/FORMAT.md, "Field entries": what a field that is accepted tells is a number of its header or a part of its entry, with its end byte; what it shows is
 -- given by its number and by its name.
-use Rattle.std.specs.Prelude.{ℕ, ◌+◌, ◌<◌, ◌≤◌, ◌≡◌, List, Result, Ok, Err, length}
+use Rattle.std.specs.Prelude.{ℕ, ◌+◌, ◌<◌, ◌≤◌, ◌≡◌, List, Some, Result, Ok, Err, length, slice_get}
 use Rattle.std.specs.List.{All}
 use Rattle.std.specs.Borrow.{Bor}
 use Rattle.le.specs.Le.{le2, le4}
@@ -58,9 +58,10 @@ pub record IsGiven (e : Bor (List ℕ)) (answer : Result AdsAttribute Refusal) :
   pub is : answer ≡ Ok attribute
   pub within : IsAttributeIn e attribute
 
--- a number below the count is never refused, and one past it is 14
+-- a number is answered by the attribute that has it, counted from 0; one below the count is never refused, and one past it is 14
 pub record IsShown (e : Bor (List ℕ)) (r : AdsFieldInfo) : Type 0 where
-  pub given : (number : ℕ) → number < r.attributes.count → IsGiven e (attribute_of r number)
+  pub given : (number : ℕ) (a : AdsAttribute) → slice_get (shown r) number ≡ Some a → attribute_of r number ≡ Ok a
+  pub within : (number : ℕ) → number < r.attributes.count → IsGiven e (attribute_of r number)
   pub no_more : (number : ℕ) → r.attributes.count ≤ number → attribute_of r number ≡ Err (NoSuchNumber r.attributes.count number)
 
 abbrev pub FieldsShown : Type 0

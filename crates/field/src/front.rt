@@ -19,8 +19,8 @@ pub struct Front<'a> {
     pub type_hash_value: u32,
     /// The size of a value: in bytes, or in bits where the flags have `BIT_VALUES`. A copy mask has as many bytes as this number says.
     pub size: u32,
-    /// Where it stands in a value of the type that has it: in bytes, or in bits where the flags have `BIT_VALUES`. A static one (`STATIC`),
-    /// a reference (`REFERENCE_TO`) and a property (`PROP_ITEM`) have no place that is a sum of offsets.
+    /// Where it stands in a value of the type that has it: in bytes, or in bits where the flags have `BIT_VALUES`. A static one (`STATIC`)
+    /// and a property (`PROP_ITEM`) have no place there; what stands below a reference (`REFERENCE_TO`) lies in what it refers to.
     pub offset: u32,
     /// The maker's number of its type.
     pub type_id: u32,

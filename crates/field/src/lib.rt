@@ -34,8 +34,8 @@ pub struct AdsFieldInfo<'a> {
     pub type_hash_value: u32,
     /// The size of a value: in bytes, or in bits where the flags have `BIT_VALUES`.
     pub size: u32,
-    /// Where it stands in a value of the type that has it: in bytes, or in bits where the flags have `BIT_VALUES`. A static one (`STATIC`),
-    /// a reference (`REFERENCE_TO`) and a property (`PROP_ITEM`) have no place that is a sum of offsets.
+    /// Where it stands in a value of the type that has it: in bytes, or in bits where the flags have `BIT_VALUES`. A static one (`STATIC`)
+    /// and a property (`PROP_ITEM`) have no place there; what stands below a reference (`REFERENCE_TO`) lies in what it refers to.
     pub offset: u32,
     /// The maker's number of its type.
     pub type_id: u32,

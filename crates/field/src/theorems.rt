@@ -27,7 +27,8 @@ pub fn fields_read()
     ensures { FieldsRead }
 {}
 
-/// Of a field that is accepted, a number below its count of attributes is never refused, and one past it is 14.
+/// Of a field that is accepted, a number is answered by the attribute that has it, counted from 0, which lies in the entry; one below
+/// its count of attributes is never refused, and one past it is 14.
 pub fn fields_shown()
     ensures { FieldsShown }
 {}
@@ -38,7 +39,8 @@ pub fn fields_named()
 {}
 
 /// An entry is read and refused alike in both modes where 0 follows every string that is met; any other that has a header and
-/// strings is refused in the checked mode by the first end byte that is not 0. Attributes are met up to one that is refused.
+/// strings is refused in the checked mode by the first end byte that is not 0. Each end byte is a byte of the entry. Attributes are met
+/// up to one that is refused.
 pub fn fields_modes()
     ensures { FieldsModes }
 {}

@@ -320,7 +320,7 @@ pub fn list<R: Read, W: Write>(
     Err(Failure::Endless)
 }
 
-/// Four lines, letter by letter; and 16,384 bytes are read, where a digit more is bad.
+/// Six lines, letter by letter; and digits of up to 16,384 bytes are read, where a line that spells no bytes, or a digit more, is bad.
 pub fn listing_meant()
     ensures { ListingMeant }
 {}
