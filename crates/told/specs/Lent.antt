@@ -1,5 +1,5 @@
--- bindings/c/vindaskot.h, "How a call answers": what lent slots, GUID bytes and places of a path hold after a call. What was found is written over them; a refusal, and a
--- step at the end, leave them as they were.
+-- docs/FORMAT.md, "Refusals", and bindings/c/vindaskot.h, "How a call answers": what lent slots, GUID bytes and places of a path hold after a call. What was found is
+-- written over them; a refusal, and a step at the end, leave them as they were.
 use Rattle.std.specs.Prelude.{ℕ, ◌≡◌, List, Some, None, Ok, Err}
 use Rattle.refusal.specs.declared.Refusal.{Refusal}
 use Rattle.told.specs.Slots.{slots_after, step_after}

@@ -33,7 +33,7 @@ stepped_shown mode s at p h = of_stepped (placed_of mode) IsTypeShown (type_show
 pub member_shown : (mode : Mode) (s : Bor (List ℕ)) (number : ℕ) (m : PlacedMember) → type_member mode s number ≡ Ok m → IsTypeShown m.placed
 member_shown mode s number m h =
     let r = and_then_ok (parse_of 42 (type_of mode) s) _ m h in
-    let x = and_then_ok (numbered r.0 number) _ m r.1.1 in
+    let x = and_then_ok (numbered r.0 _) _ m r.1.1 in
     let p = and_then_ok (placed_of mode x.0.own) _ m x.1.1 in
     let is : record { position = x.0.position; placed = p.0 } ≡ m = cc p.1.1 in
     subst IsTypeShown (ap (λ (q : PlacedMember). q.placed) is) (type_shown mode x.0.own p.0 p.1.0)
