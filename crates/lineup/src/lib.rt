@@ -1,4 +1,4 @@
-//! The line-up table: nothing to run, but one theorem about the definitions.
+//! The line-up table: nothing to run, but theorems about the definitions about the definitions.
 #![tactic(auto)]
 
 ghost use Rattle.lineup.specs.Fields.{FieldsLineUp};
