@@ -1,4 +1,4 @@
-//! The line-up table: nothing to run, but theorems about the definitions about the definitions.
+//! The line-up tables: nothing to run, but theorems about the definitions, of smallest cases and of entries in which every number is another.
 #![tactic(auto)]
 
 ghost use Rattle.lineup.specs.Fields.{FieldsLineUp};
