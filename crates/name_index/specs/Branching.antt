@@ -1,30 +1,30 @@
--- docs/FORMAT.md, "Name index". A branch of an upload of symbols: those whose names begin with a text.
-use Rattle.std.specs.Prelude.{ℕ, Bool, false, List, ltb, length, take, filter, Option, Some, None, Result, Ok, Err, if◌then◌else◌}
+-- docs/FORMAT.md, "Name index". The branch of a text, asked through slots.
+use Rattle.std.specs.Prelude.{ℕ, Bool, false, List, ltb, length, filter, Result, Ok, Err, if◌then◌else◌}
+use Rattle.std.specs.List.Sorted.{IsSortedBy}
 use Rattle.std.specs.Borrow.{Bor}
 use Rattle.refusal.specs.Refusal.{limit}
-use Rattle.refusal.specs.declared.Mode.{Mode}
 use Rattle.refusal.specs.declared.Refusal.{Refusal}
 use Rattle.refusal.specs.declared.Refusal.TheVariants.{TooLarge}
-use Rattle.names.specs.Names.{same_name}
-use Rattle.walk.specs.Step.{step_at}
-use Rattle.symbol.specs.declared.AdsSymbolInfo.{AdsSymbolInfo}
-use Rattle.symbol.specs.Symbol.{symbol_of}
+use Rattle.writing.specs.Writing.{Writes}
+use Rattle.index.specs.Steps.{gives}
+use Rattle.name_order.specs.declared.places.NamePlaces.{NamePlaces}
+use Rattle.name_order.specs.Order.{goes_first}
+use Rattle.name_order.specs.Branch.{begins_at, IsRun}
 
--- a name begins with a text, in any case of A to Z
-abbrev pub begins : List ℕ → List ℕ → Bool
-begins name text = same_name (take (length text) name) text
+module _ {R : Type 0} (w : NamePlaces) (read : Bor (List ℕ) → Result R Refusal) where
+  -- a step from here gives a record, and a name stands there that begins so
+  unfoldable pub in_branch : Bor (List ℕ) → List ℕ → ℕ → Bool
+  in_branch s text at = if gives read s at then begins_at w s.now text at else false
 
-abbrev pub name_begins : List ℕ → Option (Result AdsSymbolInfo Refusal) → Bool
-name_begins text None = false
-name_begins text (Some (Ok symbol)) = begins symbol.name.now text
-name_begins text (Some (Err why)) = false
+  -- those of some slots, in their order, whatever they hold: 5; 6 is the writer's
+  unfoldable pub branching : Bor (List ℕ) → List ℕ → List ℕ → Result (List ℕ) Refusal
+  branching s slots text =
+      if ltb limit (length s.now) then Err (TooLarge (length s.now))
+      else Ok (filter (in_branch s text) slots)
 
--- a step of the walk from here gives a symbol whose name begins so
-unfoldable pub in_branch : Mode → Bor (List ℕ) → List ℕ → ℕ → Bool
-in_branch mode s text at = name_begins text (step_at (symbol_of mode) s at).answer
-
--- those of some slots, in their order, whatever they hold: 5; 6 is the writer's
-unfoldable pub branching : Mode → Bor (List ℕ) → List ℕ → List ℕ → Result (List ℕ) Refusal
-branching mode s slots text =
-    if ltb limit (length s.now) then Err (TooLarge (length s.now))
-    else Ok (filter (in_branch mode s text) slots)
+  -- what asking by halving answers: through any slots, what is asked through some that are neighbours there; through slots in the order of the names, what is asked through all of them
+  pub record HalvesBranch (s : Bor (List ℕ)) (slots text old new : List ℕ) (r : Result ℕ Refusal) : Type 0 where
+    pub run : List ℕ
+    pub among : IsRun slots run
+    pub asked : Writes (branching s run text) old new r
+    pub ordered : IsSortedBy (goes_first w s.now) slots → Writes (branching s slots text) old new r

@@ -5,22 +5,23 @@ use Rattle.std.specs.Ordering.{nat_cmp, ordering_then, is_lt}
 use Rattle.std.specs.Cmp.Lexicographic.{slice_cmp}
 use Rattle.le.specs.Le.{le2, part}
 use Rattle.names.specs.Names.{folded}
+use Rattle.name_order.specs.declared.places.NamePlaces.{NamePlaces}
 
 -- the name that an entry at a place tells, or what is there of it
-unfoldable pub name_at : List ℕ → ℕ → List ℕ
-name_at s at = part s (at + 30) (le2 s (at + 24))
+unfoldable pub name_at : NamePlaces → List ℕ → ℕ → List ℕ
+name_at w s at = part s (at + w.name) (le2 s (at + w.length))
 
 -- the folded names, byte by byte; where one begins with all of the other, the shorter comes first
 unfoldable pub name_cmp : List ℕ → List ℕ → Ordering
 name_cmp a b = slice_cmp nat_cmp (folded a) (folded b)
 
 -- of two places, by the names there and then by the places, so that no two places are equal
-unfoldable pub place_cmp : List ℕ → ℕ → ℕ → Ordering
-place_cmp s a b = ordering_then (name_cmp (name_at s a) (name_at s b)) (nat_cmp a b)
+unfoldable pub start_cmp : NamePlaces → List ℕ → ℕ → ℕ → Ordering
+start_cmp w s a b = ordering_then (name_cmp (name_at w s a) (name_at w s b)) (nat_cmp a b)
 
-abbrev pub goes_first : List ℕ → ℕ → ℕ → Bool
-goes_first s a b = is_lt (place_cmp s a b)
+abbrev pub goes_first : NamePlaces → List ℕ → ℕ → ℕ → Bool
+goes_first w s a b = is_lt (start_cmp w s a b)
 
 -- the name at a place comes before a name
-abbrev pub named_before : List ℕ → List ℕ → ℕ → Bool
-named_before s name at = is_lt (name_cmp (name_at s at) name)
+abbrev pub named_before : NamePlaces → List ℕ → List ℕ → ℕ → Bool
+named_before w s name at = is_lt (name_cmp (name_at w s at) name)
