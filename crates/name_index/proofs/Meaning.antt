@@ -122,6 +122,10 @@ module _ {R : Type 0} (w : NamePlaces) (read : Bor (List ℕ) → Result R Refus
     pub slots_are : Writes (name_indexing w read s) old new (Ok n) → take n new ≡ in_order (goes_first w s.now) (filter (gives read s) (steps s.now))
     slots_are h = let p = before_order h in p.first ∙ ap (in_order (goes_first w s.now)) (plain_is p).holds
 
+    -- an upload above the limit has none
+    pub within_limit : Writes (name_indexing w read s) old new (Ok n) → length s.now ≤ limit
+    within_limit h = (built read s old (before_order h).mid n (before_order h).built).small
+
     pub is_index : Writes (name_indexing w read s) old new (Ok n) → IsNameIndex w read s old new n
     is_index h =
         let p = before_order h in

@@ -137,3 +137,31 @@ run_of starts rest k n e = record {
   behind = drop n rest;
   is = sym (ap (λ (l : List ℕ). take k starts ++ l) (take-append-drop n rest ∙ e) ∙ take-append-drop k starts);
 }
+
+-- where a test passes up to some number and from there on fails
+parted : (test : ℕ → Bool) (xs : List ℕ) → IsPartitionedBy test xs → (k : ℕ) × ((k ≤ length xs) × IsPartitionPoint (λ x. test x ≡ true) (λ x. test x ≡ false) xs k)
+parted test [] h = (0, (omega arith, (λ i d l m. absurd (omega arith), λ i d l m. absurd (omega arith))))
+parted test (x ∷ xs) h = by (test x) refl (parted test xs (λ i j d l m p. h (suc i) (suc j) d (omega arith) (omega arith) p))
+  where
+    passes : test x ≡ true → (k : ℕ) → IsPartitionPoint (λ y. test y ≡ true) (λ y. test y ≡ false) xs k → (i d : ℕ) → i < suc k → test (get_or (x ∷ xs) i d) ≡ true
+    passes e k p zero d m = e
+    passes e k p (suc i) d m = p.0 i d (omega arith) (omega arith)
+
+    fails : (k : ℕ) → IsPartitionPoint (λ y. test y ≡ true) (λ y. test y ≡ false) xs k → (i d : ℕ) → suc k ≤ i → i < length (x ∷ xs) → test (get_or (x ∷ xs) i d) ≡ false
+    fails k p zero d l m = absurd (omega arith)
+    fails k p (suc i) d l m = p.1 i d (omega arith) (omega arith)
+
+    none_passes : test x ≡ false → (i d : ℕ) → i < length (x ∷ xs) → (t : Bool) → test (get_or (x ∷ xs) i d) ≡ t → t ≡ false
+    none_passes e i d m true q = absurd (not-both (h 0 i d (omega arith) m q) e)
+    none_passes e i d m false q = refl
+
+    by : (t : Bool) → test x ≡ t → (k : ℕ) × ((k ≤ length xs) × IsPartitionPoint (λ y. test y ≡ true) (λ y. test y ≡ false) xs k) → (k : ℕ) × ((k ≤ length (x ∷ xs)) × IsPartitionPoint (λ y. test y ≡ true) (λ y. test y ≡ false) (x ∷ xs) k)
+    by true e r = (suc r.0, (omega (arith, r.1.0), (λ i d l m. passes e r.0 r.1.1 i d m, λ i d l m. fails r.0 r.1.1 i d l m)))
+    by false e r = (0, (omega arith, (λ i d l m. absurd (omega arith), λ i d l m. none_passes e i d m (test (get_or (x ∷ xs) i d)) refl)))
+
+-- some starts in order have the branch of a text as a run
+pub sorted_branch : (w : NamePlaces) (s text starts : List ℕ) → IsSortedBy (goes_first w s) starts → (run : List ℕ) × IsBranch (begins_at w s text) starts run
+sorted_branch w s text starts up =
+    let p = parted (is_before w s text) starts (before_parted w s text starts up) in
+    let q = parted (is_no_further w s text) (drop p.0 starts) (no_further_parted w s text (drop p.0 starts) (sorted_drop (goes_first w s) p.0 starts up)) in
+    (take q.0 (drop p.0 starts), branch_of w s text starts p.0 q.0 p.1.0 q.1.0 p.1.1 q.1.1)
