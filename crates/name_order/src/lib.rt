@@ -7,6 +7,7 @@ ghost use Rattle.name_order.specs.Order.{name_at, name_cmp, start_cmp, goes_firs
 ghost use Rattle.name_order.specs.Branch.{front_cmp, is_before, is_no_further, begins_at, IsRun, IsBranch};
 ghost use Rattle.name_order.specs.Sorted.{in_order};
 ghost use Rattle.name_order.specs.Meaning.{OrderIsTotal, OneOrder};
+ghost use Rattle.name_order.specs.Letters.{OrderMeant};
 
 pub mod places;
 
@@ -142,12 +143,17 @@ pub fn branch_run<'a>(bytes: &[u8], places: NamePlaces, starts: &'a [u32], text:
 
 // The theorems. Each is the contract of a function that does nothing, so that none goes unnoticed if its proof does.
 
-/// Names are ordered, and alike exactly where they are the same; places are ordered, and no two alike.
+/// Names are ordered, and alike exactly where they are the same; starts are ordered, and no two alike.
 pub fn order_is_total()
     ensures { OrderIsTotal }
 {}
 
-/// Places put in order are the same places, in order, and the only list of which that is so.
+/// Of two names the one comes first that ends first, or whose letter is the lower, in small letters, where they are not the same; of two starts the one whose name comes first, or, where the names are the same, the lower.
+pub fn order_meant()
+    ensures { OrderMeant }
+{}
+
+/// Starts put in order are the same starts, in order, and the only list of which that is so.
 pub fn one_order()
     ensures { OneOrder }
 {}
