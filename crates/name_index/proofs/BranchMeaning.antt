@@ -32,6 +32,7 @@ use Rattle.name_order.specs.Branch.{begins_at, IsRun, IsBranch}
 use Rattle.name_order.specs.Sorted.{placed, in_order}
 use Rattle.name_order.proofs.Order.{places_weak}
 use Rattle.name_order.proofs.Branches.{sorted_branch}
+use Rattle.name_order.proofs.Letters.{in_name_order}
 use Rattle.name_index.specs.Named.{TellsName}
 use Rattle.name_index.specs.Index.{name_indexing, is_named}
 use Rattle.name_index.specs.Branching.{in_branch, branching, HalvesBranch}
@@ -228,7 +229,7 @@ module _ {R : Type 0} (w : NamePlaces) (header : ℕ) (read : Bor (List ℕ) →
         record {
           run = b.0;
           neighbours = record { before = b.1.before; behind = b.1.behind; is = b.1.is };
-          sorted = subst (IsSortedBy (goes_first w s.now)) same (IsSortedBy-filter (goes_first w s.now) (places_weak w s.now) (in_branch w read s text) (take n new) i.ordered.sorted);
+          in_order = in_name_order w s.now b.0 (subst (IsSortedBy (goes_first w s.now)) same (IsSortedBy-filter (goes_first w s.now) (places_weak w s.now) (in_branch w read s text) (take n new) i.ordered.sorted));
           all = filter (in_branch w read s text) (steps s.now);
           every = picks s small text (steps s.now);
           same = subst (IsPermutation (filter (in_branch w read s text) (steps s.now))) same moved;

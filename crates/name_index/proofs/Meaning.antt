@@ -31,6 +31,7 @@ use Rattle.name_order.proofs.Order.{names_total, places_weak, places_one}
 use Rattle.name_order.proofs.Sorted.{mark, Lowest, Rises, none, more, order_moves, order_rises, order_is, sorted_of}
 use Rattle.name_order.proofs.Least.{first_least, one_least}
 use Rattle.name_order.proofs.Meaning.{same_cmp}
+use Rattle.name_order.proofs.Letters.{in_name_order, name_order_sorted}
 use Rattle.name_index.specs.Index.{name_indexing, is_named, find_indexed, InOrder, Halves}
 use Rattle.name_index.specs.Meaning.{IsNameIndex, Meant, NameIndexMeant, SameHalved}
 use Rattle.name_index.proofs.Building.{Plainly, plainly, order_long}
@@ -132,15 +133,17 @@ module _ {R : Type 0} (w : NamePlaces) (read : Bor (List ℕ) → Result R Refus
         let i = plain_is p in
         let e : take n new ≡ in_order (goes_first w s.now) (filter (gives read s) (steps s.now)) = slots_are h in
         let m : IsPermutation (filter (gives read s) (steps s.now)) (take n new) = subst (IsPermutation (filter (gives read s) (steps s.now))) (sym e) (order_moves (goes_first w s.now) (filter (gives read s) (steps s.now))) in
+        let up : IsSortedBy (goes_first w s.now) (take n new) = sorted_of (goes_first w s.now) (take n new) (subst (Rises (goes_first w s.now)) (sym e) (order_rises (goes_first w s.now) (places_weak w s.now) (filter (gives read s) (steps s.now)))) in
         record {
           counts = i.counts;
           fits = p.room;
           same = m;
+          in_order = in_name_order w s.now (take n new) up;
           ordered = record {
-            sorted = sorted_of (goes_first w s.now) (take n new) (subst (Rises (goes_first w s.now)) (sym e) (order_rises (goes_first w s.now) (places_weak w s.now) (filter (gives read s) (steps s.now))));
+            sorted = up;
             records = All-permutation (λ at. gives read s at ≡ true) (filter (gives read s) (steps s.now)) (take n new) m (all_filtered (gives read s) (steps s.now));
           };
-          only = λ other moved up. order_is (goes_first w s.now) (places_weak w s.now) (places_one w s.now) (filter (gives read s) (steps s.now)) other moved up ∙ sym e;
+          only = λ other moved up. order_is (goes_first w s.now) (places_weak w s.now) (places_one w s.now) (filter (gives read s) (steps s.now)) other moved (name_order_sorted w s.now other up) ∙ sym e;
           behind = p.rest ∙ i.behind;
         }
 

@@ -1,7 +1,7 @@
 -- docs/FORMAT.md, "Name index". What the branch of a text is: the entries whose names begin so, when each is read by itself.
 use Rattle.std.specs.Borrow.{Bor}
 use Rattle.std.specs.Prelude.{ℕ, ◌<◌, ◌≤◌, ◌≡◌, true, List, [], ◌∷◌, ◌++◌, Result, Ok, Err, length, take, drop}
-use Rattle.std.specs.List.Sorted.{IsPermutation, IsSortedBy}
+use Rattle.std.specs.List.Sorted.{IsPermutation}
 use Rattle.part.specs.Slice.{part}
 use Rattle.refusal.specs.Refusal.{limit}
 use Rattle.refusal.specs.declared.Refusal.{Refusal}
@@ -11,7 +11,7 @@ use Rattle.entry.specs.Walk.{steps}
 use Rattle.writing.specs.Writing.{Writes}
 use Rattle.walk.specs.Step.{parse_of}
 use Rattle.name_order.specs.declared.places.NamePlaces.{NamePlaces}
-use Rattle.name_order.specs.Order.{goes_first}
+use Rattle.name_order.specs.Letters.{IsInNameOrder}
 use Rattle.name_order.specs.Branch.{IsRun}
 use Rattle.name_index.specs.Index.{name_indexing, is_named}
 use Rattle.name_index.specs.Branching.{branching, HalvesBranch}
@@ -50,7 +50,7 @@ module _ {R : Type 0} (header : ℕ) (read : Bor (List ℕ) → Result R Refusal
   pub record InIndex (w : NamePlaces) (slots text : List ℕ) : Type 0 where
     pub run : List ℕ
     pub neighbours : IsRun slots run
-    pub sorted : IsSortedBy (goes_first w s.now) run
+    pub in_order : IsInNameOrder w s.now run
     pub all : List ℕ
     pub every : Picks text (steps s.now) all
     pub same : IsPermutation all run

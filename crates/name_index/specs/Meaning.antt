@@ -2,7 +2,7 @@
 use Rattle.std.specs.Borrow.{Bor}
 use Rattle.std.specs.Prelude.{ℕ, ◌<◌, ◌≤◌, ◌≡◌, true, false, List, [], ◌∷◌, ◌++◌, Result, Ok, Err, length, take, drop, filter}
 use Rattle.std.specs.List.{list_any}
-use Rattle.std.specs.List.Sorted.{IsPermutation, IsSortedBy}
+use Rattle.std.specs.List.Sorted.{IsPermutation}
 use Rattle.part.specs.Slice.{part}
 use Rattle.refusal.specs.Refusal.{limit}
 use Rattle.refusal.specs.declared.Mode.{Mode}
@@ -19,7 +19,7 @@ use Rattle.index.specs.Steps.{gives}
 use Rattle.index.specs.Meaning.{needed}
 use Rattle.symbol_find.specs.Find as symbols
 use Rattle.name_order.specs.declared.places.NamePlaces.{NamePlaces}
-use Rattle.name_order.specs.Order.{goes_first}
+use Rattle.name_order.specs.Letters.{IsInNameOrder}
 use Rattle.name_index.specs.Kinds.{symbol_places}
 use Rattle.name_index.specs.Index.{name_indexing, is_named, find_indexed, InOrder, Halves}
 
@@ -29,8 +29,9 @@ module _ {R : Type 0} (w : NamePlaces) (read : Bor (List ℕ) → Result R Refus
     pub counts : n ≡ needed read s
     pub fits : n ≤ length new
     pub same : IsPermutation (filter (gives read s) (steps s.now)) (take n new)
+    pub in_order : IsInNameOrder w s.now (take n new)
+    pub only : (other : List ℕ) → IsPermutation (filter (gives read s) (steps s.now)) other → IsInNameOrder w s.now other → other ≡ take n new
     pub ordered : InOrder w read s (take n new)
-    pub only : (other : List ℕ) → IsPermutation (filter (gives read s) (steps s.now)) other → IsSortedBy (goes_first w s.now) other → other ≡ take n new
     pub behind : drop n new ≡ drop n old
 
   -- the answer to each upload, in four cases of which exactly one holds: above the limit; a step of its walk stands; too few slots; none of these

@@ -1,10 +1,12 @@
 -- The order of names and of starts, said of their letters: proved.
-use Rattle.std.proofs.Common.{ℕ, ◌+◌, ◌<◌, ◌≤◌, ◌≡◌, refl, sym, ap, subst, ◌∙◌, Bool, true, false, List, [], ◌∷◌, arith}
+use Rattle.std.proofs.Common.{ℕ, ◌+◌, ◌<◌, ◌≤◌, ◌≡◌, refl, sym, ap, subst, ◌∙◌, Bool, true, false, List, [], ◌∷◌, get_or, arith}
 use Rattle.std.specs.Prelude.{ltb}
 use Rattle.std.specs.declared.cmp.Ordering.{Ordering}
 use Rattle.std.specs.declared.cmp.Ordering.TheVariants.{Less, Equal, Greater}
 use Rattle.std.specs.Ordering.{nat_cmp, ordering_then, is_lt}
 use Rattle.std.proofs.lemmas.Cmp.{tied_itself, nat_cmp_total, ranked}
+use Rattle.std.specs.List.Sorted.{IsSortedBy}
+use Rattle.std.proofs.lemmas.List.Sorted.{sorted_far}
 use borrow.Author.Tests.{ltb-true, ltb-false, lt-ltb}
 use Rattle.le.specs.Le.{le2, part}
 use Rattle.le.proofs.Laws.{not-both}
@@ -14,7 +16,8 @@ use Rattle.names.proofs.Laws.{fold_below, fold_above, fold_letter, same_folded, 
 use Rattle.names.proofs.Meaning.{same-by-letters}
 use Rattle.name_order.specs.declared.places.NamePlaces.{NamePlaces}
 use Rattle.name_order.specs.Order.{name_at, name_cmp, start_cmp, goes_first}
-use Rattle.name_order.specs.Letters.{Small, letter as small_letter, below, above, ComesFirst, ended, lower, later, name_there, StartsFirst, by_name, by_start, OrderMeant}
+use Rattle.name_order.specs.Letters.{Small, letter as small_letter, below, above, ComesFirst, ended, lower, later, name_there, StartsFirst, by_name, by_start, IsInNameOrder, OrderMeant}
+use Rattle.name_order.proofs.Order.{places_weak}
 use Rattle.name_order.proofs.Meaning.{cmp_same, same_cmp}
 
 -- a letter in small letters is the letter folded
@@ -90,5 +93,18 @@ module _ (w : NamePlaces) (s : List ℕ) (a b : ℕ) where
   first_starts (by_start l h) =
       ap (λ (r : Ordering). is_lt (ordering_then r (nat_cmp a b))) (same_cmp (name_there w s a) (name_there w s b) ((same-by-letters (name_there w s a) (name_there w s b)).1 l)) ∙ ap is_lt (less_of a b h)
 
+module _ (w : NamePlaces) (s starts : List ℕ) where
+  pub in_name_order : IsSortedBy (goes_first w s) starts → IsInNameOrder w s starts
+  in_name_order up i j d h k first =
+      let earlier : i ≤ j = omega (arith, h) in
+      not-both (first_starts w s (get_or starts j d) (get_or starts i d) first) (sorted_far (goes_first w s) (places_weak w s) starts up i j d earlier k)
+
+  pub name_order_sorted : IsInNameOrder w s starts → IsSortedBy (goes_first w s) starts
+  name_order_sorted up i d l h = by (goes_first w s (get_or starts (i + 1) d) (get_or starts i d)) refl
+    where
+      by : (t : Bool) → goes_first w s (get_or starts (i + 1) d) (get_or starts i d) ≡ t → t ≡ false
+      by true e = let next : i < i + 1 = omega arith in absurd (up i (i + 1) d next h (starts_first w s (get_or starts (i + 1) d) (get_or starts i d) e))
+      by false e = refl
+
 pub order_meant : OrderMeant
-order_meant = record { names = λ own other. (names_first own other, first_names own other); starts = λ w s a b. (starts_first w s a b, first_starts w s a b) }
+order_meant = record { names = λ own other. (names_first own other, first_names own other); starts = λ w s a b. (starts_first w s a b, first_starts w s a b); sorted = λ w s starts. (in_name_order w s starts, name_order_sorted w s starts) }

@@ -1,6 +1,7 @@
 -- docs/FORMAT.md, "Name index". The order of names and of starts, said of their letters.
-use Rattle.std.specs.Prelude.{ℕ, ◌+◌, ◌<◌, ◌≤◌, ◌≡◌, true, List, [], ◌∷◌}
+use Rattle.std.specs.Prelude.{ℕ, ◌+◌, ◌<◌, ◌≤◌, ◌≡◌, true, List, [], ◌∷◌, AllPairs}
 use Rattle.std.specs.declared.cmp.Ordering.TheVariants.{Less}
+use Rattle.std.specs.List.Sorted.{IsSortedBy}
 use Rattle.le.specs.Le.{le2, part}
 use Rattle.names.specs.Meaning.{SameLetter, SameLetters}
 use Rattle.name_order.specs.declared.places.NamePlaces.{NamePlaces}
@@ -27,6 +28,11 @@ pub data StartsFirst (w : NamePlaces) (s : List ℕ) (a b : ℕ) : Type 0 where
   by_name : ComesFirst (name_there w s a) (name_there w s b) → StartsFirst w s a b
   by_start : SameLetters (name_there w s a) (name_there w s b) → a < b → StartsFirst w s a b
 
+-- none of some starts comes first before one that stands before it
+abbrev pub IsInNameOrder : NamePlaces → List ℕ → List ℕ → Type 0
+IsInNameOrder w s starts = AllPairs (λ a b. ¬ StartsFirst w s b a) starts
+
 pub record OrderMeant : Type 0 where
   pub names : (own other : List ℕ) → (name_cmp own other ≡ Less → ComesFirst own other) × (ComesFirst own other → name_cmp own other ≡ Less)
   pub starts : (w : NamePlaces) (s : List ℕ) (a b : ℕ) → (goes_first w s a b ≡ true → StartsFirst w s a b) × (StartsFirst w s a b → goes_first w s a b ≡ true)
+  pub sorted : (w : NamePlaces) (s starts : List ℕ) → (IsSortedBy (goes_first w s) starts → IsInNameOrder w s starts) × (IsInNameOrder w s starts → IsSortedBy (goes_first w s) starts)

@@ -1,4 +1,4 @@
-//! The order of a name index: by the folded name that stands at each place, and then by place (docs/FORMAT.md, "Name index").
+//! The order of a name index: by the folded name that stands at each start, and then by start (docs/FORMAT.md, "Name index").
 #![tactic(auto)]
 
 ghost use Rattle.std.specs.Prelude.{◌≡◌, ◌+◌, ◌≤◌, true, false, length, take};
@@ -148,7 +148,7 @@ pub fn order_is_total()
     ensures { OrderIsTotal }
 {}
 
-/// Of two names the one comes first that ends first, or whose letter is the lower, in small letters, where they are not the same; of two starts the one whose name comes first, or, where the names are the same, the lower.
+/// Of two names the one comes first that ends first, or whose letter is the lower, in small letters, where they are not the same; of two starts the one whose name comes first, or, where the names are the same, the lower; and what it is that starts are in order.
 pub fn order_meant()
     ensures { OrderMeant }
 {}
