@@ -1,6 +1,6 @@
 -- What the branch of a text is: proved.
-use Rattle.std.proofs.Common.{ℕ, zero, suc, ◌+◌, ◌<◌, ◌≤◌, ◌≡◌, refl, sym, ap, subst, ◌∙◌, Bool, true, false, List, [], ◌∷◌, ◌++◌, length, take, drop, get_or, arith, Bor, Result, if◌then◌else◌}
-use Rattle.std.specs.Prelude.{Option, Some, None, Ok, Err, All, ltb, filter}
+use Rattle.std.proofs.Common.{ℕ, ◌<◌, ◌≤◌, ◌≡◌, refl, sym, ap, subst, ◌∙◌, Bool, true, false, List, [], ◌∷◌, ◌++◌, length, take, drop, get_or, Bor, Result, if◌then◌else◌}
+use Rattle.std.specs.Prelude.{Option, Some, None, Ok, Err, All, filter}
 use Rattle.std.proofs.lemmas.List.Elements.{All-nil, All-cons, All-head, All-tail}
 use Rattle.std.specs.Option.{option_map}
 use Rattle.std.specs.List.Sorted.{IsPermutation, IsSortedBy}
@@ -14,9 +14,7 @@ use Rattle.part.specs.Slice as slice
 use Rattle.part.specs.Outcome.{and_then}
 use Rattle.refusal.specs.Refusal.{limit}
 use Rattle.refusal.specs.declared.Refusal.{Refusal}
-use Rattle.refusal.specs.declared.Refusal.TheVariants.{TooLarge, OutputTooSmall}
-use Rattle.names.specs.Names.{folded, same_name}
-use Rattle.names.specs.Meaning.{SameLetters}
+use Rattle.names.specs.Names.{same_name}
 use Rattle.names.proofs.Laws.{same_folded, folded_long}
 use Rattle.names.proofs.Meaning.{same-by-letters}
 use Rattle.entry.specs.Entry.{claim_at}
@@ -28,17 +26,17 @@ use Rattle.walk.proofs.Back.{steps_back}
 use Rattle.index.specs.Steps.{is_record, gives, BySteps}
 use Rattle.name_order.specs.declared.places.NamePlaces.{NamePlaces}
 use Rattle.name_order.specs.Order.{name_at, goes_first}
-use Rattle.name_order.specs.Branch.{begins_at, IsRun, IsBranch}
+use Rattle.name_order.specs.Branch.{begins_at}
 use Rattle.name_order.specs.Sorted.{placed, in_order}
 use Rattle.name_order.proofs.Order.{places_weak}
 use Rattle.name_order.proofs.Branches.{sorted_branch}
 use Rattle.name_order.proofs.Letters.{in_name_order}
 use Rattle.name_index.specs.Named.{TellsName}
 use Rattle.name_index.specs.Index.{name_indexing, is_named}
-use Rattle.name_index.specs.Branching.{in_branch, branching, HalvesBranch}
-use Rattle.name_index.specs.BranchMeaning.{HasName, HasBranch, Picks, done, picked, passed, Answers, InIndex, NamedMeant, BranchMeant, BranchInIndex}
+use Rattle.name_index.specs.Branching.{in_branch, branching}
+use Rattle.name_index.specs.BranchMeaning.{HasName, HasBranch, Picks, done, picked, passed, InIndex, NamedMeant, BranchMeant, BranchInIndex}
 use Rattle.name_index.proofs.Told.{told_there}
-use Rattle.name_index.proofs.Branching.{otherwise, begins_so, of_the_name, branching_large, branching_within, run_filter}
+use Rattle.name_index.proofs.Branching.{begins_so, of_the_name, branching_large, branching_within, run_filter}
 use Rattle.name_index.proofs.Meaning.{named_gives, named_so, untouched, slots_are, within_limit, is_index}
 
 -- of a list that is two, each

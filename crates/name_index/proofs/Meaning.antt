@@ -1,6 +1,6 @@
 -- What a name index means: proved.
 use Rattle.std.proofs.Common.{ℕ, zero, suc, get_or, ◌<◌, ◌≤◌, ◌≡◌, refl, sym, ap, subst, ◌∙◌, Bool, true, false, List, [], ◌∷◌, ◌++◌, length, take, drop, arith, Bor, Result, if◌then◌else◌}
-use Rattle.std.specs.Prelude.{Option, Some, None, Ok, Err, ltb, filter}
+use Rattle.std.specs.Prelude.{Ok, Err, ltb, filter}
 use Rattle.std.specs.declared.cmp.Ordering.{Ordering}
 use Rattle.std.specs.declared.cmp.Ordering.TheVariants.{Less, Equal, Greater}
 use Rattle.std.specs.Ordering.{nat_cmp, ordering_then, is_lt}
@@ -13,7 +13,7 @@ use borrow.Author.Tests.{ltb-false, le-ltb, lt-ltb}
 use Rattle.le.proofs.Laws.{not-both}
 use Rattle.refusal.specs.Refusal.{limit}
 use Rattle.refusal.specs.declared.Refusal.{Refusal}
-use Rattle.refusal.specs.declared.Refusal.TheVariants.{TooLarge, ZeroEntryLength, OutputTooSmall}
+use Rattle.refusal.specs.declared.Refusal.TheVariants.{OutputTooSmall}
 use Rattle.names.specs.Names.{same_name}
 use Rattle.entry.specs.Walk.{stands, steps}
 use Rattle.writing.specs.Writing.{answer, Writes}
@@ -32,8 +32,8 @@ use Rattle.name_order.proofs.Sorted.{mark, Lowest, Rises, none, more, order_move
 use Rattle.name_order.proofs.Least.{first_least, one_least}
 use Rattle.name_order.proofs.Meaning.{same_cmp}
 use Rattle.name_order.proofs.Letters.{in_name_order, name_order_sorted}
-use Rattle.name_index.specs.Index.{name_indexing, is_named, find_indexed, InOrder, Halves}
-use Rattle.name_index.specs.Meaning.{IsNameIndex, Meant, NameIndexMeant, SameHalved}
+use Rattle.name_index.specs.Index.{name_indexing, is_named, find_indexed, Halves}
+use Rattle.name_index.specs.Meaning.{IsNameIndex, NameIndexMeant, SameHalved}
 use Rattle.name_index.proofs.Building.{Plainly, plainly, order_long}
 
 -- each that passes a test passes it

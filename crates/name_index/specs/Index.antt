@@ -1,6 +1,6 @@
 -- docs/FORMAT.md, "Name index". The name index of an upload of entries of one kind, and finding through it.
 use Rattle.std.specs.Borrow.{Bor}
-use Rattle.std.specs.Prelude.{ℕ, ◌≡◌, Bool, true, false, List, Result, Ok, Err, ltb, length, take, drop, ok_or, if◌then◌else◌}
+use Rattle.std.specs.Prelude.{ℕ, ◌≡◌, Bool, true, false, List, Result, Err, ltb, length, take, drop, ok_or, if◌then◌else◌}
 use Rattle.std.specs.List.{find as first_of, All}
 use Rattle.std.specs.List.Sorted.{IsSortedBy}
 use Rattle.refusal.specs.Refusal.{limit}

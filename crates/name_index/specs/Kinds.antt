@@ -2,7 +2,6 @@
 use Rattle.std.proofs.Common.{ℕ, ◌+◌, ◌≤◌, ◌≡◌, refl, sym, ap, subst, ◌∙◌, List, length, arith, Bor}
 use Rattle.std.specs.Prelude.{Ok, Err, Result}
 use Rattle.le.specs.Le.{le2, part}
-use Rattle.part.specs.Slice as slice
 use Rattle.refusal.specs.declared.Mode.{Mode}
 use Rattle.refusal.specs.declared.Refusal.{Refusal}
 use Rattle.walk.specs.Mapped.{map_ok}

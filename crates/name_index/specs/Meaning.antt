@@ -1,18 +1,14 @@
 -- docs/FORMAT.md, "Name index". What a name index means, and what is found through it.
 use Rattle.std.specs.Borrow.{Bor}
-use Rattle.std.specs.Prelude.{ℕ, ◌<◌, ◌≤◌, ◌≡◌, true, false, List, [], ◌∷◌, ◌++◌, Result, Ok, Err, length, take, drop, filter}
+use Rattle.std.specs.Prelude.{ℕ, ◌<◌, ◌≤◌, ◌≡◌, true, false, List, Result, Ok, Err, length, take, drop, filter}
 use Rattle.std.specs.List.{list_any}
 use Rattle.std.specs.List.Sorted.{IsPermutation}
-use Rattle.part.specs.Slice.{part}
 use Rattle.refusal.specs.Refusal.{limit}
 use Rattle.refusal.specs.declared.Mode.{Mode}
 use Rattle.refusal.specs.declared.Refusal.{Refusal}
 use Rattle.refusal.specs.declared.Refusal.TheVariants.{TooLarge, OutputTooSmall, ZeroEntryLength}
-use Rattle.names.specs.Names.{same_name}
-use Rattle.names.specs.Meaning.{SameLetters}
 use Rattle.entry.specs.Walk.{stands, steps}
 use Rattle.writing.specs.Writing.{Writes}
-use Rattle.walk.specs.Step.{parse_of}
 use Rattle.symbol.specs.Head.{head_of}
 use Rattle.index.specs.Index.{indexing}
 use Rattle.index.specs.Steps.{gives}
@@ -21,7 +17,7 @@ use Rattle.symbol_find.specs.Find as symbols
 use Rattle.name_order.specs.declared.places.NamePlaces.{NamePlaces}
 use Rattle.name_order.specs.Letters.{IsInNameOrder}
 use Rattle.name_index.specs.Kinds.{symbol_places}
-use Rattle.name_index.specs.Index.{name_indexing, is_named, find_indexed, InOrder, Halves}
+use Rattle.name_index.specs.Index.{name_indexing, find_indexed, InOrder, Halves}
 
 module _ {R : Type 0} (w : NamePlaces) (read : Bor (List ℕ) → Result R Refusal) where
   -- the first n slots are the name index: the places of the steps that give a record, in the order of their names, and the only such list; behind them the slots are as they were

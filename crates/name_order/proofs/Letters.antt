@@ -8,9 +8,8 @@ use Rattle.std.proofs.lemmas.Cmp.{tied_itself, nat_cmp_total, ranked}
 use Rattle.std.specs.List.Sorted.{IsSortedBy}
 use Rattle.std.proofs.lemmas.List.Sorted.{sorted_far}
 use borrow.Author.Tests.{ltb-true, ltb-false, lt-ltb}
-use Rattle.le.specs.Le.{le2, part}
 use Rattle.le.proofs.Laws.{not-both}
-use Rattle.names.specs.Names.{fold, folded, same_name}
+use Rattle.names.specs.Names.{fold, folded}
 use Rattle.names.specs.Meaning.{SameLetter, SameLetters, end, letter}
 use Rattle.names.proofs.Laws.{fold_below, fold_above, fold_letter, same_folded, folded_same}
 use Rattle.names.proofs.Meaning.{same-by-letters}

@@ -1,6 +1,6 @@
 use Rattle.std.proofs.Common.{arith, sym, ◌∙◌, ◌<◌, length}
 use Rattle.name_index.specs.Index.{is_named}
-use Rattle.name_index.proofs.Branching.{looked_on, looked_at, looked_end}
+use Rattle.name_index.proofs.Branching.{looked_on}
 use Rattle.name_index.proofs.Asked.first.Goals as goal
 
 pub loop-slot-preserved : goal.loop-slot-preserved

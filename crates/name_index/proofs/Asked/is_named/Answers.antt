@@ -1,4 +1,4 @@
-use Rattle.std.proofs.Common.{sym, ap, ◌∙◌, ◌≡◌, length, List, ℕ, false, true}
+use Rattle.std.proofs.Common.{sym, ap, ◌∙◌, ◌≡◌, length, List, ℕ}
 use Rattle.le.specs.Le.{part}
 use Rattle.names.specs.Names.{same_name}
 use Rattle.name_order.specs.declared.places.NamePlaces.{NamePlaces}
