@@ -2,18 +2,21 @@
 use Rattle.std.proofs.Common.{ℕ, ◌<◌, ◌≤◌, ◌≡◌, refl, sym, ap, subst, ◌∙◌, Bool, true, false, List, [], ◌∷◌, ◌++◌, length, take, drop, get_or, Bor, Result, if◌then◌else◌}
 use Rattle.std.specs.Prelude.{Option, Some, None, Ok, Err, All, filter}
 use Rattle.std.proofs.lemmas.List.Elements.{All-nil, All-cons, All-head, All-tail}
+use Rattle.std.specs.Prelude.{ltb, ok_or}
+use Rattle.std.specs.List.{find as first_of}
 use Rattle.std.specs.Option.{option_map}
 use Rattle.std.specs.List.Sorted.{IsPermutation, IsSortedBy}
 use Rattle.std.proofs.lemmas.List.{take-append-drop}
 use Rattle.std.proofs.lemmas.List.Kept.{IsSortedBy-filter}
 use Rattle.std.proofs.lemmas.List.Sorted.{IsPermutation-refl, IsPermutation-sym, IsPermutation-trans, IsPermutation-cons, IsPermutation-middle}
 use Rattle.std.proofs.Math.Seq.{take-append_seam}
-use borrow.Author.Tests.{le-ltb, lt-ltb}
+use borrow.Author.Tests.{le-ltb, lt-ltb, ltb-true, ltb-false}
 use Rattle.le.proofs.Laws.{not-both}
 use Rattle.part.specs.Slice as slice
 use Rattle.part.specs.Outcome.{and_then}
 use Rattle.refusal.specs.Refusal.{limit}
 use Rattle.refusal.specs.declared.Refusal.{Refusal}
+use Rattle.refusal.specs.declared.Refusal.TheVariants.{NameNotFound}
 use Rattle.names.specs.Names.{same_name}
 use Rattle.names.proofs.Laws.{same_folded, folded_long}
 use Rattle.names.proofs.Meaning.{same-by-letters}
@@ -29,13 +32,14 @@ use Rattle.name_order.specs.Order.{name_at, goes_first}
 use Rattle.name_order.specs.Branch.{begins_at}
 use Rattle.name_order.specs.Sorted.{placed, in_order}
 use Rattle.name_order.proofs.Order.{places_weak}
-use Rattle.name_order.proofs.Branches.{sorted_branch}
+use Rattle.name_order.proofs.Branches.{sorted_branch, run_of}
 use Rattle.name_order.proofs.Letters.{in_name_order}
 use Rattle.name_index.specs.Named.{TellsName}
-use Rattle.name_index.specs.Index.{name_indexing, is_named}
+use Rattle.name_index.specs.Index.{name_indexing, is_named, Halves}
 use Rattle.name_index.specs.Branching.{in_branch, branching}
-use Rattle.name_index.specs.BranchMeaning.{HasName, HasBranch, Picks, done, picked, passed, InIndex, NamedMeant, BranchMeant, BranchInIndex}
+use Rattle.name_index.specs.BranchMeaning.{HasName, Halved, too_large, not_found, found, HasBranch, Picks, done, picked, passed, InIndex, NamedMeant, BranchMeant, BranchInIndex}
 use Rattle.name_index.proofs.Told.{told_there}
+use Rattle.name_index.proofs.Halving.{find_large, find_within}
 use Rattle.name_index.proofs.Branching.{begins_so, of_the_name, branching_large, branching_within, run_filter}
 use Rattle.name_index.proofs.Meaning.{named_gives, named_so, untouched, slots_are, within_limit, is_index}
 
@@ -187,8 +191,29 @@ module _ {R : Type 0} (w : NamePlaces) (header : ℕ) (read : Bor (List ℕ) →
           by true e k = absurd (n (has_branch text x e))
           by false e k = k
 
+  -- through one slot, or none
+  one_found : (s : Bor (List ℕ)) (slots name : List ℕ) (k : ℕ) → length s.now ≤ limit → (rest : List ℕ) → rest ≡ drop k slots
+      → Halved header read length_of name_of s slots name (ok_or (first_of (is_named w read s name) (take 1 rest)) NameNotFound)
+  one_found s slots name k small [] e = not_found small
+  one_found s slots name k small (x ∷ rest) e = by (is_named w read s name x) refl
+    where
+      by : (t : Bool) → is_named w read s name x ≡ t → Halved header read length_of name_of s slots name (ok_or (if t then Some x else None) NameNotFound)
+      by true h = found small (run_of slots (x ∷ rest) k 1 e) (has_name s name x h)
+      by false h = not_found small
+
+  halved_of : (s : Bor (List ℕ)) (slots name : List ℕ) (r : Result ℕ Refusal) → Halves w read s slots name r → Halved header read length_of name_of s slots name r
+  halved_of s slots name r h = by (ltb limit (length s.now)) refl
+    where
+      by : (t : Bool) → ltb limit (length s.now) ≡ t → Halved header read length_of name_of s slots name r
+      by true e =
+          let large = ltb-true limit (length s.now) e in
+          subst (Halved header read length_of name_of s slots name) (sym (h.one.1 ∙ find_large w read s (take 1 (drop h.one.0 slots)) name large)) (too_large large)
+      by false e =
+          let small = ltb-false limit (length s.now) e in
+          subst (Halved header read length_of name_of s slots name) (sym (h.one.1 ∙ find_within w read s (take 1 (drop h.one.0 slots)) name small)) (one_found s slots name h.one.0 small (drop h.one.0 slots) refl)
+
   pub named_meant_of : NamedMeant w header read length_of name_of
-  named_meant_of = record { is = has_name; only = λ s name at small h. name_has s small name at h }
+  named_meant_of = record { is = has_name; only = λ s name at small h. name_has s small name at h; halved = halved_of }
 
   pub branch_meant_of : BranchMeant w header read length_of name_of
   branch_meant_of s slots text old new r h = record {

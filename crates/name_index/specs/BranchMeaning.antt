@@ -1,11 +1,11 @@
--- docs/FORMAT.md, "Name index". What the branch of a text is: the entries whose names begin so, when each is read by itself.
+-- docs/FORMAT.md, "Name index". What finding and the branch of a text mean: the entries that have the name, or whose names begin so, when each is read by itself.
 use Rattle.std.specs.Borrow.{Bor}
 use Rattle.std.specs.Prelude.{ℕ, ◌<◌, ◌≤◌, ◌≡◌, true, List, [], ◌∷◌, ◌++◌, Result, Ok, Err, length, take, drop}
 use Rattle.std.specs.List.Sorted.{IsPermutation}
 use Rattle.part.specs.Slice.{part}
 use Rattle.refusal.specs.Refusal.{limit}
 use Rattle.refusal.specs.declared.Refusal.{Refusal}
-use Rattle.refusal.specs.declared.Refusal.TheVariants.{TooLarge, OutputTooSmall}
+use Rattle.refusal.specs.declared.Refusal.TheVariants.{TooLarge, OutputTooSmall, NameNotFound}
 use Rattle.names.specs.Meaning.{SameLetters}
 use Rattle.entry.specs.Walk.{steps}
 use Rattle.writing.specs.Writing.{Writes}
@@ -13,7 +13,7 @@ use Rattle.walk.specs.Step.{parse_of}
 use Rattle.name_order.specs.declared.places.NamePlaces.{NamePlaces}
 use Rattle.name_order.specs.Letters.{IsInNameOrder}
 use Rattle.name_order.specs.Branch.{IsRun}
-use Rattle.name_index.specs.Index.{name_indexing, is_named}
+use Rattle.name_index.specs.Index.{name_indexing, is_named, Halves}
 use Rattle.name_index.specs.Branching.{branching, HalvesBranch}
 
 module _ {R : Type 0} (header : ℕ) (read : Bor (List ℕ) → Result R Refusal) (length_of : R → ℕ) (name_of : R → List ℕ) (s : Bor (List ℕ)) where
@@ -22,6 +22,12 @@ module _ {R : Type 0} (header : ℕ) (read : Bor (List ℕ) → Result R Refusal
     pub entry : R
     pub alone : parse_of header read (part s at (length_of entry)) ≡ Ok entry
     pub same : SameLetters (name_of entry) name
+
+  -- what halving answers through any slots: 5 above the limit, and within it 13, or one of the slots that has the name
+  pub data Halved (slots name : List ℕ) : Result ℕ Refusal → Type 0 where
+    too_large : limit < length s.now → Halved slots name (Err (TooLarge (length s.now)))
+    not_found : length s.now ≤ limit → Halved slots name (Err NameNotFound)
+    found : {at : ℕ} → length s.now ≤ limit → IsRun slots (at ∷ []) → HasName name at → Halved slots name (Ok at)
 
   -- an entry begins at a place whose name begins with a text
   pub record HasBranch (text : List ℕ) (at : ℕ) : Type 0 where
@@ -58,10 +64,11 @@ module _ {R : Type 0} (header : ℕ) (read : Bor (List ℕ) → Result R Refusal
     pub halved : (old new : List ℕ) (r : Result ℕ Refusal) → HalvesBranch w read s slots text old new r → Writes (Ok run) old new r
 
 module _ {R : Type 0} (w : NamePlaces) (header : ℕ) (read : Bor (List ℕ) → Result R Refusal) (length_of : R → ℕ) (name_of : R → List ℕ) where
-  -- what it is that a name is found at
+  -- what it is that a name is found at, and what halving answers
   pub record NamedMeant : Type 0 where
     pub is : (s : Bor (List ℕ)) (name : List ℕ) (at : ℕ) → is_named w read s name at ≡ true → HasName header read length_of name_of s name at
     pub only : (s : Bor (List ℕ)) (name : List ℕ) (at : ℕ) → length s.now ≤ limit → HasName header read length_of name_of s name at → is_named w read s name at ≡ true
+    pub halved : (s : Bor (List ℕ)) (slots name : List ℕ) (r : Result ℕ Refusal) → Halves w read s slots name r → Halved header read length_of name_of s slots name r
 
   abbrev pub BranchMeant : Type 0
   BranchMeant = (s : Bor (List ℕ)) (slots text old new : List ℕ) (r : Result ℕ Refusal) → Writes (branching w read s slots text) old new r → Answers header read length_of name_of s slots text old new r

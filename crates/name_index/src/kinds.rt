@@ -1,4 +1,4 @@
-//! Symbols, fields and data types have names.
+//! Symbols, fields and data types have names (docs/FORMAT.md, "Name index").
 #![tactic(auto)]
 
 ghost use Rattle.std.specs.Prelude.{◌≡◌};

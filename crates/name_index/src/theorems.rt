@@ -1,4 +1,4 @@
-//! The theorems. Each is the contract of a function that does nothing, so that none goes unnoticed if its proof does.
+//! The theorems (docs/FORMAT.md, "Name index"). Each is the contract of a function that does nothing, so that none goes unnoticed if its proof does.
 #![tactic(auto)]
 
 ghost use Rattle.refusal.specs.declared.Mode.{Mode};
@@ -17,7 +17,7 @@ pub fn same_halved<'a, E: Named<'a>>()
     ensures { (mode : Mode) → SameHalved E.places (E.read mode) }
 {}
 
-/// A name is found exactly where an entry begins that is read by itself and has the name, letter by letter.
+/// A name is found exactly where an entry begins that is read by itself and has the name, letter by letter; so what halving answers through any slots is 5 above the limit, and within it 13, or one of the slots that has the name.
 pub fn named_meant<'a, E: Named<'a>>()
     ensures { (mode : Mode) → NamedMeant E.places E.HEADER (E.read mode) E.length_of E.name_of }
 {}

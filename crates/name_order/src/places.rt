@@ -1,4 +1,4 @@
-//! Where an entry has its name.
+//! Where an entry has its name (docs/FORMAT.md, "Name index").
 #![tactic(auto)]
 
 ghost use Rattle.std.specs.Prelude.{◌+◌, ◌≤◌};
