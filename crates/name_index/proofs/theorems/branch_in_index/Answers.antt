@@ -1,0 +1,6 @@
+use Rattle.index.proofs.Steps.{by_steps_of}
+use Rattle.name_index.proofs.BranchMeaning.{branch_in_index_of}
+use Rattle.name_index.proofs.theorems.branch_in_index.Goals as goal
+
+pub returns : goal.returns
+returns g c = λ mode. let m = g.met.E.Entry c.lifetimes (assumption c) in let named = g.met.E.Named c.lifetimes (assumption c) in branch_in_index_of g.E.Named.places g.E.Entry.HEADER (g.E.Entry.read mode) g.E.Entry.length_of g.E.Named.name_of m.four (m.long mode) (m.room mode) (named.told mode) (by_steps_of (g.E.Entry.read mode) g.E.Entry.HEADER m.four (m.short mode) (m.never_zero mode))

@@ -1,0 +1,62 @@
+//! Symbols, fields and data types have names (docs/FORMAT.md, "Name index").
+#![tactic(auto)]
+
+ghost use Rattle.std.specs.Prelude.{◌≡◌};
+ghost use Rattle.name_index.specs.Kinds.{symbol_places, field_places, symbol_told, field_told, type_told};
+
+use crate::Named;
+use data_type::AdsDataTypeInfo;
+use field::AdsFieldInfo;
+use name_order::NamePlaces;
+use symbol::SymbolHead;
+
+impl<'a> Named<'a> for SymbolHead<'a> {
+    ghost places = { symbol_places };
+
+    ghost name_of = { λ r. r.name.now };
+
+    fn places() -> NamePlaces
+        ensures { result ≡ symbol_places }
+    {
+        NamePlaces {
+            length: 24,
+            name: 30,
+        }
+    }
+
+    ghost told = { symbol_told };
+}
+
+impl<'a> Named<'a> for AdsFieldInfo<'a> {
+    ghost places = { field_places };
+
+    ghost name_of = { λ r. r.name.now };
+
+    fn places() -> NamePlaces
+        ensures { result ≡ field_places }
+    {
+        NamePlaces {
+            length: 32,
+            name: 42,
+        }
+    }
+
+    ghost told = { field_told };
+}
+
+impl<'a> Named<'a> for AdsDataTypeInfo<'a> {
+    ghost places = { field_places };
+
+    ghost name_of = { λ r. r.name.now };
+
+    fn places() -> NamePlaces
+        ensures { result ≡ field_places }
+    {
+        NamePlaces {
+            length: 32,
+            name: 42,
+        }
+    }
+
+    ghost told = { type_told };
+}
