@@ -16,7 +16,7 @@ use Rattle.data_type.specs.declared.array.AdsArrayInfo.{AdsArrayInfo}
 use Rattle.data_type.specs.declared.array.ArrayInfos.{ArrayInfos}
 use Rattle.data_type.specs.declared.members.Member.{Member}
 use Rattle.data_type.specs.declared.members.Position.{Position}
-use Rattle.data_type.specs.Accepted.{and_then_ok}
+use Rattle.part.proofs.Outcome.{both_passed}
 use Rattle.data_type.specs.Array as array
 use Rattle.data_type.specs.DataType.{levels, arrays_of, type_of}
 use Rattle.data_type.specs.Members.{members_of, numbered}
@@ -106,7 +106,7 @@ array_not w why a h k = cc
 -- an array record with a number
 pub arrays_told : ArraysTold
 arrays_told mode s number a h =
-    let r = and_then_ok (parse_of 42 (type_of mode) s) _ a h in
+    let r = both_passed (parse_of 42 (type_of mode) s) h in
     let m = arrays_meant mode s r.0 r.1.0 in
     ⊎_elim
     (λ k. array_is (array.numbered r.0.arrays number) _ a (m.told number k) r.1.1)
@@ -150,8 +150,8 @@ module _ (mode : Mode) (s : Bor (List ℕ)) (r : AdsDataTypeInfo) (accepted : pa
 
   told : (number : ℕ) (m : PlacedMember) → type_member mode s number ≡ Ok m → MemberTold s r number m (λ k. get_or (member_slots m) k 0) (λ k. get_or (path_slots m) k 0) (member_guid m)
   told number m h =
-      let x = and_then_ok (numbered r number) _ m (of_accepted number m h) in
-      let p = and_then_ok (placed_of mode x.0.own) _ m x.1.1 in
+      let x = both_passed (numbered r number) (of_accepted number m h) in
+      let p = both_passed (placed_of mode x.0.own) x.1.1 in
       let is : record { position = x.0.position; placed = p.0 } ≡ m = cc p.1.1 in
       let found : slice_get (members_of r) number ≡ Some x.0 = numbered_at (slice_get (members_of r) number) _ x.0 x.1.0 in
       let stands = (types_meant mode s r accepted).stands number x.0 found in
