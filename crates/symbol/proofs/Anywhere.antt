@@ -20,7 +20,8 @@ use Rattle.symbol.specs.declared.AdsSymbolInfo.{AdsSymbolInfo}
 use Rattle.attribute.specs.Told as attributes
 use Rattle.refactor.specs.Told as refactors
 use Rattle.symbol.specs.Told.{told_of, SymbolsAnywhere}
-use Rattle.symbol.specs.Symbol.{type_guid_flag, attributes_flag, extended_flags_flag, refactor_info_flag, guid_of, attributes_of, extended_of, extended_word, refactor_infos_of, with_strings, symbol_ended, ended_symbol, symbol_of}
+use Rattle.layout.specs.Layout.{guid_of}
+use Rattle.symbol.specs.Symbol.{type_guid_flag, attributes_flag, extended_flags_flag, refactor_info_flag, attributes_of, extended_of, extended_word, refactor_infos_of, with_strings, symbol_ended, ended_symbol, symbol_of}
 
 -- the same bytes at another place
 abbrev pub moved : ℕ × ℕ → Bor (List ℕ) → Bor (List ℕ)
