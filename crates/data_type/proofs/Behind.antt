@@ -1,8 +1,7 @@
 -- Bytes that are the end of an entry, and the end bytes of attributes in them.
-use Rattle.std.proofs.Common.{ℕ, zero, suc, ◌+◌, ◌-◌, ◌≤◌, ◌≡◌, refl, sym, ap, ap₂, subst, ◌∙◌, min, Bool, true, false, List, [], ◌∷◌, ◌++◌, length, get_or, arith, Bor, length-drop, get_or-drop}
-use Rattle.std.specs.Prelude.{ltb, leb, if◌then◌else◌, Result, Ok, Err}
-use borrow.Author.Tests.{leb-true}
-use Rattle.le.specs.Le.{le2, le4, has}
+use Rattle.std.proofs.Common.{ℕ, zero, suc, ◌+◌, ◌-◌, ◌≤◌, ◌≡◌, refl, sym, ap, ap₂, subst, ◌∙◌, Bool, List, [], ◌∷◌, ◌++◌, length, get_or, arith, Bor, length-drop, get_or-drop}
+use Rattle.std.specs.Prelude.{Result, Ok, Err}
+use Rattle.le.specs.Le.{has}
 use Rattle.part.specs.Slice.{part, after}
 use Rattle.part.specs.End.{rest_at, IsEnd}
 use Rattle.part.specs.Outcome.{outcome}
@@ -10,8 +9,7 @@ use Rattle.refusal.specs.declared.Refusal.{Refusal}
 use Rattle.attribute.specs.declared.AdsAttribute.{AdsAttribute}
 use Rattle.attribute.specs.Attribute.{first_of, listed, ends, ends_of, next_place}
 use Rattle.field.specs.declared.front.Front.{Front}
-use Rattle.field.specs.Skip.{ahead, after_items}
-use Rattle.field.specs.Tail.{guid_of, after_mask, after_methods, attributes_of, sections_of, attribute_ends}
+use Rattle.field.specs.Tail.{guid_of, sections_of, attribute_ends}
 use Rattle.field.proofs.Within.{end_guid, end_mask, end_methods, is_list}
 use Rattle.data_type.specs.declared.AdsDataTypeInfo.{AdsDataTypeInfo}
 use Rattle.data_type.specs.declared.reader.Items.{Items}

@@ -1,5 +1,5 @@
 -- Parts of parts.
-use Rattle.std.proofs.Common.{ℕ, ◌+◌, ◌-◌, ◌≤◌, ◌≡◌, refl, sym, ap, ◌∙◌, min, List, length, arith, Bor, length-take, length-drop, drop-drop}
+use Rattle.std.proofs.Common.{ℕ, ◌+◌, ◌-◌, ◌≤◌, ◌≡◌, refl, sym, ap, ◌∙◌, min, List, length, arith, Bor}
 use native.Mathlib.Nat.{add-zero}
 use Rattle.std.proofs.lemmas.List.{take_rest}
 use Rattle.le.proofs.Laws.{part-part}

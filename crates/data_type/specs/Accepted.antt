@@ -1,6 +1,6 @@
 -- docs/FORMAT.md, "Data type entries": what an entry that was read passed.
-use Rattle.std.proofs.Common.{ℕ, ◌≡◌, refl, List, length, arith, Bor}
-use Rattle.std.specs.Prelude.{Result, Ok, Err}
+use Rattle.std.proofs.Common.{ℕ, ◌≡◌, List, length, arith, Bor}
+use Rattle.std.specs.Prelude.{Ok}
 use Rattle.part.proofs.Outcome.{both_passed}
 use Rattle.refusal.specs.declared.Mode.{Mode}
 use Rattle.field.specs.declared.front.Front.{Front}

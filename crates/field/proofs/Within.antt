@@ -1,10 +1,8 @@
 -- What a field tells lies in its entry: proved.
-use Rattle.std.proofs.Common.{ℕ, subst, zero, suc, ◌+◌, ◌-◌, ◌*◌, ◌≤◌, ◌≡◌, refl, sym, ap, ap₂, ◌∙◌, Bool, true, false, List, length, take, drop, Ok, Err, Result, min, arith, Bor, length-drop}
+use Rattle.std.proofs.Common.{ℕ, subst, zero, suc, ◌+◌, ◌*◌, ◌≤◌, ◌≡◌, refl, sym, ap, ap₂, ◌∙◌, Bool, true, false, List, length, Ok, Err, Result, min, arith, Bor}
 use Rattle.std.specs.Prelude.{ltb, leb, if◌then◌else◌}
 use Rattle.std.specs.List.{All}
 use Rattle.std.proofs.lemmas.List.Elements.{All-nil, All-cons}
-use native.Mathlib.Nat.{add_assoc}
-use lib.Seq.{drop-drop, length-take-le}
 use borrow.Author.Tests.{ltb-false, leb-true}
 use Rattle.le.specs.Le.{le2, le4, has}
 use Rattle.part.specs.Slice.{part, after}

@@ -8,7 +8,7 @@ use borrow.Author.Tests.{leb-true}
 use Rattle.flags.specs.declared.symbol_flags.AdsSymbol2Flags.{AdsSymbol2Flags}
 use Rattle.le.specs.Le.{le2, le4, has}
 use Rattle.part.specs.Slice.{part, after}
-use Rattle.part.proofs.Slice.{length_part, end_self, end_after, end_again}
+use Rattle.part.proofs.Slice.{end_self, end_after, end_again}
 use Rattle.part.specs.Outcome.{outcome}
 use Rattle.refusal.specs.declared.Mode.{Mode}
 use Rattle.refusal.specs.declared.Refusal.{Refusal}

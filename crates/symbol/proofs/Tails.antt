@@ -1,7 +1,5 @@
 -- Strings of the last bytes of an entry.
-use Rattle.std.proofs.Common.{ℕ, ◌+◌, ◌<◌, ◌≤◌, ◌≡◌, sym, ap, ap₂, ◌∙◌, List, length, take, arith, Bor, subst, length-drop}
-use native.Mathlib.Nat.{add_assoc, add-zero}
-use lib.Seq.{drop-drop}
+use Rattle.std.proofs.Common.{ℕ, ◌+◌, ◌<◌, ◌≡◌, ◌∙◌, List, length, arith, Bor, subst}
 use Rattle.part.specs.Slice.{part}
 use Rattle.part.proofs.Slice.{part_of_end}
 use Rattle.part.specs.End.{IsEnd, rest_at}

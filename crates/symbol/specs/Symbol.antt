@@ -1,5 +1,5 @@
 -- docs/FORMAT.md, "Symbol entries": a header of 30 bytes; name, type and comment, each with one end byte; then the sections that its flags name.
-use Rattle.std.specs.Prelude.{ℕ, ◌+◌, ◌-◌, ◌≤◌, Bool, List, [], ◌∷◌, Option, Some, None, Result, Ok, Err, ltb, leb, length, take, get_or, if◌then◌else◌}
+use Rattle.std.specs.Prelude.{ℕ, ◌+◌, ◌≤◌, Bool, List, [], ◌∷◌, Option, Some, None, Result, Ok, Err, ltb, leb, length, take, get_or, if◌then◌else◌}
 use Rattle.std.specs.Borrow.{Bor}
 use Rattle.le.specs.Le.{le2, le4, has}
 use Rattle.part.specs.Slice.{part, after}
