@@ -11,7 +11,7 @@ use field::front::Front;
 use field::tail::Tail;
 use flags::type_flags::AdsTypeFlags;
 use refusal::{Mode, Refusal};
-use walk::{Entry, Walker};
+use walk::{Accepts, Entry, Walker};
 
 pub mod array;
 pub mod level;
@@ -126,6 +126,14 @@ impl<'a> Entry<'a> for AdsDataTypeInfo<'a> {
     #[inline(always)]
     fn read(own: &'a [u8], mode: Mode) -> Result<Self, Refusal> {
         reader::read_entry(own, mode, reader::LEVELS)
+    }
+}
+
+impl<'a> Accepts<'a> for AdsDataTypeInfo<'a> {
+    #[inline(always)]
+    fn accepts(own: &'a [u8], mode: Mode) -> Result<(), Refusal> {
+        Self::read(own, mode)?;
+        Ok(())
     }
 }
 
