@@ -4,9 +4,12 @@ use Rattle.std.specs.Prelude.{Ok, Err, Result}
 use Rattle.le.specs.Le.{le2, part}
 use Rattle.refusal.specs.declared.Mode.{Mode}
 use Rattle.refusal.specs.declared.Refusal.{Refusal}
+use Rattle.walk.specs.Mapped.{map_ok}
 use Rattle.symbol.specs.declared.AdsSymbolInfo.{AdsSymbolInfo}
+use Rattle.symbol.specs.declared.SymbolHead.{SymbolHead}
 use Rattle.symbol.specs.Symbol.{symbol_of, ended_symbol}
 use Rattle.symbol.specs.Symbol as symbol
+use Rattle.symbol.specs.Head.{head, head_of}
 use Rattle.field.specs.declared.AdsFieldInfo.{AdsFieldInfo}
 use Rattle.field.specs.declared.front.Front.{Front}
 use Rattle.field.specs.Front.{front_of, with_strings}
@@ -14,7 +17,8 @@ use Rattle.field.specs.Tail.{tail_of}
 use Rattle.field.specs.Field.{joined, behind_items, field_of}
 use Rattle.data_type.specs.declared.AdsDataTypeInfo.{AdsDataTypeInfo}
 use Rattle.data_type.specs.DataType.{ItemReader, type_with, type_at, type_of}
-use Rattle.data_type.specs.Accepted.{and_then_ok, accepted}
+use Rattle.part.proofs.Outcome.{both_passed}
+use Rattle.data_type.specs.Accepted.{accepted}
 use Rattle.name_order.specs.declared.places.NamePlaces.{NamePlaces}
 use Rattle.name_index.specs.Named.{TellsName}
 
@@ -34,8 +38,15 @@ own_room : (mode : Mode) (e : Bor (List ℕ)) (r : AdsSymbolInfo) → symbol_of 
 unfolding symbol_of
 own_room mode e r h = grind arith
 
-pub symbol_told : (mode : Mode) (e : Bor (List ℕ)) (r : AdsSymbolInfo) → symbol_of mode e ≡ Ok r → TellsName symbol_places e.now r.name.now
-symbol_told mode e r h = record { is = own_name mode e r h; room = omega (arith, own_room mode e r h) }
+headed : (t : Result AdsSymbolInfo Refusal) (r : SymbolHead) → map_ok head t ≡ Ok r → (s : AdsSymbolInfo) × ((t ≡ Ok s) × (head s ≡ r))
+headed (Ok s) r h = (s, (refl, cc))
+headed (Err why) r h = cc
+
+pub symbol_told : (mode : Mode) (e : Bor (List ℕ)) (r : SymbolHead) → head_of mode e ≡ Ok r → TellsName symbol_places e.now r.name.now
+unfolding head_of
+symbol_told mode e r h =
+    let s = headed (symbol_of mode e) r h in
+    record { is = ap (λ (r : SymbolHead). r.name.now) (sym s.1.1) ∙ own_name mode e s.0 s.1.0; room = omega (arith, own_room mode e s.0 s.1.0) }
 
 front_name : (mode : Mode) (e : Bor (List ℕ)) (f : Front) → front_of mode e ≡ Ok f → f.name.now ≡ part e.now 42 (le2 e.now 32)
 unfolding front_of with_strings part
@@ -51,8 +62,8 @@ front_told mode e f h = record { is = front_name mode e f h; room = omega (arith
 pub field_told : (mode : Mode) (e : Bor (List ℕ)) (r : AdsFieldInfo) → field_of mode e ≡ Ok r → TellsName field_places e.now r.name.now
 unfolding field_of
 field_told mode e r h =
-    let f = and_then_ok (front_of mode e) _ r h in
-    let t = and_then_ok (tail_of mode f.0 (behind_items f.0)) _ r f.1.1 in
+    let f = both_passed (front_of mode e) h in
+    let t = both_passed (tail_of mode f.0 (behind_items f.0)) f.1.1 in
     let is : joined f.0 t.0 ≡ r = cc t.1.1 in
     subst (λ (n : Bor (List ℕ)). TellsName field_places e.now n.now) (ap (λ (x : AdsFieldInfo). x.name) is) (front_told mode e f.0 f.1.0)
 

@@ -8,9 +8,9 @@ use crate::Named;
 use data_type::AdsDataTypeInfo;
 use field::AdsFieldInfo;
 use name_order::NamePlaces;
-use symbol::AdsSymbolInfo;
+use symbol::SymbolHead;
 
-impl<'a> Named<'a> for AdsSymbolInfo<'a> {
+impl<'a> Named<'a> for SymbolHead<'a> {
     ghost places = { symbol_places };
 
     ghost name_of = { λ r. r.name.now };

@@ -1,5 +1,5 @@
 -- docs/FORMAT.md, "Walking": what is asked of kinds of entry, of fields with the place of their attributes; and that a field's attributes reach to its entry's end.
-use Rattle.std.proofs.Common.{ℕ, ◌+◌, ◌-◌, ◌∙◌, ◌<◌, ◌≤◌, ◌≡◌, ap, List, length, Ok, Err, Result, arith, Bor, length-drop}
+use Rattle.std.proofs.Common.{ℕ, ◌<◌, ◌≤◌, ◌≡◌, ap, List, length, Ok, Err, Result, Bor}
 use Rattle.std.specs.Prelude.{false}
 use Rattle.refusal.specs.declared.Mode.{Mode}
 use Rattle.refusal.specs.declared.Refusal.{Refusal}
@@ -9,17 +9,14 @@ use Rattle.walk.specs.Zero.{is_zero}
 use Rattle.field.specs.declared.AdsFieldInfo.{AdsFieldInfo}
 use Rattle.field.specs.Field.{field_of}
 use Rattle.field.specs.Kind as field
+use Rattle.part.proofs.Slice.{end_memory}
 use Rattle.field.proofs.Within.{list_place}
 use Rattle.places.specs.declared.of_field.PlacedField.{PlacedField}
 use Rattle.places.specs.Places.{IsEnd}
 use Rattle.places.specs.Field.{placed, placed_of}
 
 pub attributes_at_end : (mode : Mode) (e : Bor (List ℕ)) (r : AdsFieldInfo) → field_of mode e ≡ Ok r → IsEnd e r.attributes.bytes
-attributes_at_end mode e r h =
-    let p = list_place mode e r h in
-    let m : r.attributes.bytes.ref_ptr.1 ≡ e.ref_ptr.1 + p.at = ap (λ (s : Bor (List ℕ)). s.ref_ptr.1) p.is in
-    let l : length r.attributes.bytes.now ≡ length e.now - p.at = ap (λ (s : Bor (List ℕ)). length s.now) p.is ∙ length-drop p.at e.now in
-    record { memory = omega (arith, p.fits); within = omega arith }
+attributes_at_end mode e r h = let p = list_place mode e r h in record { memory = end_memory p; within = p.within }
 
 -- what is placed was read
 pub read_of : (mode : Mode) (e : Bor (List ℕ)) (r : PlacedField) → placed_of mode e ≡ Ok r → field_of mode e ≡ Ok r.field

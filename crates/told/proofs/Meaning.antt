@@ -15,6 +15,7 @@ use Rattle.field.specs.declared.AdsFieldInfo.{AdsFieldInfo}
 use Rattle.field.specs.Front.{with_strings as front_with_strings, front_of}
 use Rattle.field.specs.Field.{field_of}
 use Rattle.field.specs.Within.{IsWithin}
+use Rattle.part.specs.End.{rest_at}
 use Rattle.field.proofs.Within.{fields_within, list_place}
 use Rattle.places.specs.declared.of_field.PlacedField.{PlacedField}
 use Rattle.field.specs.Placed.{attributes_from}
@@ -168,8 +169,8 @@ module _ (mode : Mode) (e : Bor (List ℕ)) (r : AdsFieldInfo) (h : field_of mod
   pub list_told : 0 < length r.attributes.bytes.now → after e (attributes_from e.now) ≡ r.attributes.bytes
   list_told some =
       let l = list_place mode e r h in
-      let long : length r.attributes.bytes.now ≡ length e.now - l.at = ap (λ (s : Bor (List ℕ)). length s.now) l.is ∙ length-drop l.at e.now in
-      let at : attributes_from e.now ≡ l.at = sym (placed_is mode e r h) ∙ simp (lt-ltb 0 (length r.attributes.bytes.now) some) (omega (arith, long, l.fits, some)) in
+      let at : attributes_from e.now ≡ rest_at e r.attributes.bytes =
+      sym (placed_is mode e r h) ∙ simp (lt-ltb 0 (length r.attributes.bytes.now) some) (omega (arith, l.within, some)) in
       ap (after e) at ∙ sym l.is
 
 -- of a field with its place

@@ -16,11 +16,10 @@ use Rattle.data_type.specs.declared.array.AdsArrayInfo.{AdsArrayInfo}
 use Rattle.data_type.specs.declared.array.ArrayInfos.{ArrayInfos}
 use Rattle.data_type.specs.declared.members.Member.{Member}
 use Rattle.data_type.specs.declared.members.Position.{Position}
-use Rattle.data_type.specs.Accepted.{and_then_ok}
+use Rattle.part.proofs.Outcome.{both_passed}
 use Rattle.data_type.specs.Array as array
 use Rattle.data_type.specs.DataType.{levels, arrays_of, type_of}
 use Rattle.data_type.specs.Members.{members_of, numbered}
-use Rattle.data_type.specs.Theorems.{as_field}
 use Rattle.data_type.proofs.AsField.{entry_as_field}
 use Rattle.data_type.proofs.Inside.{accepted_at, counted}
 use Rattle.data_type.proofs.Meant.{types_meant}
@@ -50,18 +49,18 @@ filled f a h = (grind arith, grind arith)
 type_told : (mode : Mode) (e : Bor (List ℕ)) (r : AdsDataTypeInfo) → type_of mode e ≡ Ok r → TypeTold e r (λ k. get_or (type_slots (placed e r)) k 0) (type_guid (placed e r))
 unfolding type_slots field_slots
 type_told mode e r h =
-    let f = field_told mode e (as_field r) (entry_as_field mode levels e r h) in
+    let f = field_told mode e r.field (entry_as_field mode levels e r h) in
     let a = accepted_at mode levels e r h in
     let c = front_counts mode e a.front a.front_is in
     let b = filled a.front (a.arrays, a.first) a.arrays_are in
     let arrays : r.arrays ≡ a.arrays = sym (ap (λ (x : AdsDataTypeInfo). x.arrays) a.is) in
     let count : r.arrays.count ≡ a.front.array_count = ap (λ (x : ArrayInfos). x.count) arrays ∙ b.1 in
-    let at : 45 + le2 e.now 32 + le2 e.now 34 + le2 e.now 36 ≡ 45 + length r.name.now + length r.type_name.now + length r.comment.now = omega (arith, f.name_len, f.type_name_len, f.comment_len) in
-    let bytes : r.arrays.bytes ≡ part (after e (45 + length r.name.now + length r.type_name.now + length r.comment.now)) 0 (8 * r.arrays.count) =
+    let at : 45 + le2 e.now 32 + le2 e.now 34 + le2 e.now 36 ≡ 45 + length r.field.name.now + length r.field.type_name.now + length r.field.comment.now = omega (arith, f.name_len, f.type_name_len, f.comment_len) in
+    let bytes : r.arrays.bytes ≡ part (after e (45 + length r.field.name.now + length r.field.type_name.now + length r.field.comment.now)) 0 (8 * r.arrays.count) =
     ap (λ (x : ArrayInfos). x.bytes) arrays
     ∙ b.0
     ∙ ap (λ (s : Bor (List ℕ)). part s 0 (8 * a.front.array_count)) (c.0 ∙ ap (after e) at)
-    ∙ ap (λ (n : ℕ). part (after e (45 + length r.name.now + length r.type_name.now + length r.comment.now)) 0 (8 * n)) (sym count) in
+    ∙ ap (λ (n : ℕ). part (after e (45 + length r.field.name.now + length r.field.type_name.now + length r.field.comment.now)) 0 (8 * n)) (sym count) in
     record {
       as_of_field = record {
         whole = f.whole;
@@ -83,7 +82,7 @@ type_told mode e r h =
         attributes = f.attributes;
         attribute_count = f.attribute_count;
       };
-      arrays = sym (bytes ∙ part_after e (45 + length r.name.now + length r.type_name.now + length r.comment.now) 0 (45 + length r.name.now + length r.type_name.now + length r.comment.now) (8 * r.arrays.count) (omega arith));
+      arrays = sym (bytes ∙ part_after e (45 + length r.field.name.now + length r.field.type_name.now + length r.field.comment.now) 0 (45 + length r.field.name.now + length r.field.type_name.now + length r.field.comment.now) (8 * r.arrays.count) (omega arith));
       array_count = count ∙ c.1;
       item_count = sym (ap (λ (x : AdsDataTypeInfo). x.sub_items.count) a.is) ∙ c.2;
       member_count = sym (counted mode e r h);
@@ -106,7 +105,7 @@ array_not w why a h k = cc
 -- an array record with a number
 pub arrays_told : ArraysTold
 arrays_told mode s number a h =
-    let r = and_then_ok (parse_of 42 (type_of mode) s) _ a h in
+    let r = both_passed (parse_of 42 (type_of mode) s) h in
     let m = arrays_meant mode s r.0 r.1.0 in
     ⊎_elim
     (λ k. array_is (array.numbered r.0.arrays number) _ a (m.told number k) r.1.1)
@@ -150,8 +149,8 @@ module _ (mode : Mode) (s : Bor (List ℕ)) (r : AdsDataTypeInfo) (accepted : pa
 
   told : (number : ℕ) (m : PlacedMember) → type_member mode s number ≡ Ok m → MemberTold s r number m (λ k. get_or (member_slots m) k 0) (λ k. get_or (path_slots m) k 0) (member_guid m)
   told number m h =
-      let x = and_then_ok (numbered r number) _ m (of_accepted number m h) in
-      let p = and_then_ok (placed_of mode x.0.own) _ m x.1.1 in
+      let x = both_passed (numbered r number) (of_accepted number m h) in
+      let p = both_passed (placed_of mode x.0.own) x.1.1 in
       let is : record { position = x.0.position; placed = p.0 } ≡ m = cc p.1.1 in
       let found : slice_get (members_of r) number ≡ Some x.0 = numbered_at (slice_get (members_of r) number) _ x.0 x.1.0 in
       let stands = (types_meant mode s r accepted).stands number x.0 found in

@@ -5,10 +5,9 @@ use Rattle.refusal.specs.declared.Mode.{Mode}
 use Rattle.walk.specs.Step.{parse_of, step_at}
 use Rattle.field.specs.Within.{IsWithin}
 use Rattle.field.proofs.Within.{fields_within}
-use Rattle.data_type.specs.Accepted.{and_then_ok}
+use Rattle.part.proofs.Outcome.{both_passed}
 use Rattle.data_type.specs.DataType.{levels, type_of}
 use Rattle.data_type.specs.Members.{numbered}
-use Rattle.data_type.specs.Theorems.{as_field}
 use Rattle.data_type.proofs.AsField.{entry_as_field}
 use Rattle.places.specs.declared.of_type.PlacedType.{PlacedType}
 use Rattle.places.specs.DataTypes.{placed_of}
@@ -20,7 +19,7 @@ use Rattle.told_type.specs.Shown.{IsTypeShown}
 
 pub type_shown : (mode : Mode) (e : Bor (List ℕ)) (p : PlacedType) → placed_of mode e ≡ Ok p → IsTypeShown p
 type_shown mode e p h =
-    let w : IsWithin e (as_field p.data_type) = fields_within mode e (as_field p.data_type) (entry_as_field mode levels e p.data_type (read_of mode e p h)) in
+    let w : IsWithin e p.data_type.field = fields_within mode e p.data_type.field (entry_as_field mode levels e p.data_type (read_of mode e p h)) in
     omega (arith, w.room, w.long)
 
 pub parsed_shown : (mode : Mode) (s : Bor (List ℕ)) (p : PlacedType) → parse_of 42 (placed_of mode) s ≡ Ok p → IsTypeShown p
@@ -32,8 +31,8 @@ stepped_shown mode s at p h = of_stepped (placed_of mode) IsTypeShown (type_show
 -- and what is told of a member
 pub member_shown : (mode : Mode) (s : Bor (List ℕ)) (number : ℕ) (m : PlacedMember) → type_member mode s number ≡ Ok m → IsTypeShown m.placed
 member_shown mode s number m h =
-    let r = and_then_ok (parse_of 42 (type_of mode) s) _ m h in
-    let x = and_then_ok (numbered r.0 _) _ m r.1.1 in
-    let p = and_then_ok (placed_of mode x.0.own) _ m x.1.1 in
+    let r = both_passed (parse_of 42 (type_of mode) s) h in
+    let x = both_passed (numbered r.0 _) r.1.1 in
+    let p = both_passed (placed_of mode x.0.own) x.1.1 in
     let is : record { position = x.0.position; placed = p.0 } ≡ m = cc p.1.1 in
     subst IsTypeShown (ap (λ (q : PlacedMember). q.placed) is) (type_shown mode x.0.own p.0 p.1.0)
