@@ -1,5 +1,5 @@
 -- Why bytes and a text are refused: above the limit, and at the first fault. Assumes nothing.
-use Rattle.std.proofs.Common.{◌≡◌, refl, sym, ap, ◌∙◌, subst, ◌⊎◌, ⊎_elim, Result, Ok, Err, List, [], ◌++◌, append-nil, Bool, true, false, ltb, ℕ, ◌+◌, ◌≤◌, ◌<◌, arith, length, take, drop, length-append, length-take-le, take-append-drop, ltb-true, if◌then◌else◌}
+use Rattle.std.proofs.Common.{◌≡◌, refl, sym, ap, ◌∙◌, subst, ◌⊎◌, ⊎_elim, Ok, Err, List, [], ◌++◌, Bool, true, false, ltb, ℕ, ◌+◌, ◌<◌, arith, length, take, drop, length-append, length-take-le, take-append-drop, ltb-true, if◌then◌else◌}
 use lib.Seq.{drop-append_seam, take-append_seam}
 use Rattle.refusal.specs.Refusal.{limit}
 use Rattle.refusal.specs.declared.Refusal.{Refusal}

@@ -1,5 +1,5 @@
 -- Laws of std's UTF-8: the bytes of a code point, and the longest front that is UTF-8. Assumes nothing.
-use Rattle.std.proofs.Common.{◌≡◌, refl, sym, ap, ◌∙◌, subst, ◌⊎◌, inl, inr, ⊎_elim, ℕ, zero, suc, zero-le, suc-le-suc, ◌+◌, ◌-◌, ◌/◌, ◌%◌, ◌≤◌, ◌<◌, ◌&&◌, Bool, true, false, true≢false, List, [], ◌∷◌, ◌++◌, append_assoc, length, take, drop, get_or, IsUtf8, chars, encode_utf8_all, if◌then◌else◌, add-one, arith, length-append, length-drop, length-take-le, take-append-drop, drop-cons, drop_at, take_all, lt-ltb, le-ltb}
+use Rattle.std.proofs.Common.{◌≡◌, refl, sym, ap, ◌∙◌, subst, ◌⊎◌, inl, inr, ⊎_elim, ℕ, zero, suc, zero-le, suc-le-suc, ◌+◌, ◌-◌, ◌/◌, ◌%◌, ◌≤◌, ◌<◌, ◌&&◌, Bool, true, false, true≢false, List, [], ◌∷◌, ◌++◌, append_assoc, length, take, drop, get_or, IsUtf8, chars, encode_utf8_all, if◌then◌else◌, add-one, arith, length-append, length-take-le, take-append-drop, drop-cons, lt-ltb, le-ltb}
 use Rattle.std.specs.Char.{IsScalar, encode_utf8}
 use lib.Utf8.{scalar}
 use Rattle.std.specs.Str.{is_utf8, all_scalars}

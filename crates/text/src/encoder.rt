@@ -102,13 +102,8 @@ fn fault_at(s: &[u8], at: usize) -> usize
     ensures { result ≡ fault_kind (drop at s.now) }
 {
     match str::from_utf8(first_four(s, at)) {
-        Ok(_) => 2,
-        Err(fault) => {
-            if fault.valid_up_to() == 0 {
-                return 1;
-            }
-            2
-        }
+        Err(fault) if fault.valid_up_to() == 0 => 1,
+        _ => 2,
     }
 }
 

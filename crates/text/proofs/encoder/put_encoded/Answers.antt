@@ -1,5 +1,5 @@
-use Rattle.std.proofs.Common.{◌≡◌, ◌+◌, ℕ, List, refl, sym, ◌∙◌, arith}
-use Rattle.text.proofs.Back.{going_none, going_end, going_leads, going_turn, leads_low, width_at, width_low, Going}
+use Rattle.std.proofs.Common.{refl, sym, ◌∙◌, arith}
+use Rattle.text.proofs.Back.{going_none, going_end, going_leads, going_turn, leads_low, width_at, width_low}
 use Rattle.text.proofs.encoder.put_encoded.Goals.{then-first-lt128, else-first-lt128}
 use Rattle.text.proofs.encoder.put_encoded.Goals as goal
 
