@@ -1,5 +1,4 @@
-use Rattle.std.proofs.Common.{◌≡◌, ℕ, ◌+◌, Bool, arith, eqb, length, if◌then◌else◌}
-use lib.Dec.{eqb→eq}
+use Rattle.std.proofs.Common.{◌≡◌, ℕ, ◌+◌, Bool, arith, eqb, length, if◌then◌else◌, eqb→eq}
 use lib.Bits.{bit_and}
 use Rattle.text.proofs.Table.{below_at}
 use Rattle.text.proofs.Byte.{text_most}

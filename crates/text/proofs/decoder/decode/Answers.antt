@@ -1,5 +1,4 @@
-use Rattle.std.specs.Prelude.{Ok}
-use Rattle.std.proofs.Common.{ℕ, List, ap, ◌∙◌, arith}
+use Rattle.std.proofs.Common.{Ok, ℕ, List, ap, ◌∙◌, arith}
 use Rattle.text.proofs.Byte.{decoded_most}
 use Rattle.text.specs.Text.{decoded, decoding}
 use Rattle.text.proofs.Laws.{same_writing, too_large, in_limit, writes_none, writes_small, writes_done, decoded_same}
