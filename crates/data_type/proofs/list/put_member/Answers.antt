@@ -1,5 +1,5 @@
-use Rattle.std.proofs.Common.{ap, refl}
-use Rattle.le.proofs.Laws.{put_three, wrote, same_bytes}
+use Rattle.std.proofs.Common.{refl}
+use Rattle.le.proofs.Laws.{put_three, wrote}
 use Rattle.data_type.proofs.list.put_member.Goals as goal
 
 pub returns : goal.returns
