@@ -3,7 +3,7 @@ ghost use Rattle.field.specs.Laid.{FieldsLaid};
 ghost use Rattle.field.specs.Modes.{FieldsModes};
 ghost use Rattle.field.specs.Placed.{FieldsPlaced, FieldsRead};
 ghost use Rattle.field.specs.Refused.{FieldsRefused};
-ghost use Rattle.field.specs.Told.{IsTyped};
+ghost use Rattle.field.specs.Told.{IsTyped, FieldsAnywhere};
 ghost use Rattle.field.specs.Bytes.{FieldsInBytes};
 ghost use Rattle.field.specs.Written.{FieldsWritten};
 ghost use Rattle.field.specs.Within.{FieldsWithin};
@@ -61,4 +61,9 @@ pub fn fields_written()
 /// zeros and a copy mask as so many zeros as the size says.
 pub fn fields_in_bytes()
     ensures { FieldsInBytes }
+{}
+
+/// What a field tells does not depend on where it lies in memory.
+pub fn fields_anywhere()
+    ensures { FieldsAnywhere }
 {}

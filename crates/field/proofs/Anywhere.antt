@@ -1,87 +1,25 @@
--- docs/FORMAT.md, "One bad entry" and "Field entries". What a field tells does not depend on where it lies in memory.
-use Rattle.std.proofs.Common.{◌≡◌, ℕ, zero, suc, ◌+◌, ◌-◌, ◌*◌, ◌⊎◌, inl, inr, Bool, true, false, List, ◌∷◌, length, min, refl, sym, ap, ◌∙◌, Bor}
-use Rattle.std.specs.Prelude.{Option, Some, None, Result, Ok, Err, ltb, leb, eqb, get_or, if◌then◌else◌}
+-- What a field tells does not depend on where it lies in memory.
+use Rattle.std.proofs.Common.{◌≡◌, ℕ, zero, suc, ◌+◌, ◌-◌, ◌*◌, ◌⊎◌, inl, inr, Bool, true, false, List, length, min, refl, sym, ap, ◌∙◌, Bor}
+use Rattle.std.specs.Prelude.{Option, Some, None, Result, Ok, Err, ltb, leb, if◌then◌else◌}
 use Rattle.le.specs.Le.{le2, le4, has}
-use Rattle.part.specs.Slice.{part, after}
+use Rattle.part.specs.Slice.{after}
 use Rattle.part.specs.Outcome.{and_then}
 use Rattle.refusal.specs.EndBytes.{ended, in_mode}
 use Rattle.refusal.specs.declared.Mode.{Mode}
 use Rattle.refusal.specs.declared.Refusal.{Refusal}
-use Rattle.refusal.specs.declared.Refusal.TheVariants.{TooShort, UnexpectedLength, EntryLengthMismatch}
+use Rattle.refusal.specs.declared.Refusal.TheVariants.{TooShort, EntryLengthMismatch}
 use Rattle.walk.specs.Mapped.{map_ok}
 use Rattle.attribute.specs.Attribute as attribute
-use Rattle.attribute.specs.declared.AdsAttribute.{AdsAttribute}
 use Rattle.attribute.specs.declared.Attributes.{Attributes}
 use Rattle.attribute.specs.Told as attributes
+use Rattle.attribute.proofs.Anywhere.{moved, on, Moved, attributes_at, count_moved, stopped_moved, attributes_end, attributes_told}
 use Rattle.field.specs.declared.front.Front.{Front}
 use Rattle.field.specs.declared.tail.Tail.{Tail}
 use Rattle.field.specs.Skip.{ahead, after_items}
 use Rattle.field.specs.Front.{with_strings, string_ends, front_of}
 use Rattle.field.specs.Tail.{type_guid_flag, copy_mask_flag, method_infos_flag, attributes_flag, guid_of, after_mask, after_methods, attributes_of, complete, tail_of}
 use Rattle.field.specs.Field.{joined, behind_items, field_of}
-use Rattle.field.specs.Told.{told_of}
-
--- the same bytes at another place
-abbrev pub moved : ℕ × ℕ → Bor (List ℕ) → Bor (List ℕ)
-moved m s = record { ref_ptr = m; now = s.now }
-
-abbrev pub on : ℕ × ℕ → ℕ → ℕ × ℕ
-on m k = (m.0, m.1 + k)
-
--- bytes that were moved, and to where
-abbrev pub Moved : Bor (List ℕ) → Bor (List ℕ) → Type 0
-Moved s t = (m : ℕ × ℕ) × (t ≡ moved m s)
-
--- attributes
-abbrev attribute_in : ℕ → ℕ → Bor (List ℕ) → AdsAttribute
-attribute_in n v s = record { name = part s 2 n; value = part s (n + 3) v }
-
--- the first of them: the same refusal, or its strings and the bytes after it, as many further on
-abbrev First : ℕ × ℕ → Bor (List ℕ) → Result (AdsAttribute × Bor (List ℕ)) Refusal → Result (AdsAttribute × Bor (List ℕ)) Refusal → Type 0
-First m s a b =
-    ((why : Refusal) × (a ≡ Err why) × (b ≡ Err why))
-    ⊎ ((n : ℕ) × (v : ℕ) × (k : ℕ) × (a ≡ Ok (attribute_in n v (moved m s), after (moved m s) k)) × (b ≡ Ok (attribute_in n v s, after s k)))
-
-first_by : (m : ℕ × ℕ) (s : Bor (List ℕ)) (n v : ℕ) (b c : Bool) → ltb (length s.now) 4 ≡ b → ltb (length s.now) (n + v + 4) ≡ c → First m s (attribute.sized (moved m s) n v) (attribute.sized s n v)
-first_by m s n v true c p q = inl (TooShort 4 (length s.now), rw p refl, rw p refl)
-first_by m s n v false true p q = inl (UnexpectedLength (n + v + 4) (length s.now), rw (p, q) refl, rw (p, q) refl)
-first_by m s n v false false p q = inr (n, v, n + v + 4, rw (p, q) refl, rw (p, q) refl)
-
-first_moved : (m : ℕ × ℕ) (s : Bor (List ℕ)) → First m s (attribute.first_of (moved m s)) (attribute.first_of s)
-unfolding attribute.first_of
-first_moved m s = first_by m s (get_or s.now 0 0) (get_or s.now 1 0) _ _ refl refl
-
-count_moved : (m : ℕ × ℕ) (s : Bor (List ℕ)) (n : ℕ) → length (attribute.listed (moved m s) n) ≡ length (attribute.listed s n)
-unfolding attribute.listed
-count_moved m s zero = refl
-count_moved m s (suc n) = elim (first_moved m s) [
-  | inl w ↦ rw (w.1, w.2) refl
-  | inr w ↦ rw (w.3, w.4) (ap suc (count_moved (on m w.2) (after s w.2) n))
-]
-
-stopped_moved : (m : ℕ × ℕ) (s : Bor (List ℕ)) (n : ℕ) → attribute.stopped (moved m s) n ≡ attribute.stopped s n
-unfolding attribute.stopped
-stopped_moved m s zero = refl
-stopped_moved m s (suc n) = elim (first_moved m s) [
-  | inl w ↦ rw (w.1, w.2) refl
-  | inr w ↦ rw (w.3, w.4) (ap (λ o. if eqb (length (after s w.2).now) 0 then None else o) (stopped_moved (on m w.2) (after s w.2) n))
-]
-
-attributes_end : (m : ℕ × ℕ) (s : Bor (List ℕ)) (at n : ℕ) → attribute.ends (moved m s) at n ≡ attribute.ends s at n
-unfolding attribute.ends
-attributes_end m s at zero = refl
-attributes_end m s at (suc n) = elim (first_moved m s) [
-  | inl w ↦ rw (w.1, w.2) refl
-  | inr w ↦ rw (w.3, w.4, attributes_end (on m w.2) (after s w.2) _ n) refl
-]
-
-pub attributes_told : (m : ℕ × ℕ) (s : Bor (List ℕ)) (n : ℕ) → attributes.told (attribute.listed (moved m s) n) ≡ attributes.told (attribute.listed s n)
-unfolding attribute.listed
-attributes_told m s zero = refl
-attributes_told m s (suc n) = elim (first_moved m s) [
-  | inl w ↦ rw (w.1, w.2) refl
-  | inr w ↦ rw (w.3, w.4) (ap (λ l. attributes.told_of (attribute_in w.0 w.1 s) ∷ l) (attributes_told (on m w.2) (after s w.2) n))
-]
+use Rattle.field.specs.Told.{told_of, FieldsAnywhere}
 
 -- what is passed over
 items_by : (m : ℕ × ℕ) (s : Bor (List ℕ)) (n : ℕ) (b : Bool)
@@ -112,9 +50,6 @@ unfolding guid_of
 guid_moved m s true true p = (on m 16, rw p refl)
 guid_moved m s true false p = (m, rw p refl)
 guid_moved m s false c p = (m, refl)
-
-abbrev pub attributes_at : ℕ × ℕ → Attributes → Attributes
-attributes_at m a = record { bytes = moved m a.bytes; count = a.count }
 
 attributes_moved : (m : ℕ × ℕ) (s : Bor (List ℕ)) (b c : Bool) → leb 2 (length s.now) ≡ c → (l : ℕ × ℕ) × (attributes_of (moved m s) b ≡ (attributes_at l (attributes_of s b).0, (attributes_of s b).1))
 unfolding attributes_of
@@ -188,7 +123,7 @@ told_moved mode m e = elim (front_moved mode m e) [
   | inr w ↦ rw (w.0, w.1) (field_by mode m e (le2 e.now 32) (le2 e.now 34) (le2 e.now 36))
 ]
 
-pub fields_anywhere : (mode : Mode) (e f : Bor (List ℕ)) → e.now ≡ f.now → map_ok told_of (field_of mode e) ≡ map_ok told_of (field_of mode f)
+pub fields_anywhere : FieldsAnywhere
 fields_anywhere mode e f h =
     let is : moved f.ref_ptr e ≡ f = ap (λ (s : List ℕ). record { ref_ptr = f.ref_ptr; now = s }) h in
     sym (told_moved mode f.ref_ptr e) ∙ ap (λ q. map_ok told_of (field_of mode q)) is

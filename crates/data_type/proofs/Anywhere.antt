@@ -1,4 +1,4 @@
--- docs/FORMAT.md, "One bad entry" and "Data type entries". What a data type tells does not depend on where it lies in memory.
+-- What a data type tells does not depend on where it lies in memory.
 use Rattle.std.proofs.Common.{◌≡◌, ℕ, zero, suc, ◌+◌, ◌-◌, ◌*◌, ◌⊎◌, inl, inr, Bool, true, false, List, [], ◌∷◌, ◌++◌, length, map, refl, sym, ap, ap₂, ◌∙◌, Bor}
 use Rattle.std.specs.Prelude.{Option, Result, Ok, Err, ltb, if◌then◌else◌}
 use Rattle.std.proofs.lemmas.List.{map-append}
@@ -12,25 +12,26 @@ use Rattle.refusal.specs.declared.Refusal.TheVariants.{TooShort, EntryLengthMism
 use Rattle.walk.specs.Mapped.{map_ok}
 use Rattle.attribute.specs.declared.Attributes.{Attributes}
 use Rattle.attribute.specs.Told as attributes
+use Rattle.attribute.proofs.Anywhere.{moved, on, attributes_at, attributes_told}
 use Rattle.field.specs.declared.tail.Tail.{Tail}
 use Rattle.field.specs.declared.front.Front.{Front}
 use Rattle.field.specs.Front.{with_strings, front_of}
 use Rattle.field.specs.Tail.{tail_of}
 use Rattle.field.specs.Field.{joined}
 use Rattle.field.specs.Told as field
+use Rattle.field.proofs.Anywhere.{tail_moved, front_moved}
 use Rattle.data_type.specs.declared.AdsDataTypeInfo.{AdsDataTypeInfo}
 use Rattle.data_type.specs.declared.array.AdsArrayInfo.{AdsArrayInfo}
 use Rattle.data_type.specs.declared.SubItems.{SubItems}
 use Rattle.data_type.specs.declared.array.ArrayInfos.{ArrayInfos}
-use Rattle.data_type.specs.declared.members.Item.{Item}
+use Rattle.data_type.specs.declared.members.SubItem.{SubItem}
 use Rattle.data_type.specs.declared.members.Member.{Member}
 use Rattle.data_type.specs.declared.members.Position.{Position}
-use Rattle.data_type.specs.declared.reader.Items.{Items}
+use Rattle.data_type.specs.declared.reader.ReadSubItems.{ReadSubItems}
 use Rattle.data_type.specs.Array.{listed, first_of}
 use Rattle.data_type.specs.Members.{root, below, item_in, each, members_below}
 use Rattle.data_type.specs.DataType.{taken, ItemReader, items_from, arrays_of, sub_items_of, type_with, too_deep, item_by, type_at, levels, type_of}
-use Rattle.types_regrown.specs.Told.{ToldMember, told_member, Told, told_of}
-use Rattle.types_damaged.specs.Anywhere.{moved, on, tail_moved, front_moved, attributes_at, attributes_told}
+use Rattle.data_type.specs.Told.{ToldMember, told_member, Told, told_of, TypesAnywhere}
 
 -- array records
 arrays_told : (m : ℕ × ℕ) (s : Bor (List ℕ)) (n : ℕ) → listed (moved m s) n ≡ listed s n
@@ -77,26 +78,29 @@ unfolding taken
 taken_moved m s = taken_by m s (ltb (length s.now) 4) (ltb (length s.now) (le4 s.now 0)) (ltb (le4 s.now 0) 42) (TooShort 4 (length s.now)) (EntryLengthMismatch (le4 s.now 0) (length s.now)) (ClaimBelowHeader 42 (le4 s.now 0))
 
 -- a sub-item by its front and its array records
-abbrev item_at : ℕ × ℕ → ℕ × ℕ → ℕ × ℕ → Item → Item
-item_at a b c i = record { own = moved a i.own; offset = i.offset; first = moved b i.first; count = i.count; behind = moved c i.behind }
+abbrev sub_items_at : ℕ × ℕ → SubItems → SubItems
+sub_items_at m a = record { bytes = moved m a.bytes; count = a.count }
 
-abbrev ItemsIn : Result Item Refusal → Result Item Refusal → Type 0
-ItemsIn x y = ((why : Refusal) × (x ≡ Err why) × (y ≡ Err why)) ⊎ ((a : ℕ × ℕ) × (b : ℕ × ℕ) × (c : ℕ × ℕ) × (i : Item) × (x ≡ Ok (item_at a b c i)) × (y ≡ Ok i))
+abbrev item_at : ℕ × ℕ → ℕ × ℕ → ℕ × ℕ → SubItem → SubItem
+item_at a b c i = record { own = moved a i.own; offset = i.offset; sub_items = sub_items_at b i.sub_items; behind = moved c i.behind }
+
+abbrev ItemsIn : Result SubItem Refusal → Result SubItem Refusal → Type 0
+ItemsIn x y = ((why : Refusal) × (x ≡ Err why) × (y ≡ Err why)) ⊎ ((a : ℕ × ℕ) × (b : ℕ × ℕ) × (c : ℕ × ℕ) × (i : SubItem) × (x ≡ Ok (item_at a b c i)) × (y ≡ Ok i))
 
 item_front : (m : ℕ × ℕ) (e : Bor (List ℕ)) (n t k : ℕ) (c : ℕ × ℕ) (behind : Bor (List ℕ))
     → ItemsIn
-    (and_then (arrays_of (with_strings (moved m e) n t k)) (λ a. Ok (record { own = moved m e; offset = (with_strings (moved m e) n t k).offset; first = a.1; count = (with_strings (moved m e) n t k).sub_item_count; behind = moved c behind })))
-    (and_then (arrays_of (with_strings e n t k)) (λ a. Ok (record { own = e; offset = (with_strings e n t k).offset; first = a.1; count = (with_strings e n t k).sub_item_count; behind = behind })))
+    (and_then (arrays_of (with_strings (moved m e) n t k)) (λ a. Ok (record { own = moved m e; offset = (with_strings (moved m e) n t k).offset; sub_items = sub_items_of (with_strings (moved m e) n t k) a.1; behind = moved c behind })))
+    (and_then (arrays_of (with_strings e n t k)) (λ a. Ok (record { own = e; offset = (with_strings e n t k).offset; sub_items = sub_items_of (with_strings e n t k) a.1; behind = behind })))
 unfolding with_strings
 item_front m e n t k c behind = elim (arrays_moved m e n t k) [
   | inl w ↦ rw (w.1, w.2) (inl (w.0, refl, refl))
-  | inr w ↦ rw (w.0, w.1) (inr (m, on (on m (45 + n + t + k)) (8 * le2 e.now 38), c, record { own = e; offset = le4 e.now 20; first = after (after e (45 + n + t + k)) (8 * le2 e.now 38); count = le2 e.now 40; behind = behind }, refl, refl))
+  | inr w ↦ rw (w.0, w.1) (inr (m, on (on m (45 + n + t + k)) (8 * le2 e.now 38), c, record { own = e; offset = le4 e.now 20; sub_items = record { bytes = after (after e (45 + n + t + k)) (8 * le2 e.now 38); count = le2 e.now 40 }; behind = behind }, refl, refl))
 ]
 
 item_own : (m : ℕ × ℕ) (e : Bor (List ℕ)) (c : ℕ × ℕ) (behind : Bor (List ℕ))
     → ItemsIn
-    (and_then (front_of Present (moved m e)) (λ f. and_then (arrays_of f) (λ a. Ok (record { own = moved m e; offset = f.offset; first = a.1; count = f.sub_item_count; behind = moved c behind }))))
-    (and_then (front_of Present e) (λ f. and_then (arrays_of f) (λ a. Ok (record { own = e; offset = f.offset; first = a.1; count = f.sub_item_count; behind = behind }))))
+    (and_then (front_of Present (moved m e)) (λ f. and_then (arrays_of f) (λ a. Ok (record { own = moved m e; offset = f.offset; sub_items = sub_items_of f a.1; behind = moved c behind }))))
+    (and_then (front_of Present e) (λ f. and_then (arrays_of f) (λ a. Ok (record { own = e; offset = f.offset; sub_items = sub_items_of f a.1; behind = behind }))))
 item_own m e c behind = elim (front_moved Present m e) [
   | inl w ↦ rw (w.1, w.2) (inl (w.0, refl, refl))
   | inr w ↦ rw (w.0, w.1) (item_front m e (le2 e.now 32) (le2 e.now 34) (le2 e.now 36) c behind)
@@ -110,8 +114,8 @@ item_moved m s = elim (taken_moved m s) [
 ]
 
 -- the members of an entry, by what one at a place brings
-module _ (brings : ℕ → Item → List Member) (alike : (a b c : ℕ × ℕ) (place : ℕ) (i : Item) → map told_member (brings place (item_at a b c i)) ≡ map told_member (brings place i)) (end : ℕ) where
-  each_by : (n place : ℕ) (a b c : ℕ × ℕ) (i : Item) → map told_member (each brings end (moved c i.behind) n) ≡ map told_member (each brings end i.behind n)
+module _ (brings : ℕ → SubItem → List Member) (alike : (a b c : ℕ × ℕ) (place : ℕ) (i : SubItem) → map told_member (brings place (item_at a b c i)) ≡ map told_member (brings place i)) (end : ℕ) where
+  each_by : (n place : ℕ) (a b c : ℕ × ℕ) (i : SubItem) → map told_member (each brings end (moved c i.behind) n) ≡ map told_member (each brings end i.behind n)
       → map told_member (brings place (item_at a b c i) ++ each brings end (moved c i.behind) n) ≡ map told_member (brings place i ++ each brings end i.behind n)
   each_by n place a b c i on =
       map-append told_member (brings place (item_at a b c i)) (each brings end (moved c i.behind) n)
@@ -131,10 +135,10 @@ unfolding members_below
 members_told zero above end m s count = refl
 members_told (suc left) above end m s count =
     each_moved
-    (λ place item. let p : Position = below above place item.offset in record { position = p; own = item.own } ∷ members_below left p (place + length item.own.now) item.first item.count)
+    (λ place item. let p : Position = below above place item.offset in record { position = p; own = item.own } ∷ members_below left p (place + length item.own.now) item.sub_items.bytes item.sub_items.count)
     (λ a b c place i.
     let p : Position = below above place i.offset in
-    ap (λ (l : List ToldMember). record { position = p; own = i.own.now } ∷ l) (members_told left p (place + length i.own.now) b i.first i.count))
+    ap (λ (l : List ToldMember). record { position = p; own = i.own.now } ∷ l) (members_told left p (place + length i.own.now) b i.sub_items.bytes i.sub_items.count))
     end count m s
 
 -- a sub-item as it is read, and so many of them
@@ -143,11 +147,11 @@ Read x y =
     ((why : Refusal) × (x ≡ Err why) × (y ≡ Err why))
     ⊎ ((m : ℕ × ℕ) × (q : AdsDataTypeInfo) × (r : AdsDataTypeInfo) × (s : Bor (List ℕ)) × (x ≡ Ok (q, moved m s)) × (y ≡ Ok (r, s)) × (q.member_count ≡ r.member_count))
 
-abbrev Counted : Result Items Refusal → Result Items Refusal → Type 0
-Counted x y = ((why : Refusal) × (x ≡ Err why) × (y ≡ Err why)) ⊎ ((m : ℕ × ℕ) × (i : Items) × (x ≡ Ok (record { rest = moved m i.rest; members = i.members })) × (y ≡ Ok i))
+abbrev Counted : Result ReadSubItems Refusal → Result ReadSubItems Refusal → Type 0
+Counted x y = ((why : Refusal) × (x ≡ Err why) × (y ≡ Err why)) ⊎ ((m : ℕ × ℕ) × (i : ReadSubItems) × (x ≡ Ok (record { rest = moved m i.rest; members = i.members })) × (y ≡ Ok i))
 
 module _ (item : ItemReader) (alike : (m : ℕ × ℕ) (s : Bor (List ℕ)) → Read (item (moved m s)) (item s)) where
-  counted_by : (n p q : ℕ) (x y : Result Items Refusal) → p ≡ q → Counted x y
+  counted_by : (n p q : ℕ) (x y : Result ReadSubItems Refusal) → p ≡ q → Counted x y
       → Counted (and_then x (λ more. Ok (record { rest = more.rest; members = 1 + p + more.members }))) (and_then y (λ more. Ok (record { rest = more.rest; members = 1 + q + more.members })))
   counted_by n p q x y e (inl w) = rw (w.1, w.2) (inl (w.0, refl, refl))
   counted_by n p q x y e (inr w) = rw (w.2, w.3, e) (inr (w.0, record { rest = w.1.rest; members = 1 + q + w.1.members }, refl, refl))
@@ -235,7 +239,7 @@ module _ (mode : Mode) where
   types_told x y (inl w) = rw (w.1, w.2) refl
   types_told x y (inr w) = rw (w.2, w.3) (ap Ok w.4)
 
-pub types_anywhere : (mode : Mode) (e f : Bor (List ℕ)) → e.now ≡ f.now → map_ok told_of (type_of mode e) ≡ map_ok told_of (type_of mode f)
+pub types_anywhere : TypesAnywhere
 types_anywhere mode e f h =
     let is : moved f.ref_ptr e ≡ f = ap (λ (s : List ℕ). record { ref_ptr = f.ref_ptr; now = s }) h in
     sym (types_told mode (type_of mode (moved f.ref_ptr e)) (type_of mode e) (at_moved mode levels f.ref_ptr e)) ∙ ap (λ q. map_ok told_of (type_of mode q)) is
