@@ -196,6 +196,7 @@ pub fn read<'a>(alloc: Global, line: &'a [String]) -> Result<Request<'a>, Failur
 }
 
 // The words that are left, behind the one that says what to do.
+#[derive(Drop)]
 struct Words<'w, 'a> {
     alloc: Global,
     command: &'a str,
