@@ -14,7 +14,7 @@ mod types;
 
 use arguments::{Asked, Request, Run};
 use failure::Failure;
-use report::{Counts, Upload};
+use report::{Tally, Upload};
 use std::env;
 use std::io::{BufWriter, ErrorKind, IsTerminal, Write};
 use std::process::ExitCode;
@@ -92,14 +92,14 @@ fn answer_of_a_file<W: Write>(
         Asked::Find { name, attribute } => find::find(alloc, &upload, name, *attribute, out)?,
         Asked::Show { name } => show::show(alloc, &upload, name, is_coloured(rt), out)?,
         Asked::List { json: true } => {
-            let counts = report::json::list(&upload, out)?;
-            return unless_refused(rt, &upload, counts);
+            let tally = report::list::list(&upload, out)?;
+            return unless_refused(rt, &upload, tally);
         }
         Asked::List { json: false } => {
-            let counts = report::table::list(&upload, out)?;
-            return unless_refused(rt, &upload, counts);
+            let tally = report::table::list(&upload, out)?;
+            return unless_refused(rt, &upload, tally);
         }
-        Asked::Check => return Ok(report::check::check(&upload, out)?),
+        Asked::Check => return Ok(report::check::check(&upload, out)?.refused == 0),
         Asked::Compare { with, json } => {
             let other = source::read(rt, with, run.form, run.mode)?;
             return compare::compare(alloc, &upload, &other.upload(), *json, out);
@@ -111,11 +111,11 @@ fn answer_of_a_file<W: Write>(
 }
 
 // How a list ends: entries that were refused stand in it, and one of many is easily overlooked.
-fn unless_refused(rt: &HostRuntime, upload: &Upload<'_>, counts: Counts) -> Result<bool, Failure> {
-    if counts.refused == 0 {
+fn unless_refused(rt: &HostRuntime, upload: &Upload<'_>, tally: Tally) -> Result<bool, Failure> {
+    if tally.refused == 0 {
         return Ok(true);
     }
-    let (refused, all) = (Grouped(counts.refused), Grouped(counts.all));
+    let (refused, all) = (Grouped(tally.refused), Grouped(tally.all()));
     Err(Failure::Refused(format!(in rt.alloc(); "{upload}: refused entries: {refused} of {all}")?))
 }
 

@@ -1,40 +1,20 @@
-//! `list --json`: a line of JSON an entry.
+//! What stands in JSON of a symbol, and of an entry that was refused (docs/FORMAT.md, "The command's text").
+ghost use Rattle.std.specs.Prelude.{Some};
+ghost use Rattle.std.specs.List.{join_by};
+ghost use Rattle.attribute.specs.Attribute as attribute;
+ghost use Rattle.refactor.specs.Refactor as refactor;
+ghost use Rattle.report.specs.Json.{refused_text, strings_text, numbers_text, sections_text, symbol_text, guid_text, guid_or_null, attribute_text, attributes_text, former_text, formers_text, extended_text};
 
-use crate::{Counts, Upload};
-use attribute::Attributes;
+use attribute::{AdsAttribute, Attributes};
+use flags::symbol_flags::AdsSymbol2Flags;
 use refactor::RefactorInfos;
 use refusal::Refusal;
-use std::io::Write;
-use std::{fmt, io};
-use symbol::{AdsSymbolInfo, Symbols};
-use wording::InWords;
+use std::fmt;
+use symbol::AdsSymbolInfo;
+use wording::{InWords, Pair};
 use wording::text::Quoted;
 
-/// A line for each entry.
-pub fn list<W: Write>(upload: &Upload<'_>, out: &mut W) -> io::Result<Counts> {
-    let mut counts = Counts::new();
-    for piece in Symbols::new(upload.bytes, upload.mode) {
-        let place = piece.start;
-        match piece.answer {
-            Ok(symbol) => {
-                counts.count(false);
-                let entry = Entry {
-                    place,
-                    symbol: &symbol,
-                };
-                writeln!(out, "{entry}")?;
-            }
-            Err(why) => {
-                counts.count(true);
-                let entry = RefusedEntry { place, why: &why };
-                writeln!(out, "{entry}")?;
-            }
-        }
-    }
-    Ok(counts)
-}
-
-/// An entry that was refused, in an object of JSON.
+/// An entry that was refused, in an object.
 #[derive(Clone, Copy)]
 pub struct RefusedEntry<'a> {
     /// Where it begins in the upload.
@@ -44,26 +24,33 @@ pub struct RefusedEntry<'a> {
 }
 
 impl fmt::Display for RefusedEntry<'_> {
+    ghost output = { λ r. Some (refused_text r.place r.why.now) };
+
     fn fmt<W: fmt::Write>(&self, f: &mut fmt::Formatter<W>) -> fmt::Result {
         let place = self.place;
         let figures = self.why.figures();
         let (number, expected, got) = (figures.number, figures.expected, figures.got);
         let reason = InWords(self.why);
+        write!(f, "{{\"place\":{place},\"refused\":{number}")?;
         write!(
             f,
-            "{{\"place\":{place},\"refused\":{number},\"expected\":{expected},\"got\":{got},\"reason\":\"{reason}\"}}"
+            ",\"expected\":{expected},\"got\":{got},\"reason\":\"{reason}\"}}"
         )
     }
 }
 
-// A symbol in an object of JSON.
+/// A symbol, in an object.
 #[derive(Clone, Copy)]
-struct Entry<'a> {
-    place: usize,
-    symbol: &'a AdsSymbolInfo<'a>,
+pub struct SymbolEntry<'a> {
+    /// Where it begins in the upload.
+    pub place: usize,
+    /// The symbol.
+    pub symbol: &'a AdsSymbolInfo<'a>,
 }
 
-impl fmt::Display for Entry<'_> {
+impl fmt::Display for SymbolEntry<'_> {
+    ghost output = { λ e. Some (symbol_text e.place e.symbol.now) };
+
     fn fmt<W: fmt::Write>(&self, f: &mut fmt::Formatter<W>) -> fmt::Result {
         let place = self.place;
         let strings = Strings(self.symbol);
@@ -77,6 +64,8 @@ impl fmt::Display for Entry<'_> {
 struct Strings<'a>(&'a AdsSymbolInfo<'a>);
 
 impl fmt::Display for Strings<'_> {
+    ghost output = { λ s. Some (strings_text s.0.now) };
+
     fn fmt<W: fmt::Write>(&self, f: &mut fmt::Formatter<W>) -> fmt::Result {
         let symbol = self.0;
         let length = symbol.length;
@@ -94,18 +83,18 @@ impl fmt::Display for Strings<'_> {
 struct Numbers<'a>(&'a AdsSymbolInfo<'a>);
 
 impl fmt::Display for Numbers<'_> {
+    ghost output = { λ s. Some (numbers_text s.0.now) };
+
     fn fmt<W: fmt::Write>(&self, f: &mut fmt::Formatter<W>) -> fmt::Result {
         let symbol = self.0;
         let size = symbol.size;
         let group = symbol.index_group.0;
         let offset = symbol.index_offset.0;
+        write!(f, "\"size\":{size},\"group\":{group},\"offset\":{offset}")?;
         let type_id = symbol.data_type_id;
         let flags = symbol.flags.0;
         let high = symbol.high;
-        write!(
-            f,
-            "\"size\":{size},\"group\":{group},\"offset\":{offset},\"type_id\":{type_id},\"flags\":{flags},\"high\":{high}"
-        )
+        write!(f, ",\"type_id\":{type_id},\"flags\":{flags},\"high\":{high}")
     }
 }
 
@@ -113,23 +102,37 @@ impl fmt::Display for Numbers<'_> {
 struct Sections<'a>(&'a AdsSymbolInfo<'a>);
 
 impl fmt::Display for Sections<'_> {
+    ghost output = { λ s. Some (sections_text s.0.now) };
+
     fn fmt<W: fmt::Write>(&self, f: &mut fmt::Formatter<W>) -> fmt::Result {
         let symbol = self.0;
-        match symbol.extended_flags {
-            Some(flags) => {
-                let flags = flags.0;
-                write!(f, "\"extended_flags\":{flags}")?;
-            }
-            None => write!(f, "\"extended_flags\":null")?,
-        }
+        let extended = ExtendedOrNull(symbol.extended_flags);
         let guid = GuidOrNull(&symbol.guid);
+        write!(f, "\"extended_flags\":{extended},\"guid\":{guid}")?;
         let attributes = AttributeObjects(symbol.attributes);
         let former = FormerNames(symbol.refactor_infos);
         let unread = symbol.unread.len();
         write!(
             f,
-            ",\"guid\":{guid},\"attributes\":[{attributes}],\"former_names\":[{former}],\"unread\":{unread}"
+            ",\"attributes\":[{attributes}],\"former_names\":[{former}],\"unread\":{unread}"
         )
+    }
+}
+
+#[derive(Clone, Copy)]
+struct ExtendedOrNull(Option<AdsSymbol2Flags>);
+
+impl fmt::Display for ExtendedOrNull {
+    ghost output = { λ x. Some (extended_text x.0) };
+
+    fn fmt<W: fmt::Write>(&self, f: &mut fmt::Formatter<W>) -> fmt::Result {
+        match self.0 {
+            Some(flags) => {
+                let flags = flags.0;
+                write!(f, "{flags}")
+            }
+            None => write!(f, "null"),
+        }
     }
 }
 
@@ -138,20 +141,28 @@ impl fmt::Display for Sections<'_> {
 pub struct Guid<'a>(pub &'a [u8; 16]);
 
 impl fmt::Display for Guid<'_> {
+    ghost output = { λ g. Some (guid_text g.0.now) };
+
     fn fmt<W: fmt::Write>(&self, f: &mut fmt::Formatter<W>) -> fmt::Result {
         let [a, b, c, d, e, g, h, i, j, k, l, m, n, o, p, q] = *self.0;
-        let first = u32::from_le_bytes([a, b, c, d]);
-        let (second, third) = (u16::from_le_bytes([e, g]), u16::from_le_bytes([h, i]));
-        write!(f, "{{{first:08X}-{second:04X}-{third:04X}-{j:02X}{k:02X}-")?;
-        write!(f, "{l:02X}{m:02X}{n:02X}{o:02X}{p:02X}{q:02X}}}")
+        let (a, b, c, d) = (Pair(a), Pair(b), Pair(c), Pair(d));
+        write!(f, "{{{d}{c}{b}{a}-")?;
+        let (e, g, h, i) = (Pair(e), Pair(g), Pair(h), Pair(i));
+        write!(f, "{g}{e}-{i}{h}-")?;
+        let (j, k, l, m) = (Pair(j), Pair(k), Pair(l), Pair(m));
+        write!(f, "{j}{k}-{l}{m}")?;
+        let (n, o, p, q) = (Pair(n), Pair(o), Pair(p), Pair(q));
+        write!(f, "{n}{o}{p}{q}}}")
     }
 }
 
-/// A GUID's usual text in a string of JSON, or `null`.
+/// A GUID's usual text in quotes, or `null`.
 #[derive(Clone, Copy)]
 pub struct GuidOrNull<'a>(pub &'a Option<[u8; 16]>);
 
 impl fmt::Display for GuidOrNull<'_> {
+    ghost output = { λ g. Some (guid_or_null g.0.now) };
+
     fn fmt<W: fmt::Write>(&self, f: &mut fmt::Formatter<W>) -> fmt::Result {
         match self.0 {
             Some(guid) => {
@@ -163,18 +174,36 @@ impl fmt::Display for GuidOrNull<'_> {
     }
 }
 
-/// Attributes as objects of JSON, with commas between them.
+#[derive(Clone, Copy)]
+struct AttributeObject<'a>(AdsAttribute<'a>);
+
+impl fmt::Display for AttributeObject<'_> {
+    ghost output = { λ a. Some (attribute_text a.0) };
+
+    fn fmt<W: fmt::Write>(&self, f: &mut fmt::Formatter<W>) -> fmt::Result {
+        let name = Quoted(self.0.name);
+        let value = Quoted(self.0.value);
+        write!(f, "{{\"name\":{name},\"value\":{value}}}")
+    }
+}
+
+/// Attributes as objects, with commas between them.
 #[derive(Clone, Copy)]
 pub struct AttributeObjects<'a>(pub Attributes<'a>);
 
 impl fmt::Display for AttributeObjects<'_> {
+    ghost output = { λ a. Some (attributes_text (attribute.left a.0)) };
+
     fn fmt<W: fmt::Write>(&self, f: &mut fmt::Formatter<W>) -> fmt::Result {
-        let mut comma = "";
-        for attribute in self.0 {
-            let name = Quoted(attribute.name);
-            let value = Quoted(attribute.value);
-            write!(f, "{comma}{{\"name\":{name},\"value\":{value}}}")?;
-            comma = ",";
+        let mut rest = self.0;
+        let Some(first) = rest.next() else {
+            return Ok(());
+        };
+        let first = AttributeObject(first);
+        write!(f, "{first}")?;
+        for one in rest {
+            let one = AttributeObject(one);
+            write!(f, ",{one}")?;
         }
         Ok(())
     }
@@ -184,12 +213,18 @@ impl fmt::Display for AttributeObjects<'_> {
 struct FormerNames<'a>(RefactorInfos<'a>);
 
 impl fmt::Display for FormerNames<'_> {
+    ghost output = { λ r. Some (formers_text (refactor.left r.0)) };
+
     fn fmt<W: fmt::Write>(&self, f: &mut fmt::Formatter<W>) -> fmt::Result {
-        let mut comma = "";
-        for info in self.0 {
-            let name = Quoted(info.name);
-            write!(f, "{comma}{name}")?;
-            comma = ",";
+        let mut rest = self.0;
+        let Some(first) = rest.next() else {
+            return Ok(());
+        };
+        let first = Quoted(first.name);
+        write!(f, "{first}")?;
+        for one in rest {
+            let one = Quoted(one.name);
+            write!(f, ",{one}")?;
         }
         Ok(())
     }

@@ -1,29 +1,16 @@
 //! `list`: a table of the entries.
 
-use crate::{Counts, Upload};
+use crate::{Tally, Upload};
+use std::io;
 use std::io::Write;
-use std::{fmt, io};
 use symbol::{AdsSymbolInfo, Symbols};
 use wording::InWords;
-use wording::text::{Shown, shown_width};
+use wording::text::{Shown, Spaces, shown_width};
 
 // How many columns of a terminal the cells of a line take, from the place to the high bytes.
 type Widths = [usize; 9];
 
 const HEADINGS: Widths = [5, 4, 4, 4, 5, 6, 5, 6, 4];
-
-// So many spaces.
-#[derive(Clone, Copy)]
-struct Spaces(usize);
-
-impl fmt::Display for Spaces {
-    fn fmt<W: fmt::Write>(&self, f: &mut fmt::Formatter<W>) -> fmt::Result {
-        for _ in 0..self.0 {
-            write!(f, " ")?;
-        }
-        Ok(())
-    }
-}
 
 // How many digits a number has in a base.
 fn digits(number: usize, base: usize) -> usize {
@@ -113,25 +100,24 @@ fn write_symbol<W: Write>(
 }
 
 /// Refused entries stand in their place, so a table that has one is still whole.
-pub fn list<W: Write>(upload: &Upload<'_>, out: &mut W) -> io::Result<Counts> {
+pub fn list<W: Write>(upload: &Upload<'_>, out: &mut W) -> io::Result<Tally> {
     let widest = widest(upload);
     writeln!(out, "{upload}")?;
     write_headings(&widest, out)?;
-    let mut counts = Counts::new();
+    let mut tally = Tally::new();
     for piece in Symbols::new(upload.bytes, upload.mode) {
         let at = piece.start;
+        tally.count(&piece.answer);
         match piece.answer {
             Ok(symbol) => {
-                counts.count(false);
                 write_symbol(at, &symbol, &widest, out)?;
             }
             Err(why) => {
-                counts.count(true);
                 let place = Spaces(widest[0].saturating_sub(digits(at, 10)));
                 let why = InWords(&why);
                 writeln!(out, "{place}{at}  {why}")?;
             }
         }
     }
-    Ok(counts)
+    Ok(tally)
 }

@@ -1,6 +1,6 @@
 // Names and values, which an upload holds in Windows-1252, in UTF-8.
-ghost use Rattle.std.specs.Prelude.{◌≡◌, Some};
-ghost use Rattle.wording.specs.Text.{code_point, exact, shown, quoted, exact_char, shown_char, json_char};
+ghost use Rattle.std.specs.Prelude.{◌≡◌, Some, replicate};
+ghost use Rattle.wording.specs.Text.{code_point, exact, shown, shown_width, quoted, exact_char, shown_char, json_char};
 
 use crate::Pair;
 use std::fmt;
@@ -117,11 +117,29 @@ impl fmt::Display for Quoted<'_> {
 }
 
 /// How many columns of a terminal shown text takes: one a character, since Windows-1252 has no wide and no combining ones.
-pub fn shown_width(text: &[u8]) -> usize {
+#[tactic(auto, unfolding(crate::specs::Text::shown_width, crate::specs::Text::widths_on))]
+pub fn shown_width(text: &[u8]) -> usize
+    ensures { result ≡ shown_width text.now }
+{
     let mut width = 0usize;
     for b in text {
         let own = if code_point(*b).is_control() { 4 } else { 1 };
         width = width.saturating_add(own);
     }
     width
+}
+
+/// So many spaces.
+#[derive(Clone, Copy)]
+pub struct Spaces(pub usize);
+
+impl fmt::Display for Spaces {
+    ghost output = { λ n. Some (replicate n.0 32) };
+
+    fn fmt<W: fmt::Write>(&self, f: &mut fmt::Formatter<W>) -> fmt::Result {
+        for _i in 0..self.0 {
+            write!(f, " ")?;
+        }
+        Ok(())
+    }
 }
