@@ -1,0 +1,84 @@
+//! `check`: how many entries there are, what was refused, and where.
+ghost use Rattle.std.specs.Prelude.{◌≡◌, OnOk, IfOk, Some};
+ghost use Rattle.std.specs.List.{flat_map};
+ghost use Rattle.std.specs.Io.KnownBytes.{Appends};
+ghost use Rattle.symbol.specs.Symbol.{symbol_of};
+ghost use Rattle.walk.specs.Pieces.{pieces};
+ghost use Rattle.report.specs.Report.{check_text, refused_line, summary_text, tally_of};
+
+use crate::{Tally, Upload};
+use std::io::Write;
+use std::{fmt, io};
+use symbol::{AdsSymbolInfo, Symbols};
+use walk::Piece;
+use wording::{Bytes, Grouped, InWords, Many};
+
+fn entries(number: usize) -> Many<'static>
+    ensures number { result.number ≡ number }
+    ensures one { result.one.now ≡ "entry" }
+    ensures more { result.more.now ≡ "entries" }
+{
+    Many {
+        number,
+        one: "entry",
+        more: "entries",
+    }
+}
+
+// What the refusals leave is told after them: who looks for the one fault of a large upload reads the end.
+#[derive(Clone, Copy)]
+struct Summary(Tally);
+
+impl fmt::Display for Summary {
+    ghost output = { λ s. Some (summary_text s.0) };
+
+    fn fmt<W: fmt::Write>(&self, f: &mut fmt::Formatter<W>) -> fmt::Result {
+        let tally = self.0;
+        let all = entries(tally.all());
+        let (accepted, refused) = (Grouped(tally.accepted), Grouped(tally.refused));
+        write!(f, "{all}: {accepted} accepted, {refused} refused\n")?;
+        if tally.grown == 0 {
+            return Ok(());
+        }
+        let bytes = Bytes(tally.unread);
+        let grown = entries(tally.grown);
+        write!(f, "left unread: {bytes}, in {grown}\n")
+    }
+}
+
+fn write_refused<W: Write>(piece: &Piece<AdsSymbolInfo<'_>>, out: &mut W) -> io::Result<()>
+    ensures { OnOk result (Appends (W.contents out.old) (W.contents out.new) (refused_line piece.now)) }
+{
+    match &piece.answer {
+        Ok(_) => Ok(()),
+        Err(why) => {
+            let at = piece.start;
+            let why = InWords(why);
+            writeln!(out, "at {at}: {why}")
+        }
+    }
+}
+
+fn write_all_refused<W: Write>(upload: &Upload<'_>, out: &mut W) -> io::Result<Tally>
+    ensures text { OnOk result (Appends (W.contents out.old) (W.contents out.new) (flat_map refused_line (pieces (symbol_of upload.now.mode) upload.now.bytes))) }
+    ensures tally { IfOk result (λ tally. tally ≡ tally_of (pieces (symbol_of upload.now.mode) upload.now.bytes)) }
+{
+    let mut tally = Tally::new();
+    for piece in Symbols::new(upload.bytes, upload.mode) {
+        tally.count(&piece.answer);
+        write_refused(&piece, out)?;
+    }
+    Ok(tally)
+}
+
+/// Writes what was refused and where, and how many entries there are; how many of these were refused.
+pub fn check<W: Write>(upload: &Upload<'_>, out: &mut W) -> io::Result<Tally>
+    ensures text { OnOk result (Appends (W.contents out.old) (W.contents out.new) (check_text upload.now)) }
+    ensures tally { IfOk result (λ tally. tally ≡ tally_of (pieces (symbol_of upload.now.mode) upload.now.bytes)) }
+{
+    writeln!(out, "{upload}")?;
+    let tally = write_all_refused(upload, out)?;
+    let summary = Summary(tally);
+    write!(out, "{summary}")?;
+    Ok(tally)
+}
