@@ -1,0 +1,145 @@
+//! `salvage`: the accepted entries of a damaged upload, and a table of what was dropped (docs/FORMAT.md, "The command's text").
+#![tactic(auto)]
+
+use refusal::Refusal;
+use report::table::digits;
+use report::{Tally, Upload};
+use std::alloc::{AllocError, Global};
+use std::io::Write;
+use std::{fmt, io};
+use symbol::{AdsSymbolInfo, Symbols};
+use wording::text::Spaces;
+use wording::{Bytes, InWords, Many};
+
+/// An upload's accepted entries, and how many runs of it were dropped.
+#[derive(Debug, Drop)]
+pub struct Salvaged {
+    /// The new upload.
+    pub kept: Vec<u8>,
+    /// The entries of the old one.
+    pub tally: Tally,
+}
+
+/// Salvages an upload (docs/FORMAT.md, "Salvage").
+pub fn salvage(
+    alloc: Global,
+    upload: &Upload<'_>,
+) -> Result<Result<Salvaged, Refusal>, AllocError> {
+    let tally = count(upload);
+    let mut kept = vec![in alloc; 0u8; upload.bytes.len()]?;
+    let mut runs = vec![in alloc; 0u32; tally.refused.saturating_mul(3)]?;
+    let answer = salvage::salvage::<AdsSymbolInfo>(
+        upload.bytes,
+        upload.mode,
+        kept.as_mut_slice(),
+        runs.as_mut_slice(),
+    );
+    match answer {
+        Ok(written) => {
+            kept.truncate(written.bytes);
+            Ok(Ok(Salvaged { kept, tally }))
+        }
+        Err(why) => Ok(Err(why)),
+    }
+}
+
+fn count(upload: &Upload<'_>) -> Tally {
+    let mut tally = Tally::new();
+    for piece in Symbols::new(upload.bytes, upload.mode) {
+        tally.count(&piece.answer);
+    }
+    tally
+}
+
+/// What was dropped of an upload, in words.
+#[derive(Clone, Copy)]
+pub struct Dropped {
+    /// In so many runs.
+    pub runs: usize,
+    /// So many bytes.
+    pub bytes: usize,
+}
+
+impl Dropped {
+    /// What this salvage of an upload dropped.
+    pub fn of(upload: &Upload<'_>, salvaged: &Salvaged) -> Dropped {
+        Dropped {
+            runs: salvaged.tally.refused,
+            bytes: upload.bytes.len().saturating_sub(salvaged.kept.len()),
+        }
+    }
+}
+
+impl fmt::Display for Dropped {
+    fn fmt<W: fmt::Write>(&self, f: &mut fmt::Formatter<W>) -> fmt::Result {
+        let runs = Many {
+            number: self.runs,
+            one: "run",
+            more: "runs",
+        };
+        let bytes = Bytes(self.bytes);
+        write!(f, "dropped: {runs}, {bytes}")
+    }
+}
+
+// How wide the first two columns are.
+#[derive(Clone, Copy)]
+struct Widths {
+    place: usize,
+    length: usize,
+}
+
+fn widths_of(upload: &Upload<'_>) -> Widths {
+    let mut widths = Widths {
+        place: 5,
+        length: 6,
+    };
+    for piece in Symbols::new(upload.bytes, upload.mode) {
+        if piece.answer.is_err() {
+            let length = piece.end.saturating_sub(piece.start);
+            widths.place = digits(piece.start, 10).max(widths.place);
+            widths.length = digits(length, 10).max(widths.length);
+        }
+    }
+    widths
+}
+
+/// Writes a line for each run that was dropped, and what was kept; `to` is where that is.
+pub fn write<W: Write>(
+    upload: &Upload<'_>,
+    salvaged: &Salvaged,
+    to: &str,
+    out: &mut W,
+) -> io::Result<()> {
+    writeln!(out, "{upload}")?;
+    if salvaged.tally.refused > 0 {
+        write_runs(upload, out)?;
+    }
+    let entries = Many {
+        number: salvaged.tally.accepted,
+        one: "entry",
+        more: "entries",
+    };
+    let bytes = Bytes(salvaged.kept.len());
+    let dropped = Dropped::of(upload, salvaged);
+    writeln!(out, "kept: {entries}, {bytes}, in {to}; {dropped}")
+}
+
+// An upload can have millions, so none is kept as text. Numbers stand at the right of their columns.
+fn write_runs<W: Write>(upload: &Upload<'_>, out: &mut W) -> io::Result<()> {
+    let widths = widths_of(upload);
+    let before = Spaces(widths.place.saturating_sub(5));
+    let between = Spaces(widths.length.saturating_sub(6));
+    writeln!(out, "{before}place  {between}length  why")?;
+    for piece in Symbols::new(upload.bytes, upload.mode) {
+        if let Err(why) = piece.answer {
+            let place = piece.start;
+            let length = piece.end.saturating_sub(place);
+            let before = Spaces(widths.place.saturating_sub(digits(place, 10)));
+            let between = Spaces(widths.length.saturating_sub(digits(length, 10)));
+            let why = InWords(&why);
+            writeln!(out, "{before}{place}  {between}{length}  {why}")?;
+        }
+    }
+    Ok(())
+}
