@@ -57,7 +57,7 @@ fn named<'a>(alloc: Global, upload: &Upload<'a>, name: &str) -> Result<Node<'a>,
     for piece in DataTypes::new(upload.bytes, upload.mode) {
         match piece.answer {
             Ok(record) => {
-                if record.name.eq_ignore_ascii_case(asked.as_slice()) {
+                if record.field.name.eq_ignore_ascii_case(asked.as_slice()) {
                     return Ok(Node::root(piece.start, record));
                 }
             }
@@ -84,8 +84,8 @@ fn no_type<'a>(alloc: Global, upload: &Upload<'a>, asked: &[u8]) -> Result<Node<
     let small = small(alloc, asked)?;
     for piece in DataTypes::new(upload.bytes, upload.mode) {
         if let Ok(record) = piece.answer {
-            if is_alike(alloc, record.name, &small)? {
-                let name = Shown(record.name);
+            if is_alike(alloc, record.field.name, &small)? {
+                let name = Shown(record.field.name);
                 return Err(Failure::Refused(format!(in alloc;
                     "{upload}: refusal 13, name not found: no data type is {shown}, but one is {name}"
                 )?));

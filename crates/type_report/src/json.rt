@@ -76,8 +76,8 @@ impl fmt::Display for Own<'_> {
         let strings = StringsOf(self.0);
         let numbers = NumbersOf(self.0);
         let maker = MakerOf(self.0);
-        let guid = GuidOrNull(&self.0.record.guid);
-        let attributes = AttributeObjects(self.0.record.attributes);
+        let guid = GuidOrNull(&self.0.record.field.guid);
+        let attributes = AttributeObjects(self.0.record.field.attributes);
         write!(
             f,
             "\"place\":{place},{strings},{numbers},{maker},\"guid\":{guid},\"attributes\":[{attributes}]"
@@ -90,7 +90,7 @@ struct StringsOf<'a>(&'a Node<'a>);
 
 impl fmt::Display for StringsOf<'_> {
     fn fmt<W: fmt::Write>(&self, f: &mut fmt::Formatter<W>) -> fmt::Result {
-        let record = &self.0.record;
+        let record = &self.0.record.field;
         let length = record.length;
         let name = Quoted(record.name);
         let type_name = Quoted(record.type_name);
@@ -108,9 +108,9 @@ struct NumbersOf<'a>(&'a Node<'a>);
 impl fmt::Display for NumbersOf<'_> {
     fn fmt<W: fmt::Write>(&self, f: &mut fmt::Formatter<W>) -> fmt::Result {
         let record = &self.0.record;
-        let offset = record.offset;
+        let offset = record.field.offset;
         let from_start = self.0.offset_from_start;
-        let size = record.size;
+        let size = record.field.size;
         let marks = Strings(self.0.marks);
         let arrays = Arrays(record.arrays);
         write!(
@@ -125,7 +125,7 @@ struct MakerOf<'a>(&'a Node<'a>);
 
 impl fmt::Display for MakerOf<'_> {
     fn fmt<W: fmt::Write>(&self, f: &mut fmt::Formatter<W>) -> fmt::Result {
-        let record = &self.0.record;
+        let record = &self.0.record.field;
         let version = record.version;
         let hash = record.hash_value;
         let type_hash = record.type_hash_value;

@@ -30,7 +30,7 @@ impl<'a> Node<'a> {
             offset_from_start: 0,
             levels: DEEPEST,
             marks: Marks {
-                own: record.flags,
+                own: record.field.flags,
                 around: AdsTypeFlags(0),
             },
             record,
@@ -44,12 +44,12 @@ impl<'a> Node<'a> {
 
     /// One of them, at a place among them.
     pub fn item(&self, start: usize, record: AdsDataTypeInfo<'a>) -> Node<'a> {
-        let before = self.record.length.saturating_sub(self.record.sub_items.bytes.len());
+        let before = self.record.field.length.saturating_sub(self.record.sub_items.bytes.len());
         Node {
             place: self.place.saturating_add(before).saturating_add(start),
-            offset_from_start: self.offset_from_start.saturating_add(u64::from(record.offset)),
+            offset_from_start: self.offset_from_start.saturating_add(u64::from(record.field.offset)),
             levels: self.levels.saturating_sub(1),
-            marks: self.marks.within(record.flags),
+            marks: self.marks.within(record.field.flags),
             record,
         }
     }

@@ -100,14 +100,14 @@ fn cells(alloc: Global, node: &Node<'_>, depth: usize) -> Result<[String; 9], Al
     let record = &node.record;
     let place = node.place;
     let indent = Spaces(STEP.saturating_mul(depth));
-    let name = Shown(record.name);
-    let type_name = Shown(record.type_name);
-    let offset = record.offset;
+    let name = Shown(record.field.name);
+    let type_name = Shown(record.field.type_name);
+    let offset = record.field.offset;
     let from_start = node.offset_from_start;
-    let size = record.size;
+    let size = record.field.size;
     let marks = Listed(node.marks);
     let bounds = Bounds(record.arrays);
-    let attributes = InOneCell(record.attributes);
+    let attributes = InOneCell(record.field.attributes);
     Ok([
         format!(in alloc; "{place}")?,
         format!(in alloc; "{indent}{name}")?,
