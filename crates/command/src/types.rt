@@ -9,7 +9,7 @@ use report::Upload;
 use std::alloc::Global;
 use std::io::Write;
 use type_report::node::Node;
-use type_report::{Counts, json, table};
+use type_report::{Counts, list, table};
 use wording::{Grouped, InWords};
 use wording::text::Shown;
 
@@ -24,7 +24,7 @@ pub fn print<W: Write>(
     if let Some(name) = name {
         let root = named(alloc, upload, name)?;
         if as_json {
-            json::write_type(&root, upload.mode, out)?;
+            list::write_type(&root, upload.mode, out)?;
         } else {
             let lines = table::lines_of(alloc, &root, upload.mode)?;
             writeln!(out, "{upload}")?;
@@ -33,7 +33,7 @@ pub fn print<W: Write>(
         return Ok(());
     }
     if as_json {
-        let counts = json::list(upload, out)?;
+        let counts = list::list(upload, out)?;
         return unless_refused(alloc, upload, counts);
     }
     let (lines, counts) = table::lines(alloc, upload)?;

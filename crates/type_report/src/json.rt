@@ -1,100 +1,48 @@
-//! `type --json`: a line of JSON a data type, its members in it.
-use crate::Counts;
-use crate::marks::Strings;
+//! What an entry tells of itself, as the first members of an object of JSON.
+ghost use Rattle.std.specs.Prelude.{Some};
+ghost use Rattle.data_type.specs.Array as array;
+ghost use Rattle.type_report.specs.Json.{strings_text, numbers_text, maker_text, own_text, signed_text, array_text, arrays_text, more_arrays};
+
+use crate::marks::{Marked, Style};
 use crate::node::Node;
-use data_type::DataTypes;
-use data_type::array::ArrayInfos;
-use refusal::Mode;
-use report::json::{AttributeObjects, GuidOrNull, RefusedEntry};
-use report::Upload;
-use std::io::Write;
-use std::{fmt, io};
+use data_type::array::{AdsArrayInfo, ArrayInfos};
+use report::json::{AttributeObjects, GuidOrNull};
+use std::fmt;
 use wording::text::Quoted;
 
-/// A line for each entry of an upload.
-pub fn list<W: Write>(upload: &Upload<'_>, out: &mut W) -> io::Result<Counts> {
-    let mut counts = Counts::new();
-    for piece in DataTypes::new(upload.bytes, upload.mode) {
-        let place = piece.start;
-        match piece.answer {
-            Ok(record) => {
-                counts.count(false);
-                write_type(&Node::root(place, record), upload.mode, out)?;
-            }
-            Err(why) => {
-                counts.count(true);
-                let entry = RefusedEntry { place, why: &why };
-                writeln!(out, "{entry}")?;
-            }
-        }
-    }
-    Ok(counts)
-}
-
-/// The line of one data type.
-pub fn write_type<W: Write>(root: &Node<'_>, mode: Mode, out: &mut W) -> io::Result<()> {
-    write_node(root, mode, root.levels, out)?;
-    writeln!(out, "")
-}
-
-// An object with the objects of its sub-items in it, so many levels in all.
-fn write_node<W: Write>(
-    node: &Node<'_>,
-    mode: Mode,
-    levels: usize,
-    out: &mut W,
-) -> io::Result<()> {
-    if levels == 0 {
-        return Ok(());
-    }
-    let own = Own(node);
-    write!(out, "{{{own},\"members\":[")?;
-    let mut left = node.record.sub_items.count;
-    let mut comma = "";
-    for piece in node.items(mode) {
-        if left == 0 {
-            break;
-        }
-        left -= 1;
-        if let Ok(record) = piece.answer {
-            write!(out, "{comma}")?;
-            let item = node.item(piece.start, record);
-            write_node(&item, mode, levels - 1, out)?;
-            comma = ",";
-        }
-    }
-    write!(out, "]}}")
-}
-
-// What an entry tells of itself.
+/// What an entry tells of itself.
 #[derive(Clone, Copy)]
-struct Own<'a>(&'a Node<'a>);
+pub struct Own<'a>(pub &'a Node<'a>);
 
 impl fmt::Display for Own<'_> {
+    ghost output = { λ o. Some (own_text o.0.now) };
+
+    #[tactic(auto, unfolding(crate::specs::Json::own_text))]
     fn fmt<W: fmt::Write>(&self, f: &mut fmt::Formatter<W>) -> fmt::Result {
         let place = self.0.place;
-        let strings = StringsOf(self.0);
-        let numbers = NumbersOf(self.0);
-        let maker = MakerOf(self.0);
+        let strings = Strings(self.0);
+        let numbers = Numbers(self.0);
+        let maker = Maker(self.0);
+        write!(f, "\"place\":{place},{strings},{numbers},{maker}")?;
         let guid = GuidOrNull(&self.0.record.field.guid);
         let attributes = AttributeObjects(self.0.record.field.attributes);
-        write!(
-            f,
-            "\"place\":{place},{strings},{numbers},{maker},\"guid\":{guid},\"attributes\":[{attributes}]"
-        )
+        write!(f, ",\"guid\":{guid},\"attributes\":[{attributes}]")
     }
 }
 
 #[derive(Clone, Copy)]
-struct StringsOf<'a>(&'a Node<'a>);
+struct Strings<'a>(&'a Node<'a>);
 
-impl fmt::Display for StringsOf<'_> {
+impl fmt::Display for Strings<'_> {
+    ghost output = { λ s. Some (strings_text s.0.now.record.field) };
+
+    #[tactic(auto, unfolding(crate::specs::Json::strings_text))]
     fn fmt<W: fmt::Write>(&self, f: &mut fmt::Formatter<W>) -> fmt::Result {
-        let record = &self.0.record.field;
-        let length = record.length;
-        let name = Quoted(record.name);
-        let type_name = Quoted(record.type_name);
-        let comment = Quoted(record.comment);
+        let field = &self.0.record.field;
+        let length = field.length;
+        let name = Quoted(field.name);
+        let type_name = Quoted(field.type_name);
+        let comment = Quoted(field.comment);
         write!(
             f,
             "\"length\":{length},\"name\":{name},\"type\":{type_name},\"comment\":{comment}"
@@ -103,58 +51,104 @@ impl fmt::Display for StringsOf<'_> {
 }
 
 #[derive(Clone, Copy)]
-struct NumbersOf<'a>(&'a Node<'a>);
+struct Numbers<'a>(&'a Node<'a>);
 
-impl fmt::Display for NumbersOf<'_> {
+impl fmt::Display for Numbers<'_> {
+    ghost output = { λ n. Some (numbers_text n.0.now) };
+
+    #[tactic(auto, unfolding(crate::specs::Json::numbers_text))]
     fn fmt<W: fmt::Write>(&self, f: &mut fmt::Formatter<W>) -> fmt::Result {
-        let record = &self.0.record;
-        let offset = record.field.offset;
-        let from_start = self.0.offset_from_start;
-        let size = record.field.size;
-        let marks = Strings(self.0.marks);
-        let arrays = Arrays(record.arrays);
+        let node = self.0;
+        let offset = node.record.field.offset;
+        let from_start = node.offset_from_start;
+        let size = node.record.field.size;
         write!(
             f,
-            "\"offset\":{offset},\"offset_from_start\":{from_start},\"size\":{size},\"marks\":[{marks}],\"arrays\":[{arrays}]"
-        )
+            "\"offset\":{offset},\"offset_from_start\":{from_start},\"size\":{size}"
+        )?;
+        let marks = Marked {
+            marks: node.marks,
+            style: Style {
+                between: ",",
+                quote: "\"",
+            },
+        };
+        let arrays = Arrays(node.record.arrays);
+        write!(f, ",\"marks\":[{marks}],\"arrays\":[{arrays}]")
     }
 }
 
 #[derive(Clone, Copy)]
-struct MakerOf<'a>(&'a Node<'a>);
+struct Maker<'a>(&'a Node<'a>);
 
-impl fmt::Display for MakerOf<'_> {
+impl fmt::Display for Maker<'_> {
+    ghost output = { λ m. Some (maker_text m.0.now.record.field) };
+
+    #[tactic(auto, unfolding(crate::specs::Json::maker_text))]
     fn fmt<W: fmt::Write>(&self, f: &mut fmt::Formatter<W>) -> fmt::Result {
-        let record = &self.0.record.field;
-        let version = record.version;
-        let hash = record.hash_value;
-        let type_hash = record.type_hash_value;
-        let type_id = record.type_id;
-        let flags = record.flags.0;
+        let field = &self.0.record.field;
+        let version = field.version;
+        let hash = field.hash_value;
+        let type_hash = field.type_hash_value;
         write!(
             f,
-            "\"version\":{version},\"hash\":{hash},\"type_hash\":{type_hash},\"type_id\":{type_id},\"flags\":{flags}"
-        )
+            "\"version\":{version},\"hash\":{hash},\"type_hash\":{type_hash}"
+        )?;
+        let type_id = field.type_id;
+        let flags = field.flags.0;
+        write!(f, ",\"type_id\":{type_id},\"flags\":{flags}")
     }
 }
 
-// Array records as objects of JSON, with commas between them.
+// Array records as objects, with commas between them.
 #[derive(Clone, Copy)]
 struct Arrays<'a>(ArrayInfos<'a>);
 
 impl fmt::Display for Arrays<'_> {
+    ghost output = { λ a. Some (arrays_text (array.left a.0)) };
+
+    #[tactic(auto, unfolding(crate::specs::Json::arrays_text, crate::specs::Json::more_arrays))]
     fn fmt<W: fmt::Write>(&self, f: &mut fmt::Formatter<W>) -> fmt::Result {
-        let mut comma = "";
+        let mut rest = self.0;
+        match rest.next() {
+            None => Ok(()),
+            Some(first) => {
+                let first = Dimension(first);
+                let more = MoreArrays(rest);
+                write!(f, "{first}{more}")
+            }
+        }
+    }
+}
+
+// Those behind the first, with a comma before each.
+#[derive(Clone, Copy)]
+struct MoreArrays<'a>(ArrayInfos<'a>);
+
+impl fmt::Display for MoreArrays<'_> {
+    ghost output = { λ a. Some (more_arrays (array.left a.0)) };
+
+    #[tactic(auto, unfolding(crate::specs::Json::more_arrays))]
+    fn fmt<W: fmt::Write>(&self, f: &mut fmt::Formatter<W>) -> fmt::Result {
         for one in self.0 {
-            let lower = Signed(one.lower_bound);
-            let elements = one.elements;
-            write!(
-                f,
-                "{comma}{{\"lower_bound\":{lower},\"elements\":{elements}}}"
-            )?;
-            comma = ",";
+            let one = Dimension(one);
+            write!(f, ",{one}")?;
         }
         Ok(())
+    }
+}
+
+#[derive(Clone, Copy)]
+struct Dimension(AdsArrayInfo);
+
+impl fmt::Display for Dimension {
+    ghost output = { λ a. Some (array_text a.0) };
+
+    #[tactic(auto, unfolding(crate::specs::Json::array_text))]
+    fn fmt<W: fmt::Write>(&self, f: &mut fmt::Formatter<W>) -> fmt::Result {
+        let lower = Signed(self.0.lower_bound);
+        let elements = self.0.elements;
+        write!(f, "{{\"lower_bound\":{lower},\"elements\":{elements}}}")
     }
 }
 
@@ -163,6 +157,9 @@ impl fmt::Display for Arrays<'_> {
 struct Signed(u32);
 
 impl fmt::Display for Signed {
+    ghost output = { λ s. Some (signed_text s.0) };
+
+    #[tactic(auto, unfolding(crate::specs::Json::signed_text))]
     fn fmt<W: fmt::Write>(&self, f: &mut fmt::Formatter<W>) -> fmt::Result {
         let bits = u64::from(self.0);
         if bits < 0x8000_0000 {

@@ -2,7 +2,8 @@
 #![tactic(auto)]
 
 pub mod json;
-mod marks;
+pub mod list;
+pub mod marks;
 pub mod node;
 pub mod table;
 

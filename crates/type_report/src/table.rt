@@ -1,11 +1,11 @@
 //! `type`: a table of data types, their members below them.
 use crate::Counts;
-use crate::marks::Listed;
+use crate::marks::{Marked, Style};
 use crate::node::Node;
 use attribute::Attributes;
 use data_type::DataTypes;
 use data_type::array::ArrayInfos;
-use refusal::{Mode, Refusal};
+use refusal::{DEEPEST, Mode, Refusal};
 use report::Upload;
 use std::alloc::{AllocError, Global};
 use std::io::Write;
@@ -69,8 +69,6 @@ pub fn lines_of(alloc: Global, root: &Node<'_>, mode: Mode) -> Result<Vec<Line>,
 // Columns by which a member's name stands to the right of its parent's.
 const STEP: usize = 2;
 
-const DEEPEST: usize = 16;
-
 fn push_node(
     alloc: Global,
     node: &Node<'_>,
@@ -82,16 +80,8 @@ fn push_node(
         return Ok(());
     }
     all.push(Line::Cells(cells(alloc, node, depth)?))?;
-    let mut left = node.record.sub_items.count;
-    for piece in node.items(mode) {
-        if left == 0 {
-            break;
-        }
-        left -= 1;
-        if let Ok(record) = piece.answer {
-            let item = node.item(piece.start, record);
-            push_node(alloc, &item, mode, depth + 1, all)?;
-        }
+    for member in node.members(mode) {
+        push_node(alloc, &member, mode, depth + 1, all)?;
     }
     Ok(())
 }
@@ -105,7 +95,13 @@ fn cells(alloc: Global, node: &Node<'_>, depth: usize) -> Result<[String; 9], Al
     let offset = record.field.offset;
     let from_start = node.offset_from_start;
     let size = record.field.size;
-    let marks = Listed(node.marks);
+    let marks = Marked {
+        marks: node.marks,
+        style: Style {
+            between: ", ",
+            quote: "",
+        },
+    };
     let bounds = Bounds(record.arrays);
     let attributes = InOneCell(record.field.attributes);
     Ok([
