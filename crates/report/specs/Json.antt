@@ -1,9 +1,10 @@
 -- docs/FORMAT.md, "The command's text". What stands in JSON of an entry, a line each.
 use Rattle.std.specs.Prelude.{ℕ, ◌/◌, ◌%◌, List, [], ◌∷◌, ◌++◌, length, get_or, codes, decimal, Option, Some, None}
-use Rattle.std.specs.List.{flat_map, join_by}
+use Rattle.std.specs.List.{flat_map}
 use Rattle.wording.specs.Text.{pair, quoted}
 use Rattle.wording.specs.Wording.{refusal_text}
 use Rattle.refusal.specs.Refusal.{figures_of}
+use Rattle.refusal.specs.declared.Figures.{Figures}
 use Rattle.refusal.specs.declared.Refusal.{Refusal}
 use Rattle.flags.specs.declared.symbol_flags.AdsSymbol2Flags.{AdsSymbol2Flags}
 use Rattle.attribute.specs.declared.AdsAttribute.{AdsAttribute}
@@ -12,14 +13,16 @@ use Rattle.refactor.specs.declared.AdsRefactorInfo.{AdsRefactorInfo}
 use Rattle.refactor.specs.Refactor as refactor
 use Rattle.symbol.specs.declared.AdsSymbolInfo.{AdsSymbolInfo}
 
+unfoldable pub figures_text : Figures → List ℕ
+figures_text why =
+    codes "\"refused\":" ++ (decimal why.number
+    ++ (codes ",\"expected\":" ++ (decimal why.expected
+    ++ (codes ",\"got\":" ++ decimal why.got))))
+
 -- a refused entry: the refusal's number, its two figures and its words
 unfoldable pub refused_text : ℕ → Refusal → List ℕ
 refused_text place why =
-    codes "{\"place\":" ++ (decimal place
-    ++ (codes ",\"refused\":" ++ (decimal (figures_of why).number
-    ++ (codes ",\"expected\":" ++ (decimal (figures_of why).expected
-    ++ (codes ",\"got\":" ++ (decimal (figures_of why).got
-    ++ (codes ",\"reason\":\"" ++ (refusal_text why ++ codes "\"}")))))))))
+    codes "{\"place\":" ++ (decimal place ++ (codes "," ++ (figures_text (figures_of why) ++ (codes ",\"reason\":\"" ++ (refusal_text why ++ codes "\"}")))))
 
 unfoldable pub strings_text : AdsSymbolInfo → List ℕ
 strings_text s =
@@ -60,14 +63,23 @@ guid_or_null (Some g) = codes "\"" ++ (guid_text g ++ codes "\"")
 abbrev pub attribute_text : AdsAttribute → List ℕ
 attribute_text a = codes "{\"name\":" ++ (quoted a.name.now ++ (codes ",\"value\":" ++ (quoted a.value.now ++ codes "}")))
 
+-- with commas between them
+unfoldable pub more_attributes : List AdsAttribute → List ℕ
+more_attributes all = flat_map (λ a. codes "," ++ attribute_text a) all
+
 unfoldable pub attributes_text : List AdsAttribute → List ℕ
-attributes_text all = join_by attribute_text (codes ",") all
+attributes_text [] = []
+attributes_text (a ∷ all) = attribute_text a ++ more_attributes all
 
 abbrev pub former_text : AdsRefactorInfo → List ℕ
 former_text r = quoted r.name.now
 
+unfoldable pub more_formers : List AdsRefactorInfo → List ℕ
+more_formers all = flat_map (λ r. codes "," ++ former_text r) all
+
 unfoldable pub formers_text : List AdsRefactorInfo → List ℕ
-formers_text all = join_by former_text (codes ",") all
+formers_text [] = []
+formers_text (r ∷ all) = former_text r ++ more_formers all
 
 unfoldable pub sections_text : AdsSymbolInfo → List ℕ
 sections_text s =

@@ -70,7 +70,7 @@ refused_line p = refused_by p.start p.answer
 
 unfoldable pub check_text : Upload → List ℕ
 check_text u =
-    upload_text u ++ (codes "\n" ++ (flat_map refused_line (pieces (symbol_of u.mode) u.bytes) ++ summary_text (tally_of (pieces (symbol_of u.mode) u.bytes))))
+    (upload_text u ++ codes "\n") ++ (flat_map refused_line (pieces (symbol_of u.mode) u.bytes) ++ summary_text (tally_of (pieces (symbol_of u.mode) u.bytes)))
 
 -- a line of JSON for each entry
 abbrev pub json_by : ℕ → Result AdsSymbolInfo Refusal → List ℕ

@@ -1,10 +1,10 @@
 //! `check`: how many entries there are, what was refused, and where.
-ghost use Rattle.std.specs.Prelude.{◌≡◌, OnOk, IfOk, Some};
+ghost use Rattle.std.specs.Prelude.{◌≡◌, ◌++◌, OnOk, IfOk, Some, codes};
 ghost use Rattle.std.specs.List.{flat_map};
 ghost use Rattle.std.specs.Io.KnownBytes.{Appends};
 ghost use Rattle.symbol.specs.Symbol.{symbol_of};
 ghost use Rattle.walk.specs.Pieces.{pieces};
-ghost use Rattle.report.specs.Report.{check_text, refused_line, summary_text, tally_of};
+ghost use Rattle.report.specs.Report.{check_text, entries, refused_line, summary_text, tally_of, upload_text};
 
 use crate::{Tally, Upload};
 use std::io::Write;
@@ -13,15 +13,20 @@ use symbol::{AdsSymbolInfo, Symbols};
 use walk::Piece;
 use wording::{Bytes, Grouped, InWords, Many};
 
-fn entries(number: usize) -> Many<'static>
-    ensures number { result.number ≡ number }
-    ensures one { result.one.now ≡ "entry" }
-    ensures more { result.more.now ≡ "entries" }
-{
-    Many {
-        number,
-        one: "entry",
-        more: "entries",
+// So many entries.
+#[derive(Clone, Copy)]
+struct Entries(usize);
+
+impl fmt::Display for Entries {
+    ghost output = { λ n. Some (entries n.0) };
+
+    fn fmt<W: fmt::Write>(&self, f: &mut fmt::Formatter<W>) -> fmt::Result {
+        let many = Many {
+            number: self.0,
+            one: "entry",
+            more: "entries",
+        };
+        many.fmt(f)
     }
 }
 
@@ -34,14 +39,14 @@ impl fmt::Display for Summary {
 
     fn fmt<W: fmt::Write>(&self, f: &mut fmt::Formatter<W>) -> fmt::Result {
         let tally = self.0;
-        let all = entries(tally.all());
+        let all = Entries(tally.all());
         let (accepted, refused) = (Grouped(tally.accepted), Grouped(tally.refused));
         write!(f, "{all}: {accepted} accepted, {refused} refused\n")?;
         if tally.grown == 0 {
             return Ok(());
         }
         let bytes = Bytes(tally.unread);
-        let grown = entries(tally.grown);
+        let grown = Entries(tally.grown);
         write!(f, "left unread: {bytes}, in {grown}\n")
     }
 }
@@ -71,14 +76,26 @@ fn write_all_refused<W: Write>(upload: &Upload<'_>, out: &mut W) -> io::Result<T
     Ok(tally)
 }
 
+fn write_upload<W: Write>(upload: &Upload<'_>, out: &mut W) -> io::Result<()>
+    ensures { OnOk result (Appends (W.contents out.old) (W.contents out.new) (upload_text upload.now ++ codes "\n")) }
+{
+    writeln!(out, "{upload}")
+}
+
+fn write_summary<W: Write>(tally: Tally, out: &mut W) -> io::Result<()>
+    ensures { OnOk result (Appends (W.contents out.old) (W.contents out.new) (summary_text tally)) }
+{
+    let summary = Summary(tally);
+    write!(out, "{summary}")
+}
+
 /// Writes what was refused and where, and how many entries there are; how many of these were refused.
 pub fn check<W: Write>(upload: &Upload<'_>, out: &mut W) -> io::Result<Tally>
     ensures text { OnOk result (Appends (W.contents out.old) (W.contents out.new) (check_text upload.now)) }
     ensures tally { IfOk result (λ tally. tally ≡ tally_of (pieces (symbol_of upload.now.mode) upload.now.bytes)) }
 {
-    writeln!(out, "{upload}")?;
+    write_upload(upload, out)?;
     let tally = write_all_refused(upload, out)?;
-    let summary = Summary(tally);
-    write!(out, "{summary}")?;
+    write_summary(tally, out)?;
     Ok(tally)
 }

@@ -1,14 +1,13 @@
 //! What stands in JSON of a symbol, and of an entry that was refused (docs/FORMAT.md, "The command's text").
 ghost use Rattle.std.specs.Prelude.{Some};
-ghost use Rattle.std.specs.List.{join_by};
 ghost use Rattle.attribute.specs.Attribute as attribute;
 ghost use Rattle.refactor.specs.Refactor as refactor;
-ghost use Rattle.report.specs.Json.{refused_text, strings_text, numbers_text, sections_text, symbol_text, guid_text, guid_or_null, attribute_text, attributes_text, former_text, formers_text, extended_text};
+ghost use Rattle.report.specs.Json.{refused_text, figures_text, strings_text, numbers_text, sections_text, symbol_text, guid_text, guid_or_null, attribute_text, attributes_text, more_attributes, former_text, formers_text, more_formers, extended_text};
 
 use attribute::{AdsAttribute, Attributes};
 use flags::symbol_flags::AdsSymbol2Flags;
 use refactor::RefactorInfos;
-use refusal::Refusal;
+use refusal::{Figures, Refusal};
 use std::fmt;
 use symbol::AdsSymbolInfo;
 use wording::{InWords, Pair};
@@ -28,13 +27,28 @@ impl fmt::Display for RefusedEntry<'_> {
 
     fn fmt<W: fmt::Write>(&self, f: &mut fmt::Formatter<W>) -> fmt::Result {
         let place = self.place;
-        let figures = self.why.figures();
-        let (number, expected, got) = (figures.number, figures.expected, figures.got);
+        let figures = FigureMembers(self.why.figures());
         let reason = InWords(self.why);
-        write!(f, "{{\"place\":{place},\"refused\":{number}")?;
         write!(
             f,
-            ",\"expected\":{expected},\"got\":{got},\"reason\":\"{reason}\"}}"
+            "{{\"place\":{place},{figures},\"reason\":\"{reason}\"}}"
+        )
+    }
+}
+
+#[derive(Clone, Copy)]
+struct FigureMembers(Figures);
+
+impl fmt::Display for FigureMembers {
+    ghost output = { λ m. Some (figures_text m.0) };
+
+    fn fmt<W: fmt::Write>(&self, f: &mut fmt::Formatter<W>) -> fmt::Result {
+        let number = self.0.number;
+        let expected = self.0.expected;
+        let got = self.0.got;
+        write!(
+            f,
+            "\"refused\":{number},\"expected\":{expected},\"got\":{got}"
         )
     }
 }
@@ -196,12 +210,26 @@ impl fmt::Display for AttributeObjects<'_> {
 
     fn fmt<W: fmt::Write>(&self, f: &mut fmt::Formatter<W>) -> fmt::Result {
         let mut rest = self.0;
-        let Some(first) = rest.next() else {
-            return Ok(());
-        };
-        let first = AttributeObject(first);
-        write!(f, "{first}")?;
-        for one in rest {
+        match rest.next() {
+            None => Ok(()),
+            Some(first) => {
+                let first = AttributeObject(first);
+                let more = MoreAttributes(rest);
+                write!(f, "{first}{more}")
+            }
+        }
+    }
+}
+
+// Those behind the first, with a comma before each.
+#[derive(Clone, Copy)]
+struct MoreAttributes<'a>(Attributes<'a>);
+
+impl fmt::Display for MoreAttributes<'_> {
+    ghost output = { λ a. Some (more_attributes (attribute.left a.0)) };
+
+    fn fmt<W: fmt::Write>(&self, f: &mut fmt::Formatter<W>) -> fmt::Result {
+        for one in self.0 {
             let one = AttributeObject(one);
             write!(f, ",{one}")?;
         }
@@ -217,12 +245,26 @@ impl fmt::Display for FormerNames<'_> {
 
     fn fmt<W: fmt::Write>(&self, f: &mut fmt::Formatter<W>) -> fmt::Result {
         let mut rest = self.0;
-        let Some(first) = rest.next() else {
-            return Ok(());
-        };
-        let first = Quoted(first.name);
-        write!(f, "{first}")?;
-        for one in rest {
+        match rest.next() {
+            None => Ok(()),
+            Some(first) => {
+                let first = Quoted(first.name);
+                let more = MoreNames(rest);
+                write!(f, "{first}{more}")
+            }
+        }
+    }
+}
+
+// Those behind the first, with a comma before each.
+#[derive(Clone, Copy)]
+struct MoreNames<'a>(RefactorInfos<'a>);
+
+impl fmt::Display for MoreNames<'_> {
+    ghost output = { λ r. Some (more_formers (refactor.left r.0)) };
+
+    fn fmt<W: fmt::Write>(&self, f: &mut fmt::Formatter<W>) -> fmt::Result {
+        for one in self.0 {
             let one = Quoted(one.name);
             write!(f, ",{one}")?;
         }

@@ -1,8 +1,8 @@
 //! What the command prints of an upload of symbols (docs/FORMAT.md, "The command's text").
-#![tactic(auto, unfolding(crate::specs::Report::upload_text, crate::specs::Report::counted, crate::specs::Report::summary_text, crate::specs::Report::refused_line, crate::specs::Json::refused_text, crate::specs::Json::strings_text, crate::specs::Json::numbers_text, crate::specs::Json::sections_text, crate::specs::Json::symbol_text, crate::specs::Json::guid_text))]
+#![tactic(auto, unfolding(crate::specs::Report::upload_text, crate::specs::Report::counted, crate::specs::Report::summary_text, crate::specs::Report::refused_line, crate::specs::Json::refused_text, crate::specs::Json::figures_text, crate::specs::Json::strings_text, crate::specs::Json::numbers_text, crate::specs::Json::sections_text, crate::specs::Json::symbol_text, crate::specs::Json::guid_text))]
 
 ghost use Rattle.std.specs.Prelude.{◌≡◌, Some};
-ghost use Rattle.report.specs.Report.{upload_text, nothing_counted, counted, all_of};
+ghost use Rattle.report.specs.Report.{form_text, mode_text, upload_text, nothing_counted, counted, all_of};
 
 pub mod check;
 pub mod json;
@@ -28,21 +28,33 @@ pub struct Upload<'a> {
     pub bytes: &'a [u8],
 }
 
+fn form_text(form: Form) -> &'static str
+    ensures { result.now ≡ form_text form }
+{
+    match form {
+        Form::Binary => "binary",
+        Form::Hexadecimal => "hexadecimal text",
+    }
+}
+
+fn mode_text(mode: Mode) -> &'static str
+    ensures { result.now ≡ mode_text mode }
+{
+    match mode {
+        Mode::Present => "",
+        Mode::Checked => ", checked",
+    }
+}
+
 /// Where it is from, as which form it was read, how long it is, and whether end bytes are looked at.
 impl fmt::Display for Upload<'_> {
     ghost output = { λ u. Some (upload_text u) };
 
     fn fmt<W: fmt::Write>(&self, f: &mut fmt::Formatter<W>) -> fmt::Result {
         let path = self.path;
-        let form = match self.form {
-            Form::Binary => "binary",
-            Form::Hexadecimal => "hexadecimal text",
-        };
+        let form = form_text(self.form);
         let length = Bytes(self.bytes.len());
-        let mode = match self.mode {
-            Mode::Present => "",
-            Mode::Checked => ", checked",
-        };
+        let mode = mode_text(self.mode);
         write!(f, "{path} ({form}, {length}{mode})")
     }
 }

@@ -1,4 +1,5 @@
 //! `list`: a table of the entries.
+ghost use Rattle.std.specs.Prelude.{◌≤◌};
 
 use crate::{Tally, Upload};
 use std::io;
@@ -13,7 +14,9 @@ type Widths = [usize; 9];
 const HEADINGS: Widths = [5, 4, 4, 4, 5, 6, 5, 6, 4];
 
 /// How many digits a number has in a base.
-pub fn digits(number: usize, base: usize) -> usize {
+pub fn digits(number: usize, base: usize) -> usize
+    ensures { result ≤ 20 }
+{
     let mut rest = number;
     for count in 1..20usize {
         rest /= base.max(2);
