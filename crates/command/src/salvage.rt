@@ -1,12 +1,10 @@
 //! `salvage`: the accepted entries as a new upload.
 
 use crate::failure::Failure;
-use crate::find::refused;
 use crate::written;
 use report::Upload;
 use salvage_report::Dropped;
 use std::io::Write;
-use wording::InWords;
 
 /// Refuses a path where something stands, before anything is read.
 pub fn is_free(rt: &HostRuntime, to: &str, file: &str) -> Result<(), Failure> {
@@ -22,10 +20,7 @@ pub fn salvage<W: Write>(
     out: &mut W,
 ) -> Result<(), Failure> {
     let alloc = rt.alloc();
-    let salvaged = match salvage_report::salvage(alloc, upload)? {
-        Ok(salvaged) => salvaged,
-        Err(why) => return Err(refused(alloc, upload, &InWords(&why))),
-    };
+    let salvaged = salvage_report::salvage(alloc, upload)?;
     written::write(rt, to, salvaged.kept.as_slice())?;
     if let Err(why) = salvage_report::write(upload, &salvaged, to, out) {
         let failure = Failure::Output(why);

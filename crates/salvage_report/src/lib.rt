@@ -1,17 +1,22 @@
 //! `salvage`: the accepted entries of a damaged upload, and a table of what was dropped (docs/FORMAT.md, "The command's text").
 #![tactic(auto)]
 
-use refusal::Refusal;
+ghost use Rattle.std.specs.Prelude.{◌≡◌, ◌≤◌, ◌++◌, IfOk, OnOk, length};
+ghost use Rattle.symbol.specs.Symbol.{symbol_of};
+ghost use Rattle.walk.specs.Pieces.{pieces};
+ghost use Rattle.salvage.specs.Salvage.{bytes_of, kept};
+
 use report::table::digits;
 use report::{Tally, Upload};
 use std::alloc::{AllocError, Global};
 use std::io::Write;
 use std::{fmt, io};
 use symbol::{AdsSymbolInfo, Symbols};
+use walk::Piece;
 use wording::text::Spaces;
 use wording::{Bytes, InWords, Many};
 
-/// An upload's accepted entries, and how many runs of it were dropped.
+/// An upload's accepted entries, and how many there are.
 #[derive(Debug, Drop)]
 pub struct Salvaged {
     /// The new upload.
@@ -20,35 +25,35 @@ pub struct Salvaged {
     pub tally: Tally,
 }
 
-/// Salvages an upload (docs/FORMAT.md, "Salvage").
-pub fn salvage(
-    alloc: Global,
-    upload: &Upload<'_>,
-) -> Result<Result<Salvaged, Refusal>, AllocError> {
-    let tally = count(upload);
-    let mut kept = vec![in alloc; 0u8; upload.bytes.len()]?;
-    let mut runs = vec![in alloc; 0u32; tally.refused.saturating_mul(3)]?;
-    let answer = salvage::salvage::<AdsSymbolInfo>(
-        upload.bytes,
-        upload.mode,
-        kept.as_mut_slice(),
-        runs.as_mut_slice(),
-    );
-    match answer {
-        Ok(written) => {
-            kept.truncate(written.bytes);
-            Ok(Ok(Salvaged { kept, tally }))
-        }
-        Err(why) => Ok(Err(why)),
+// Adds the bytes of a piece that was accepted.
+#[tactic(auto, unfolding(le::specs::Le::part))]
+fn keep(
+    bytes: &[u8],
+    piece: &Piece<AdsSymbolInfo<'_>>,
+    out: &mut Vec<u8>,
+) -> Result<(), AllocError>
+    requires forward { piece.now.start ≤ piece.now.end }
+    requires within { piece.now.end ≤ length bytes.now }
+    ensures { OnOk result (out.new.items ≡ out.old.items ++ bytes_of bytes.now piece.now.start piece.now.end piece.now.answer) }
+{
+    match &piece.answer {
+        Ok(_) => out.extend_from_slice(&bytes[piece.start..piece.end]),
+        Err(_) => Ok(()),
     }
 }
 
-fn count(upload: &Upload<'_>) -> Tally {
+/// Salvages an upload (docs/FORMAT.md, "Salvage").
+pub fn salvage(alloc: Global, upload: &Upload<'_>) -> Result<Salvaged, AllocError>
+    ensures { IfOk result (λ s. s.kept.items ≡ kept upload.now.bytes.now (pieces (symbol_of upload.now.mode) upload.now.bytes)) }
+{
+    let bytes = upload.bytes;
+    let mut kept = Vec::new(alloc);
     let mut tally = Tally::new();
-    for piece in Symbols::new(upload.bytes, upload.mode) {
+    for piece in Symbols::new(bytes, upload.mode) {
         tally.count(&piece.answer);
+        keep(bytes, &piece, &mut kept)?;
     }
-    tally
+    Ok(Salvaged { kept, tally })
 }
 
 /// What was dropped of an upload, in words.

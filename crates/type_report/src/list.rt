@@ -70,7 +70,7 @@ fn write_node<W: Write>(
     if levels == 0 {
         return write!(out, "");
     }
-    let own = Own(node);
+    let own = Own(&*node);
     write!(out, "{{{own},\"members\":[")?;
     write_members(node.members(mode), mode, levels - 1, out)?;
     write!(out, "]}}")
