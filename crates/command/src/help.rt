@@ -16,6 +16,7 @@ FILE is a path, or - for standard input: up to 16,777,216 bytes, binary or hexad
 with white space and line ends of any kind between them. Which it is, the first four bytes tell: four characters of text
 would be the length of an entry above that limit, so they are hexadecimal. show, list, type, check, compare and salvage
 say which, and so does every refusal of what was read. It is an upload of symbols, for type one of data types.
+Words of the command line are UTF-8; a file of another name is read from standard input.
 
 type prints a tree: members stand below what they are members of, two columns further to the right. Of each, the offset
 within what it is a member of is told, and the offset from the start of the whole data type, the sum of the offsets on the

@@ -36,3 +36,6 @@ ends f {a} {b} e g = subst (Appends a b) (no_more f g.said e g.adds) g.written
 -- three texts, one behind the other
 pub three : {a b c d : Option (List ℕ)} {x y z t : List ℕ} → Appends a b x → Appends b c y → Appends c d z → x ++ (y ++ z) ≡ t → Appends a d t
 three {a} {b} {c} {d} {x} {y} {z} p q r e = subst (Appends a d) e (Appends-trans a b d x (y ++ z) p (Appends-trans b c d y z q r))
+
+pub two : {a b c : Option (List ℕ)} {x y : List ℕ} → Appends a b x → Appends b c y → Appends a c (x ++ y)
+two {a} {b} {c} {x} {y} p q = Appends-trans a b c x y p q

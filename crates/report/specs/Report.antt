@@ -55,10 +55,14 @@ tally_of ps = tallied nothing_counted ps
 abbrev pub entries : ℕ → List ℕ
 entries n = many n (codes "entry") (codes "entries")
 
+unfoldable pub counts_text : Tally → List ℕ
+counts_text t = entries (all_of t) ++ (codes ": " ++ (grouped t.accepted ++ (codes " accepted, " ++ (grouped t.refused ++ codes " refused\n"))))
+
+unfoldable pub unread_text : Tally → List ℕ
+unread_text t = if t.grown == 0 then [] else codes "left unread: " ++ (bytes t.unread ++ (codes ", in " ++ (entries t.grown ++ codes "\n")))
+
 unfoldable pub summary_text : Tally → List ℕ
-summary_text t =
-    entries (all_of t) ++ (codes ": " ++ (grouped t.accepted ++ (codes " accepted, " ++ (grouped t.refused ++ (codes " refused\n"
-    ++ (if t.grown == 0 then [] else codes "left unread: " ++ (bytes t.unread ++ (codes ", in " ++ (entries t.grown ++ codes "\n")))))))))
+summary_text t = counts_text t ++ unread_text t
 
 -- the line of an entry that was refused; none of one that was accepted
 abbrev pub refused_by : ℕ → Result AdsSymbolInfo Refusal → List ℕ

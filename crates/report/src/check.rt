@@ -4,7 +4,7 @@ ghost use Rattle.std.specs.List.{flat_map};
 ghost use Rattle.std.specs.Io.KnownBytes.{Appends};
 ghost use Rattle.symbol.specs.Symbol.{symbol_of};
 ghost use Rattle.walk.specs.Pieces.{pieces};
-ghost use Rattle.report.specs.Report.{check_text, entries, refused_line, summary_text, tally_of, upload_text};
+ghost use Rattle.report.specs.Report.{check_text, counts_text, entries, refused_line, summary_text, tally_of, unread_text, upload_text};
 
 use crate::{Tally, Upload};
 use std::io::Write;
@@ -30,24 +30,17 @@ impl fmt::Display for Entries {
     }
 }
 
-// What the refusals leave is told after them: who looks for the one fault of a large upload reads the end.
+// How many entries there are.
 #[derive(Clone, Copy)]
-struct Summary(Tally);
+struct Counts(Tally);
 
-impl fmt::Display for Summary {
-    ghost output = { λ s. Some (summary_text s.0) };
+impl fmt::Display for Counts {
+    ghost output = { λ s. Some (counts_text s.0) };
 
     fn fmt<W: fmt::Write>(&self, f: &mut fmt::Formatter<W>) -> fmt::Result {
-        let tally = self.0;
-        let all = Entries(tally.all());
-        let (accepted, refused) = (Grouped(tally.accepted), Grouped(tally.refused));
-        write!(f, "{all}: {accepted} accepted, {refused} refused\n")?;
-        if tally.grown == 0 {
-            return Ok(());
-        }
-        let bytes = Bytes(tally.unread);
-        let grown = Entries(tally.grown);
-        write!(f, "left unread: {bytes}, in {grown}\n")
+        let all = Entries(self.0.all());
+        let (accepted, refused) = (Grouped(self.0.accepted), Grouped(self.0.refused));
+        write!(f, "{all}: {accepted} accepted, {refused} refused\n")
     }
 }
 
@@ -82,11 +75,31 @@ fn write_upload<W: Write>(upload: &Upload<'_>, out: &mut W) -> io::Result<()>
     writeln!(out, "{upload}")
 }
 
+fn write_counts<W: Write>(tally: Tally, out: &mut W) -> io::Result<()>
+    ensures { OnOk result (Appends (W.contents out.old) (W.contents out.new) (counts_text tally)) }
+{
+    let counts = Counts(tally);
+    write!(out, "{counts}")
+}
+
+fn write_unread<W: Write>(tally: Tally, out: &mut W) -> io::Result<()>
+    ensures { OnOk result (Appends (W.contents out.old) (W.contents out.new) (unread_text tally)) }
+{
+    if tally.grown == 0 {
+        return Ok(());
+    }
+    let bytes = Bytes(tally.unread);
+    let grown = Entries(tally.grown);
+    writeln!(out, "left unread: {bytes}, in {grown}")
+}
+
+// What the refusals leave is told after them: who looks for the one fault of a large upload reads the end.
 fn write_summary<W: Write>(tally: Tally, out: &mut W) -> io::Result<()>
     ensures { OnOk result (Appends (W.contents out.old) (W.contents out.new) (summary_text tally)) }
 {
-    let summary = Summary(tally);
-    write!(out, "{summary}")
+    write_counts(tally, out)?;
+    write_unread(tally, out)?;
+    Ok(())
 }
 
 /// Writes what was refused and where, and how many entries there are; how many of these were refused.

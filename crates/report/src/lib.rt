@@ -1,5 +1,5 @@
 //! What the command prints of an upload of symbols (docs/FORMAT.md, "The command's text").
-#![tactic(auto, unfolding(crate::specs::Report::upload_text, crate::specs::Report::counted, crate::specs::Report::summary_text, crate::specs::Report::refused_line, crate::specs::Json::refused_text, crate::specs::Json::figures_text, crate::specs::Json::strings_text, crate::specs::Json::numbers_text, crate::specs::Json::sections_text, crate::specs::Json::symbol_text, crate::specs::Json::guid_text))]
+#![tactic(auto, unfolding(crate::specs::Report::upload_text, crate::specs::Report::counted, crate::specs::Report::counts_text, crate::specs::Report::unread_text, crate::specs::Report::refused_line, crate::specs::Json::refused_text, crate::specs::Json::figures_text, crate::specs::Json::strings_text, crate::specs::Json::numbers_text, crate::specs::Json::sections_text, crate::specs::Json::symbol_text, crate::specs::Json::guid_text))]
 
 ghost use Rattle.std.specs.Prelude.{◌≡◌, Some};
 ghost use Rattle.report.specs.Report.{form_text, mode_text, upload_text, nothing_counted, counted, all_of};
