@@ -1,3 +1,4 @@
 pub mod Marks
 pub mod Node
 pub mod Json
+pub mod Letters

@@ -4,6 +4,7 @@ ghost use Rattle.std.specs.List.{flat_map};
 ghost use Rattle.std.specs.Io.KnownBytes.{Appends};
 ghost use Rattle.walk.specs.Pieces.{pieces};
 ghost use Rattle.data_type.specs.DataType.{type_of};
+ghost use Rattle.type_report.specs.Letters.{TypesInLetters};
 ghost use Rattle.type_report.specs.Node.{members_left};
 ghost use Rattle.type_report.specs.Json.{node_text, members_text, more_members, line_text};
 
@@ -114,3 +115,8 @@ fn write_more<W: Write>(
     }
     Ok(())
 }
+
+/// The theorem, as the contract of a function that does nothing: what is written of a data type with members, and of bytes that are none, letter by letter.
+pub fn types_in_letters()
+    ensures { TypesInLetters }
+{}

@@ -1,4 +1,4 @@
-use Rattle.std.proofs.Common.{◌≡◌, ap, ◌∙◌, length}
+use Rattle.std.proofs.Common.{ℕ, ◌≡◌, List, ◌++◌, ap, ◌∙◌, length}
 use Rattle.std.proofs.lemmas.List.Elements.{All-rest, All-head}
 use Rattle.symbol.specs.Symbol.{symbol_of}
 use Rattle.walk.specs.Pieces.{pieces, walker_left}
@@ -13,7 +13,7 @@ loop-piece-init c =
     simp (c.into_iter-piece-iterator.ensures.into_iter_gives, all) (record {
       can = tt;
       ends = tt;
-      so = ?;
+      so = ap (λ (x : List ℕ). x ++ kept c.args.upload.now.bytes.now (pieces (symbol_of c.args.upload.now.mode) c.args.upload.now.bytes)) c.new-kept.ensures.items;
       forward = all_forward (symbol_of c.args.upload.now.mode) c.args.upload.now.bytes (length c.args.upload.now.bytes.now) 0;
     })
 
@@ -24,7 +24,7 @@ loop-piece-preserved c =
     record {
       can = tt;
       ends = tt;
-      so = one_more c.args.upload.now.bytes.now turn c.in_ok-keep.ensures i.so;
+      so = one_more c.args.upload.now.bytes.now _ turn c.in_ok-keep.ensures i.so;
       forward = All-rest (Forward c.args.upload.now.bytes.now) _ _ _ turn i.forward;
     }
 
