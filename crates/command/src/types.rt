@@ -10,8 +10,8 @@ use std::alloc::Global;
 use std::io::Write;
 use type_report::node::Node;
 use type_report::{Counts, list, table};
-use wording::{Grouped, InWords};
 use wording::text::Shown;
+use wording::{Grouped, InWords};
 
 /// All data types, or the first of a name.
 pub fn print<W: Write>(

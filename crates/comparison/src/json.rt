@@ -37,12 +37,7 @@ pub(crate) fn write<W: Write>(
     Ok(is_alike)
 }
 
-fn write_entry<W: Write>(
-    alloc: Global,
-    row: &Row<'_>,
-    mode: Mode,
-    out: &mut W,
-) -> io::Result<()> {
+fn write_entry<W: Write>(alloc: Global, row: &Row<'_>, mode: Mode, out: &mut W) -> io::Result<()> {
     match row.name() {
         Some(name) => {
             let name = Quoted(name);

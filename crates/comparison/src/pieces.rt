@@ -17,10 +17,7 @@ pub(crate) struct Piece<'a> {
 }
 
 /// The pieces of an upload in order, without a gap.
-pub(crate) fn pieces<'a>(
-    alloc: Global,
-    upload: &Upload<'a>,
-) -> Result<Vec<Piece<'a>>, AllocError> {
+pub(crate) fn pieces<'a>(alloc: Global, upload: &Upload<'a>) -> Result<Vec<Piece<'a>>, AllocError> {
     let mut all = Vec::new(alloc);
     let bytes = upload.bytes;
     for piece in Symbols::new(bytes, upload.mode) {

@@ -6,7 +6,11 @@ use symbol::AdsSymbolInfo;
 use values::{ExtendedNames, FlagNames, FormerName, NameAndValue, OrNone};
 use wording::Bytes;
 
-pub(crate) fn write<W: Write>(at: usize, symbol: &AdsSymbolInfo<'_>, out: &mut W) -> io::Result<()> {
+pub(crate) fn write<W: Write>(
+    at: usize,
+    symbol: &AdsSymbolInfo<'_>,
+    out: &mut W,
+) -> io::Result<()> {
     write_strings(symbol, out)?;
     write_numbers(at, symbol, out)?;
     write_optional(symbol, out)?;
@@ -25,11 +29,7 @@ fn write_strings<W: Write>(symbol: &AdsSymbolInfo<'_>, out: &mut W) -> io::Resul
     writeln!(out, "comment       {comment}")
 }
 
-fn write_numbers<W: Write>(
-    at: usize,
-    symbol: &AdsSymbolInfo<'_>,
-    out: &mut W,
-) -> io::Result<()> {
+fn write_numbers<W: Write>(at: usize, symbol: &AdsSymbolInfo<'_>, out: &mut W) -> io::Result<()> {
     let length = Bytes(symbol.length);
     let size = Bytes(symbol.size as usize);
     let group = symbol.index_group.0;
@@ -39,10 +39,7 @@ fn write_numbers<W: Write>(
     let high = symbol.high;
     writeln!(out, "place         at {at}, {length}")?;
     writeln!(out, "size          {size}")?;
-    writeln!(
-        out,
-        "address       group 0x{group:X}, offset 0x{offset:X}"
-    )?;
+    writeln!(out, "address       group 0x{group:X}, offset 0x{offset:X}")?;
     writeln!(out, "type id       {type_id}")?;
     writeln!(out, "flags         {flags}")?;
     writeln!(out, "high          0x{high:04X}")

@@ -116,7 +116,10 @@ impl Row<'_> {
 
     // The bytes of a section that stand in the row.
     fn draw_section<W: Write>(&self, section: &Section<'_>, out: &mut W) -> io::Result<()> {
-        let end = self.end().saturating_sub(section.at).min(section.bytes.len());
+        let end = self
+            .end()
+            .saturating_sub(section.at)
+            .min(section.bytes.len());
         let begin = self.start.saturating_sub(section.at).min(end);
         let bytes = &section.bytes[begin..end];
         write!(out, "{}", if section.at < self.start { ' ' } else { '|' })?;

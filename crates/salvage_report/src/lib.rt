@@ -27,11 +27,7 @@ pub struct Salvaged {
 
 // Adds the bytes of a piece that was accepted.
 #[tactic(auto, unfolding(le::specs::Le::part))]
-fn keep(
-    bytes: &[u8],
-    piece: &Piece<AdsSymbolInfo<'_>>,
-    out: &mut Vec<u8>,
-) -> Result<(), AllocError>
+fn keep(bytes: &[u8], piece: &Piece<AdsSymbolInfo<'_>>, out: &mut Vec<u8>) -> Result<(), AllocError>
     requires forward { piece.now.start ≤ piece.now.end }
     requires within { piece.now.end ≤ length bytes.now }
     ensures { OnOk result (out.new.items ≡ out.old.items ++ bytes_of bytes.now piece.now.start piece.now.end piece.now.answer) }

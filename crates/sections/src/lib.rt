@@ -188,10 +188,7 @@ impl<'a> Cutter<'a> {
     {
         let mut number: usize = 0;
         for one in symbol.refactor_infos {
-            self.cut(
-                Part::FormerName(number),
-                one.name.len().saturating_add(7),
-            )?;
+            self.cut(Part::FormerName(number), one.name.len().saturating_add(7))?;
             number = number.saturating_add(1);
         }
         Ok(())
