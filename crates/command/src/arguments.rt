@@ -189,32 +189,32 @@ pub fn read<'a>(alloc: Global, line: &'a [String]) -> Result<Request<'a>, Failur
     }
     let mut words = Words {
         alloc,
-        command: "",
-        left: words.as_slice(),
+        words,
+        next: 0,
     };
     words.request(options)
 }
 
-// The words that are left, behind the one that says what to do.
+// The words that are no options, and how many of them were looked at.
 #[derive(Drop)]
-struct Words<'w, 'a> {
+struct Words<'a> {
     alloc: Global,
-    command: &'a str,
-    left: &'w [&'a str],
+    words: Vec<&'a str>,
+    next: usize,
 }
 
-impl<'w, 'a> Words<'w, 'a> {
+impl<'a> Words<'a> {
     fn next(&mut self) -> Option<&'a str> {
-        let (first, left) = self.left.split_first()?;
-        self.left = left;
-        Some(*first)
+        let word = self.words.as_slice().get(self.next).copied();
+        self.next = self.next.saturating_add(1);
+        word
     }
 
     fn need(&mut self, what: &str) -> Result<&'a str, Failure> {
         match self.next() {
             Some(word) => Ok(word),
             None => {
-                let command = self.command;
+                let command = self.words.as_slice().first().copied().unwrap_or_default();
                 Err(Failure::Usage(format!(in self.alloc; "{command} needs {what}")?))
             }
         }
@@ -229,7 +229,6 @@ impl<'w, 'a> Words<'w, 'a> {
             return Err(Failure::Usage(format!(in alloc; "there is no command {word:?}")?));
         };
         options.suit(alloc, command, word)?;
-        self.command = word;
         let request = match command {
             Command::Room => Request::Room {
                 length: self.length()?,

@@ -33,9 +33,9 @@ goes f {a} {b} {c} {x = x} e g w = record {
 pub ends : {X : Type 0} (f : X → List ℕ) {a b : Option (List ℕ)} {left : List X} {all : List ℕ} → left ≡ [] → Going a b (flat_map f left) all → Appends a b all
 ends f {a} {b} e g = subst (Appends a b) (no_more f g.said e g.adds) g.written
 
--- three texts, one behind the other
-pub three : {a b c d : Option (List ℕ)} {x y z t : List ℕ} → Appends a b x → Appends b c y → Appends c d z → x ++ (y ++ z) ≡ t → Appends a d t
-three {a} {b} {c} {d} {x} {y} {z} p q r e = subst (Appends a d) e (Appends-trans a b d x (y ++ z) p (Appends-trans b c d y z q r))
+-- two texts, one behind the other, and three
+pub two : (a b c : Option (List ℕ)) (x y : List ℕ) → Appends a b x → Appends b c y → Appends a c (x ++ y)
+two a b c x y p q = Appends-trans a b c x y p q
 
-pub two : {a b c : Option (List ℕ)} {x y : List ℕ} → Appends a b x → Appends b c y → Appends a c (x ++ y)
-two {a} {b} {c} {x} {y} p q = Appends-trans a b c x y p q
+pub three : (a b c d : Option (List ℕ)) (x y z t : List ℕ) → Appends a b x → Appends b c y → Appends c d z → x ++ (y ++ z) ≡ t → Appends a d t
+three a b c d x y z t p q r e = subst (Appends a d) e (Appends-trans a b d x (y ++ z) p (Appends-trans b c d y z q r))

@@ -5,10 +5,10 @@ use Rattle.symbol.specs.declared.AdsSymbolInfo.{AdsSymbolInfo}
 use Rattle.report.specs.declared.Tally.{Tally}
 use Rattle.report.specs.Report.{tallied, tally_of, counted, nothing_counted}
 
-pub tallied_more : {left rest : List (Piece AdsSymbolInfo)} {p : Piece AdsSymbolInfo} {t u v : Tally}
+pub tallied_more : {left rest : List (Piece AdsSymbolInfo)} {p : Piece AdsSymbolInfo} (t : Tally) {u v : Tally}
     → left ≡ p ∷ rest → u ≡ counted t p.answer → tallied t left ≡ v → tallied u rest ≡ v
 unfolding tallied
-tallied_more {left} {rest} {p} {t} {u} {v} e n h = ap (λ (x : Tally). tallied x rest) n ∙ ap (tallied t) (sym e) ∙ h
+tallied_more {left} {rest} {p} t {u} {v} e n h = ap (λ (x : Tally). tallied x rest) n ∙ ap (tallied t) (sym e) ∙ h
 
 pub tallied_all : {left all ps : List (Piece AdsSymbolInfo)} {t u : Tally}
     → left ≡ [] → tallied t left ≡ tallied u all → u ≡ nothing_counted → all ≡ ps → t ≡ tally_of ps

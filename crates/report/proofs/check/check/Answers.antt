@@ -11,5 +11,5 @@ pub returns-clause-text : goal.returns-clause-text
 unfolding check_text
 returns-clause-text g c =
     let u = c.args.upload.now in
-    three c.in_ok-write_upload.ensures c.in_ok-tally.ensures.text c.in_ok-write_summary.ensures
+    three _ _ _ _ _ _ _ _ c.in_ok-write_upload.ensures c.in_ok-tally.ensures.text c.in_ok-write_summary.ensures
     (ap (λ (t : Tally). (upload_text u ++ codes "\n") ++ (flat_map refused_line (pieces (symbol_of u.mode) u.bytes) ++ summary_text t)) c.in_ok-tally.ensures.tally)

@@ -11,7 +11,7 @@ loop-piece-preserved g c = record {
   can = tt;
   ends = tt;
   going = goes refused_line c.in-Some.ensures.steps.0 c.loop-piece.invariant.going c.in_ok-write_refused.ensures;
-  counts = tallied_more c.in-Some.ensures.steps.0 c.count.ensures c.loop-piece.invariant.counts;
+  counts = tallied_more c.loop-piece.tally c.in-Some.ensures.steps.0 c.count.ensures c.loop-piece.invariant.counts;
 }
 
 pub returns-clause-tally : goal.returns-clause-tally

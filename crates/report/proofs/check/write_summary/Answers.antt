@@ -4,4 +4,4 @@ use Rattle.report.proofs.check.write_summary.Goals as goal
 
 pub returns : goal.returns
 unfolding summary_text
-returns g c = two c.in_ok-write_counts.ensures c.in_ok-write_unread.ensures
+returns g c = two _ _ _ _ _ c.in_ok-write_counts.ensures c.in_ok-write_unread.ensures
