@@ -31,11 +31,13 @@ pub(crate) fn differences<'a>(
             let sections_of_b = sections(alloc, b.bytes, &in_b)?;
             let one = Side {
                 symbol: in_a,
-                left: sections_of_a.as_slice(),
+                sections: sections_of_a.as_slice(),
+                at: 0,
             };
             let other = Side {
                 symbol: in_b,
-                left: sections_of_b.as_slice(),
+                sections: sections_of_b.as_slice(),
+                at: 0,
             };
             push_differences(one, other, &mut all)?;
         }
@@ -70,28 +72,29 @@ fn reason<'a>(answer: Result<AdsSymbolInfo<'_>, Refusal>) -> Value<'a> {
     }
 }
 
-// A symbol, and the sections of it that are not looked at yet.
+// A symbol, and the number of the first of its sections that is not looked at yet.
 #[derive(Clone, Copy)]
 struct Side<'s, 'a> {
     symbol: AdsSymbolInfo<'a>,
-    left: &'s [Section<'a>],
+    sections: &'s [Section<'a>],
+    at: usize,
 }
 
 impl<'s, 'a> Side<'s, 'a> {
     // The next section, if its part stands there in the other too or before what is next in it.
     fn next(&mut self, other: Option<Part>) -> Option<Section<'a>> {
-        let (first, rest) = self.left.split_first()?;
+        let section = self.sections.get(self.at).copied()?;
         if let Some(part) = other {
-            if first.part.compare(part) == Ordering::Greater {
+            if section.part.compare(part) == Ordering::Greater {
                 return None;
             }
         }
-        self.left = rest;
-        Some(*first)
+        self.at = self.at.saturating_add(1);
+        Some(section)
     }
 
     fn part(&self) -> Option<Part> {
-        match self.left.first() {
+        match self.sections.get(self.at) {
             Some(section) => Some(section.part),
             None => None,
         }
@@ -113,7 +116,7 @@ fn push_differences<'a>(
 ) -> Result<(), AllocError> {
     let mut a = a;
     let mut b = b;
-    let steps = a.left.len().saturating_add(b.left.len());
+    let steps = a.sections.len().saturating_add(b.sections.len());
     for _ in 0..steps {
         let (part_of_a, part_of_b) = (a.part(), b.part());
         let one = a.next(part_of_b);

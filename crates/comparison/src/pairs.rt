@@ -160,22 +160,20 @@ impl Pairs {
         order: Order,
         fit: Fit,
     ) {
-        let mut ours = ours;
-        let mut theirs = theirs;
-        while let Some((one, more)) = ours.split_first() {
-            let Some((other, others)) = theirs.split_first() else {
+        let (mut at, mut there) = (0usize, 0usize);
+        for _ in 0..ours.len().saturating_add(theirs.len()) {
+            let (Some(one), Some(other)) = (ours.get(at), theirs.get(there)) else {
                 return
             };
-            match order.of(&one.piece, &other.piece) {
-                Ordering::Less => ours = more,
-                Ordering::Greater => theirs = others,
-                Ordering::Equal => {
-                    if fit.fits(&one.piece, &other.piece) {
-                        self.join(one.number, other.number);
-                    }
-                    ours = more;
-                    theirs = others;
-                }
+            let order = order.of(&one.piece, &other.piece);
+            if order == Ordering::Equal && fit.fits(&one.piece, &other.piece) {
+                self.join(one.number, other.number);
+            }
+            if order != Ordering::Greater {
+                at = at.saturating_add(1);
+            }
+            if order != Ordering::Less {
+                there = there.saturating_add(1);
             }
         }
     }

@@ -85,14 +85,11 @@ impl Row<'_> {
 
     // Without the sections that end before the row.
     fn behind<'s, 'a>(&self, sections: &'s [Section<'a>]) -> &'s [Section<'a>] {
-        let mut left = sections;
-        while let Some((first, rest)) = left.split_first() {
-            if first.end() > self.start {
-                return left;
-            }
-            left = rest;
+        let start = self.start;
+        match sections.iter().position(|section| section.end() > start) {
+            Some(first) => &sections[first..],
+            None => &sections[sections.len()..],
         }
-        left
     }
 
     // A rule stands before the first byte of each section, and after the last byte of the row where a section ends there.

@@ -41,7 +41,7 @@ numbers_text n =
     ++ (codes ",\"offset_from_start\":" ++ (decimal n.offset_from_start
     ++ (codes ",\"size\":" ++ (decimal n.record.field.size
     ++ (codes ",\"marks\":[" ++ (marks_text (codes ",") (codes "\"") n.marks
-    ++ (codes "],\"arrays\":[" ++ (arrays_text (array.left n.record.arrays) ++ codes "]"))))))))))
+    ++ (codes "],\"arrays\":[" ++ (arrays_text (array.left n.record.arrays) ++ codes "]")))))))))
 
 unfoldable pub maker_text : AdsFieldInfo → List ℕ
 maker_text r =

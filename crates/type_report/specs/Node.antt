@@ -12,7 +12,7 @@ use Rattle.type_report.specs.declared.node.Node.{Node}
 use Rattle.type_report.specs.declared.node.Members.{Members}
 
 abbrev pub root_at : ℕ → AdsDataTypeInfo → Node
-root_at place r = record { place = place; offset_from_start = 0; marks = record { own = r.field.flags; around = record { 0 = 0 } }; record = r }
+root_at place r = record { place = place; offset_from_start = 0; marks = record { own = r.field.flags; around = record { 0 = 0 } }; «record» = r }
 
 -- a sub-item of a node, at a place among its sub-items
 abbrev pub item_of : Node → ℕ → AdsDataTypeInfo → Node
@@ -21,7 +21,7 @@ item_of n start r =
       place = plus (plus n.place (n.record.field.length - length n.record.sub_items.bytes.now)) start;
       offset_from_start = plus n.offset_from_start r.field.offset;
       marks = within n.marks r.field.flags;
-      record = r;
+      «record» = r;
     }
 
 -- of so many pieces, up to one that is refused

@@ -60,12 +60,7 @@ pub fn write_type<W: Write>(root: &Node<'_>, mode: Mode, out: &mut W) -> io::Res
 // An object with the objects of its sub-items in it, so many levels in all.
 #[tactic(auto, unfolding(crate::specs::Json::node_text))]
 #[cycle(write_tree)]
-fn write_node<W: Write>(
-    node: &Node<'_>,
-    mode: Mode,
-    levels: usize,
-    out: &mut W,
-) -> io::Result<()>
+fn write_node<W: Write>(node: &Node<'_>, mode: Mode, levels: usize, out: &mut W) -> io::Result<()>
     ensures { OnOk result (Appends (W.contents out.old) (W.contents out.new) (node_text mode levels node.now)) }
 {
     if levels == 0 {

@@ -79,7 +79,10 @@ impl Words {
         ensures { result ≡ any_word self.flags }
     {
         let flags = self.flags;
-        flags.is_bit_values() || flags.is_static() || flags.is_reference_to() || flags.is_prop_item()
+        flags.is_bit_values()
+            || flags.is_static()
+            || flags.is_reference_to()
+            || flags.is_prop_item()
     }
 }
 

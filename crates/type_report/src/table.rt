@@ -26,9 +26,7 @@ const HEADINGS: [&str; 9] = [
 ];
 
 // The columns of text; numbers stand at the right of theirs.
-const TEXT: [bool; 9] = [
-    false, true, true, false, false, false, true, true, true,
-];
+const TEXT: [bool; 9] = [false, true, true, false, false, false, true, true, true];
 
 /// A line of the table.
 #[derive(Drop)]
@@ -126,7 +124,9 @@ impl fmt::Display for Bounds<'_> {
         let mut before = "[";
         for one in self.0 {
             let lower = signed(one.lower_bound);
-            let upper = lower.saturating_add(i64::from(one.elements)).saturating_sub(1);
+            let upper = lower
+                .saturating_add(i64::from(one.elements))
+                .saturating_sub(1);
             write!(f, "{before}{lower}..{upper}")?;
             before = ", ";
         }

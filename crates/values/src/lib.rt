@@ -195,7 +195,7 @@ fn former_name_in(record: &[u8]) -> Value<'_> {
 
 /// Whether two values tell the same: in JSON they are the same text.
 pub fn tell_the_same(one: &Value<'_>, other: &Value<'_>) -> bool {
-    match (one, other) {
+    match (*one, *other) {
         (Value::Absent, Value::Absent) => true,
         (Value::Bytes(one), Value::Bytes(other)) => one == other,
         (Value::Number(one), Value::Number(other)) => one == other,
@@ -205,11 +205,16 @@ pub fn tell_the_same(one: &Value<'_>, other: &Value<'_>) -> bool {
         (Value::ExtendedFlags(one), Value::ExtendedFlags(other)) => one == other,
         (Value::Text(one), Value::Text(other)) => one == other,
         (Value::Guid(one), Value::Guid(other)) => one == other,
-        (Value::Attribute(one), Value::Attribute(other)) => {
-            one.name == other.name && one.value == other.value
-        }
+        (Value::Attribute(one), Value::Attribute(other)) => is_same(one, other),
         (Value::FormerName(one), Value::FormerName(other)) => one == other,
         (Value::Refused(one), Value::Refused(other)) => one == other,
         _ => false,
     }
+}
+
+fn is_same(one: AdsAttribute<'_>, other: AdsAttribute<'_>) -> bool {
+    if one.name != other.name {
+        return false;
+    }
+    one.value == other.value
 }
