@@ -304,7 +304,8 @@ static size_t skip(struct bytes e, size_t at, uint64_t count)
     return at;
 }
 
-/* What stands behind a field's sub-items. */
+/* What stands behind a field's sub-items. Lengths that are skipped may lead past the entry; a place that is told does
+ * not. */
 static struct list late_sections(struct bytes e, size_t at, struct told *told, size_t has_guid)
 {
     uint64_t size = number_at(e, 16, 4), flags = number_at(e, 28, 4);
@@ -313,7 +314,10 @@ static struct list late_sections(struct bytes e, size_t at, struct told *told, s
         at = size < left_at(e, at) ? at + (size_t)size : e.len;
     if ((flags & VINDASKOT_TYPE_FLAG_METHOD_INFOS) != 0 && left_at(e, at) >= 2)
         at = skip(e, at + 2, number_at(e, at, 2));
-    return attributes_at(e, at, (flags & VINDASKOT_TYPE_FLAG_ATTRIBUTES) != 0);
+    struct list list = attributes_at(e, at, (flags & VINDASKOT_TYPE_FLAG_ATTRIBUTES) != 0);
+    if (list.first > e.len)
+        list.first = e.len;
+    return list;
 }
 
 static struct list field_sections(struct bytes e, size_t at, struct told *told)

@@ -428,7 +428,7 @@ static uint32_t sections(struct tree *t, const uint8_t *e, size_t len, size_t at
         at = at <= len && size < len - at ? at + (size_t)size : len;
     if ((flags & VINDASKOT_TYPE_FLAG_METHOD_INFOS) != 0 && at <= len && len - at >= 2)
         at = skipped(e, len, at + 2, at_place(e, at, 2));
-    slots[VINDASKOT_TYPE_ATTRIBUTES] = at;
+    slots[VINDASKOT_TYPE_ATTRIBUTES] = at < len ? at : len;
     if ((flags & VINDASKOT_TYPE_FLAG_ATTRIBUTES) == 0 || at > len || len - at < 2)
         return VINDASKOT_DONE;
     uint64_t count = at_place(e, at, 2);

@@ -26,8 +26,7 @@
  *   A name, a value and the like are told as a place and a length: bytes + place, length bytes. After a read they
  *   count from the bytes given. After a step they count from the start of the entry: the cursor before the step.
  *   Strings are Windows-1252 (vindaskot_decode makes UTF-8) and stand as they were sent; their length has no end byte
- *   in it. The place of the first of no records (a count of 0) is nothing to look at: in a field it may lie past the
- *   entry.
+ *   in it. The place of the first of no records (a count of 0) is nothing to look at; no place lies past the entry.
  *
  * Two modes
  *   One end byte follows each string, and a sound sender makes it 0. The present mode does not look at it. The checked
@@ -217,7 +216,7 @@ enum {
     VINDASKOT_FIELD_COMMENT, /* place */
     VINDASKOT_FIELD_COMMENT_LEN,
     VINDASKOT_FIELD_HAS_GUID,   /* 1, or 0: then guid is 16 zeros */
-    VINDASKOT_FIELD_ATTRIBUTES, /* place of the first attribute; where the count is 0 it may lie past the entry */
+    VINDASKOT_FIELD_ATTRIBUTES, /* place of the first attribute */
     VINDASKOT_FIELD_ATTRIBUTE_COUNT,
     VINDASKOT_FIELD_SLOTS
 };
@@ -525,7 +524,7 @@ enum {
     VINDASKOT_TYPE_COMMENT, /* place */
     VINDASKOT_TYPE_COMMENT_LEN,
     VINDASKOT_TYPE_HAS_GUID,   /* 1, or 0: then guid is 16 zeros */
-    VINDASKOT_TYPE_ATTRIBUTES, /* place of the first attribute; where the count is 0 it may lie past the entry */
+    VINDASKOT_TYPE_ATTRIBUTES, /* place of the first attribute */
     VINDASKOT_TYPE_ATTRIBUTE_COUNT,
     VINDASKOT_TYPE_ARRAYS,       /* place of the first array record, 8 bytes each; told where the count is 0 too */
     VINDASKOT_TYPE_ARRAY_COUNT,  /* array records: the dimensions */

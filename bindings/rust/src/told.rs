@@ -30,9 +30,9 @@ pub(crate) fn part(bytes: &[u8], place: u64, len: u64) -> &[u8] {
     &bytes[place as usize..][..len as usize]
 }
 
-/// What stands from a place on. The place of an absent list can be past the end: then nothing does.
+/// What stands from a place on.
 pub(crate) fn rest_from(bytes: &[u8], place: u64) -> &[u8] {
-    bytes.get(place as usize..).unwrap_or_default()
+    &bytes[place as usize..]
 }
 
 /// How much room a writer needs: lent none, it is refused with that figure unless it has nothing to write.

@@ -1,16 +1,12 @@
--- docs/FORMAT.md, "Field entries": what a field that is accepted tells is a number of its header or a part of its entry, with its end byte; what it shows is
--- given by its number and by its name.
-use Rattle.std.specs.Prelude.{ℕ, ◌+◌, ◌<◌, ◌≤◌, ◌≡◌, List, Some, Result, Ok, Err, length, slice_get}
+-- docs/FORMAT.md, "Field entries": what a field that is accepted tells is a number of its header or a part of its entry, with its end byte.
+use Rattle.std.specs.Prelude.{ℕ, ◌+◌, ◌<◌, ◌≤◌, ◌≡◌, List, Ok, length}
 use Rattle.std.specs.List.{All}
 use Rattle.std.specs.Borrow.{Bor}
 use Rattle.le.specs.Le.{le2, le4}
 use Rattle.part.specs.Slice.{part}
 use Rattle.refusal.specs.declared.Mode.{Mode}
-use Rattle.refusal.specs.declared.Refusal.{Refusal}
-use Rattle.refusal.specs.declared.Refusal.TheVariants.{NoSuchNumber}
 use Rattle.attribute.specs.declared.AdsAttribute.{AdsAttribute}
-use Rattle.attribute.specs.Asked.{FirstNamed}
-use Rattle.attribute.specs.Attribute.{listed, numbered, named}
+use Rattle.attribute.specs.Attribute.{listed}
 use Rattle.field.specs.declared.AdsFieldInfo.{AdsFieldInfo}
 use Rattle.field.specs.Field.{field_of}
 
@@ -47,26 +43,3 @@ pub record IsWithin (e : Bor (List ℕ)) (r : AdsFieldInfo) : Type 0 where
 
 abbrev pub FieldsWithin : Type 0
 FieldsWithin = (mode : Mode) (e : Bor (List ℕ)) (r : AdsFieldInfo) → field_of mode e ≡ Ok r → IsWithin e r
-
--- the attribute with a number; 14 tells how many are shown
-abbrev pub attribute_of : AdsFieldInfo → ℕ → Result AdsAttribute Refusal
-attribute_of r number = numbered (shown r) (length (shown r)) number
-
--- a number is answered by an attribute
-pub record IsGiven (e : Bor (List ℕ)) (answer : Result AdsAttribute Refusal) : Type 0 where
-  pub attribute : AdsAttribute
-  pub is : answer ≡ Ok attribute
-  pub within : IsAttributeIn e attribute
-
--- a number is answered by the attribute that has it, counted from 0; one below the count is never refused, and one past it is 14
-pub record IsShown (e : Bor (List ℕ)) (r : AdsFieldInfo) : Type 0 where
-  pub given : (number : ℕ) (a : AdsAttribute) → slice_get (shown r) number ≡ Some a → attribute_of r number ≡ Ok a
-  pub within : (number : ℕ) → number < r.attributes.count → IsGiven e (attribute_of r number)
-  pub no_more : (number : ℕ) → r.attributes.count ≤ number → attribute_of r number ≡ Err (NoSuchNumber r.attributes.count number)
-
-abbrev pub FieldsShown : Type 0
-FieldsShown = (mode : Mode) (e : Bor (List ℕ)) (r : AdsFieldInfo) → field_of mode e ≡ Ok r → IsShown e r
-
--- a name is answered by the first that is shown with it
-abbrev pub FieldsNamed : Type 0
-FieldsNamed = (mode : Mode) (e : Bor (List ℕ)) (r : AdsFieldInfo) (name : List ℕ) → field_of mode e ≡ Ok r → FirstNamed (shown r) name (named (shown r) name)

@@ -1,6 +1,5 @@
-pub mod Turn
-pub mod Chain
+pub mod Ends
+pub mod Attributes
+pub mod Refactors
 pub mod Direct
 pub mod Single
-pub mod Fields
-pub mod Types

@@ -1,6 +1,7 @@
 -- A record, or a chain, that stands alone.
-use Rattle.std.proofs.Common.{◌≡◌, ℕ, zero, suc, ◌+◌, ◌-◌, ◌≤◌, Bool, true, false, List, length, Ok, Err, Result, arith, Bor, refl, sym, ap, ◌∙◌, subst}
+use Rattle.std.proofs.Common.{◌≡◌, ℕ, zero, suc, ◌+◌, ◌-◌, ◌≤◌, Bool, true, false, List, length, Ok, Err, Result, arith, Bor, refl, sym, ap, subst, length-drop}
 use Rattle.std.specs.Prelude.{if◌then◌else◌}
+use Rattle.part.specs.Slice.{after}
 use Rattle.part.specs.Outcome.{outcome, and_then}
 use Rattle.refusal.specs.declared.Mode.{Mode}
 use Rattle.refusal.specs.declared.Refusal.{Refusal}
@@ -11,10 +12,10 @@ use Rattle.refactor.specs.declared.AdsRefactorInfo.{AdsRefactorInfo}
 use Rattle.refactor.specs.declared.RefactorInfos.{RefactorInfos}
 use Rattle.refactor.specs.Refactor as refactor
 use Rattle.refactor.proofs.Turn as refactor-turn
-use Rattle.places.specs.Places.{IsEnd, attribute_places, refactor_places}
-use Rattle.places.specs.Counted.{attribute_at, refactor_at}
-use Rattle.places.proofs.Turn as turn
-use Rattle.places.proofs.Chain as chain
+use Rattle.places.specs.Places.{IsEnd, IsAttributeBefore, IsRefactorBefore}
+use Rattle.places.proofs.Ends.{self_ends, again}
+use Rattle.places.proofs.Attributes as attributes
+use Rattle.places.proofs.Refactors as refactors
 
 first_alone : (mode : Mode) (s : Bor (List ℕ)) (a : AdsAttribute) → attribute.alone mode s ≡ Ok a → (p : AdsAttribute × Bor (List ℕ)) × ((attribute.first_of s ≡ Ok p) × (p.0 ≡ a))
 first_alone mode s a h = by (attribute.first_of s) refl
@@ -23,30 +24,31 @@ first_alone mode s a h = by (attribute.first_of s) refl
     by (Ok p) e = (p, (e, grind arith))
     by (Err why) e = grind arith
 
-starts_at : (s : Bor (List ℕ)) (p : AdsAttribute × Bor (List ℕ)) → attribute.first_of s ≡ Ok p → attribute_places s p.0 ≡ attribute_at 0 p.0
-starts_at s p h =
-    let z : length s.now - length s.now ≡ 0 = omega arith in
-    turn.counted s p h s (turn.self_ends s) ∙ simp z
-
-pub attribute_is : (mode : Mode) (s : Bor (List ℕ)) (a : AdsAttribute) → attribute.alone mode s ≡ Ok a → attribute_places s a ≡ attribute_at 0 a
-attribute_is mode s a h =
-    let f = first_alone mode s a h in
-    subst (λ (x : AdsAttribute). attribute_places s x ≡ attribute_at 0 x) f.1.1 (starts_at s f.0 f.1.0)
-
 pub attribute_room : (mode : Mode) (s : Bor (List ℕ)) (a : AdsAttribute) → attribute.alone mode s ≡ Ok a → length a.name.now + length a.value.now + 4 ≤ length s.now
 attribute_room mode s a h =
     let f = first_alone mode s a h in
     let r = attribute-room.room s f.0 f.1.0 in
     subst (λ (x : AdsAttribute). length x.name.now + length x.value.now + 4 ≤ length s.now) f.1.1 (omega arith)
 
+-- what is left behind it
+pub attribute_alone_before : (mode : Mode) (s : Bor (List ℕ)) (a : AdsAttribute) → attribute.alone mode s ≡ Ok a
+    → IsAttributeBefore s a (after s (length a.name.now + length a.value.now + 4))
+attribute_alone_before mode s a h =
+    let f = first_alone mode s a h in
+    let b = subst (λ (x : AdsAttribute). IsAttributeBefore s x f.0.1) f.1.1 (attributes.first_before s f.0 f.1.0) in
+    let rest : f.0.1.ref_ptr.1 ≡ s.ref_ptr.1 + length a.name.now + length a.value.now + 4 =
+    subst (λ (x : AdsAttribute). f.0.1.ref_ptr.1 ≡ s.ref_ptr.1 + length x.name.now + length x.value.now + 4) f.1.1 (attributes.rests s f.0 f.1.0) in
+    let long = length-drop (length a.name.now + length a.value.now + 4) s.now in
+    record { end = record { memory = omega (arith, attribute_room mode s a h); within = omega arith }; start = b.start; name = b.name; value = omega (arith, b.value, rest) }
+
 -- what is left after a chain is its end
 turn_by : (s : Bor (List ℕ)) (count left : ℕ) (q : ℕ × Bor (List ℕ)) (p : AdsRefactorInfo × Bor (List ℕ)) → refactor.first_of s ≡ Ok p
     → ((t : Bor (List ℕ)) → refactor.chained t (count + 1) left ≡ Ok q → IsEnd t q.1) → (b : Bool) → p.0.next_refactor_info ≡ b
     → (if b then refactor.chained p.1 (count + 1) left else Ok (count + 1, p.1)) ≡ Ok q → IsEnd s q.1
-turn_by s count left q p e ih true f h = turn.again s p.1 q.1 (chain.next_ends s p e s (turn.self_ends s)) (ih p.1 h)
+turn_by s count left q p e ih true f h = again s p.1 q.1 (refactors.first_before s p e).end (ih p.1 h)
 turn_by s count left q p e ih false f h =
     let is : p.1 ≡ q.1 = cc in
-    subst (IsEnd s) is (chain.next_ends s p e s (turn.self_ends s))
+    subst (IsEnd s) is (refactors.first_before s p e).end
 
 chained_by : (s : Bor (List ℕ)) (count left : ℕ) (q : ℕ × Bor (List ℕ)) (w : Result (AdsRefactorInfo × Bor (List ℕ)) Refusal) → refactor.first_of s ≡ w
     → ((t : Bor (List ℕ)) → refactor.chained t (count + 1) left ≡ Ok q → IsEnd t q.1)
@@ -82,7 +84,7 @@ pub chain_within : (mode : Mode) (s : Bor (List ℕ)) (q : RefactorInfos × Bor 
 chain_within mode s q h = (of_chain mode s q h).0.within
 
 pub chain_end : (mode : Mode) (s : Bor (List ℕ)) (q : RefactorInfos × Bor (List ℕ)) → refactor.chain_alone mode s ≡ Ok q → IsEnd s q.0.bytes
-chain_end mode s q h = subst (IsEnd s) (sym (of_chain mode s q h).1) (turn.self_ends s)
+chain_end mode s q h = subst (IsEnd s) (sym (of_chain mode s q h).1) (self_ends s)
 
 first_record : (mode : Mode) (s : Bor (List ℕ)) (r : AdsRefactorInfo) → refactor.alone mode s ≡ Ok r → (p : AdsRefactorInfo × Bor (List ℕ)) × ((refactor.first_of s ≡ Ok p) × (p.0 ≡ r))
 first_record mode s r h = by (refactor.first_of s) refl
@@ -91,13 +93,16 @@ first_record mode s r h = by (refactor.first_of s) refl
     by (Ok p) e = (p, (e, grind arith))
     by (Err why) e = grind arith
 
-pub refactor_is : (mode : Mode) (s : Bor (List ℕ)) (r : AdsRefactorInfo) → refactor.alone mode s ≡ Ok r → refactor_places s r ≡ refactor_at 0 r
-refactor_is mode s r h =
-    let f = first_record mode s r h in
-    subst (λ (x : AdsRefactorInfo). refactor_places s x ≡ refactor_at 0 x) f.1.1 (chain.starts_at s f.0 f.1.0)
-
 pub refactor_room : (mode : Mode) (s : Bor (List ℕ)) (r : AdsRefactorInfo) → refactor.alone mode s ≡ Ok r → length r.name.now + 7 ≤ length s.now
 refactor_room mode s r h =
     let f = first_record mode s r h in
     let room = refactor-turn.room s f.0 f.1.0 in
     subst (λ (x : AdsRefactorInfo). length x.name.now + 7 ≤ length s.now) f.1.1 (omega arith)
+
+pub refactor_alone_before : (mode : Mode) (s : Bor (List ℕ)) (r : AdsRefactorInfo) → refactor.alone mode s ≡ Ok r → IsRefactorBefore s r (after s (length r.name.now + 7))
+refactor_alone_before mode s r h =
+    let f = first_record mode s r h in
+    let b = subst (λ (x : AdsRefactorInfo). IsRefactorBefore s x f.0.1) f.1.1 (refactors.first_before s f.0 f.1.0) in
+    let rest : f.0.1.ref_ptr.1 ≡ s.ref_ptr.1 + length r.name.now + 7 = subst (λ (x : AdsRefactorInfo). f.0.1.ref_ptr.1 ≡ s.ref_ptr.1 + length x.name.now + 7) f.1.1 (refactors.rests s f.0 f.1.0) in
+    let long = length-drop (length r.name.now + 7) s.now in
+    record { end = record { memory = omega (arith, refactor_room mode s r h); within = omega arith }; start = b.start; name = omega (arith, b.name, rest) }

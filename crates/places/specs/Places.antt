@@ -21,6 +21,19 @@ pub record IsEnd (e s : Bor (List ℕ)) : Type 0 where
   pub memory : s.ref_ptr.1 + length s.now ≡ e.ref_ptr.1 + length e.now
   pub within : length s.now ≤ length e.now
 
+-- an attribute of these bytes, behind which the others begin: behind its two lengths stand its strings, each with its end byte
+pub record IsAttributeBefore (e : Bor (List ℕ)) (a : AdsAttribute) (rest : Bor (List ℕ)) : Type 0 where
+  pub end : IsEnd e rest
+  pub start : e.ref_ptr.1 + 2 ≤ a.name.ref_ptr.1
+  pub name : a.name.ref_ptr.1 + length a.name.now + 1 ≡ a.value.ref_ptr.1
+  pub value : a.value.ref_ptr.1 + length a.value.now + 1 ≡ rest.ref_ptr.1
+
+-- a refactor record likewise, with 6 bytes before its name
+pub record IsRefactorBefore (e : Bor (List ℕ)) (r : AdsRefactorInfo) (rest : Bor (List ℕ)) : Type 0 where
+  pub end : IsEnd e rest
+  pub start : e.ref_ptr.1 + 6 ≤ r.name.ref_ptr.1
+  pub name : r.name.ref_ptr.1 + length r.name.now + 1 ≡ rest.ref_ptr.1
+
 -- an attribute, and a refactor record, of these bytes
 abbrev pub attribute_places : Bor (List ℕ) → AdsAttribute → AttributePlaces
 attribute_places e a =

@@ -3,13 +3,9 @@
 
 pub mod alone;
 pub mod of_entry;
-pub mod of_field;
-pub mod of_symbol;
-pub mod of_type;
 
-ghost use Rattle.std.specs.Prelude.{◌≡◌, ◌+◌, ◌<◌, ◌^◌, length};
-ghost use Rattle.places.specs.Counted.{attribute_at, refactor_at};
-ghost use Rattle.places.specs.Places.{IsEnd, attribute_numbered, attribute_named, refactor_numbered};
+ghost use Rattle.std.specs.Prelude.{◌≡◌};
+ghost use Rattle.places.specs.Places.{IsEnd, IsAttributeBefore, IsRefactorBefore, attribute_places, refactor_places, attribute_numbered, attribute_named, refactor_numbered};
 
 use attribute::{AdsAttribute, Attributes};
 use refactor::{AdsRefactorInfo, RefactorInfos};
@@ -37,37 +33,39 @@ pub struct RefactorPlaces {
     pub next: usize,
 }
 
-// Of the attribute at a place.
-fn attribute_at(at: usize, attribute: AdsAttribute<'_>) -> AttributePlaces
-    requires { at + length attribute.name.now + length attribute.value.now + 4 < 2 ^ 64 }
-    ensures { result ≡ attribute_at at attribute.entry }
+// Of an attribute of some bytes, by what is left of them behind it.
+fn attribute_before(own: &[u8], rest: &[u8], attribute: AdsAttribute<'_>) -> AttributePlaces
+    requires { IsAttributeBefore own attribute rest }
+    ensures { result ≡ attribute_places own.entry attribute.entry }
 {
-    let name = at + 2;
-    let name_len = attribute.name.len();
-    let value = name + name_len + 1;
+    let next = own.len() - rest.len();
     let value_len = attribute.value.len();
+    let value = next - 1 - value_len;
+    let name_len = attribute.name.len();
+    let name = value - 1 - name_len;
     AttributePlaces {
         name,
         name_len,
         value,
         value_len,
-        next: value + value_len + 1,
+        next,
     }
 }
 
-// Of the refactor record at a place.
-fn refactor_at(at: usize, info: AdsRefactorInfo<'_>) -> RefactorPlaces
-    requires { at + length info.name.now + 7 < 2 ^ 64 }
-    ensures { result ≡ refactor_at at info.entry }
+// Of a refactor record likewise.
+fn refactor_before(own: &[u8], rest: &[u8], info: AdsRefactorInfo<'_>) -> RefactorPlaces
+    requires { IsRefactorBefore own info rest }
+    ensures { result ≡ refactor_places own.entry info.entry }
 {
-    let name = at + 6;
+    let next = own.len() - rest.len();
     let name_len = info.name.len();
+    let name = next - 1 - name_len;
     RefactorPlaces {
         count: info.refactor_count,
         followed: info.next_refactor_info,
         name,
         name_len,
-        next: name + name_len + 1,
+        next,
     }
 }
 
@@ -81,22 +79,13 @@ pub(crate) fn attribute_numbered(
     ensures { result ≡ attribute_numbered own.entry all.entry number }
 {
     let mut rest = all;
-    let mut left = number;
-    while rest.count > 0 {
-        let Ok((attribute, next)) = attribute::first(rest.bytes) else {
-            break
-        };
-        if left == 0 {
-            return Ok(attribute_at(own.len() - rest.bytes.len(), attribute));
-        }
-        left -= 1;
-        rest.bytes = next;
-        rest.count -= 1;
+    match rest.nth(number) {
+        Some(attribute) => Ok(attribute_before(own, rest.bytes, attribute)),
+        None => Err(Refusal::NoSuchNumber {
+            count: all.count,
+            asked: number,
+        }),
     }
-    Err(Refusal::NoSuchNumber {
-        count: all.count,
-        asked: number,
-    })
 }
 
 // The first attribute with a name, of those at the end of an entry.
@@ -109,17 +98,10 @@ pub(crate) fn attribute_named(
     ensures { result ≡ attribute_named own.entry all.entry name.now }
 {
     let mut rest = all;
-    while rest.count > 0 {
-        let Ok((attribute, next)) = attribute::first(rest.bytes) else {
-            break
-        };
-        if attribute.name == name {
-            return Ok(attribute_at(own.len() - rest.bytes.len(), attribute));
-        }
-        rest.bytes = next;
-        rest.count -= 1;
+    match rest.find(|attribute| attribute.name == name) {
+        Some(attribute) => Ok(attribute_before(own, rest.bytes, attribute)),
+        None => Err(Refusal::NameNotFound),
     }
-    Err(Refusal::NameNotFound)
 }
 
 // The record with a number, counted from 0, of a chain at the end of an entry.
@@ -132,20 +114,11 @@ pub(crate) fn refactor_numbered(
     ensures { result ≡ refactor_numbered own.entry all.entry number }
 {
     let mut rest = all;
-    let mut left = number;
-    while rest.count > 0 {
-        let Ok((info, next)) = refactor::first(rest.bytes) else {
-            break
-        };
-        if left == 0 {
-            return Ok(refactor_at(own.len() - rest.bytes.len(), info));
-        }
-        left -= 1;
-        rest.bytes = next;
-        rest.count -= 1;
+    match rest.nth(number) {
+        Some(info) => Ok(refactor_before(own, rest.bytes, info)),
+        None => Err(Refusal::NoSuchNumber {
+            count: all.count,
+            asked: number,
+        }),
     }
-    Err(Refusal::NoSuchNumber {
-        count: all.count,
-        asked: number,
-    })
 }

@@ -1,12 +1,11 @@
 -- Where records lie, what a chain has, and what an answer to a number means: proved.
-use Rattle.std.proofs.Common.{◌≡◌, ℕ, zero, suc, ◌+◌, ◌≤◌, Bool, true, false, List, [], ◌∷◌, ◌++◌, length, Ok, Err, Result, refl, sym, ap, ap₂, ◌∙◌, subst, arith, length-drop, Bor}
-use Rattle.std.specs.Prelude.{slice_get, ok_or, ltb, Option, Some}
+use Rattle.std.proofs.Common.{◌≡◌, ℕ, zero, suc, ◌+◌, ◌≤◌, Bool, true, false, List, [], ◌∷◌, ◌++◌, length, Ok, Err, Result, refl, sym, ap, ◌∙◌, subst, arith, length-drop, Bor}
+use Rattle.std.specs.Prelude.{ltb}
 use Rattle.std.specs.List.{All}
-use Rattle.std.proofs.lemmas.Option.{slice_get_past}
 use borrow.Author.Tests.{lt-ltb}
 use Rattle.part.specs.Slice.{after}
 use Rattle.refusal.specs.declared.Refusal.{Refusal}
-use Rattle.refusal.specs.declared.Refusal.TheVariants.{NoSuchNumber}
+use Rattle.refusal.proofs.ByNumber.{numbers_meant}
 use Rattle.refactor.specs.declared.AdsRefactorInfo.{AdsRefactorInfo}
 use Rattle.refactor.specs.Refactor.{first_of, listed, chained}
 use Rattle.refactor.specs.Inside.{IsInside, RefactorsInside, IsChain, ChainsCounted, RefactorsShown}
@@ -125,13 +124,5 @@ chains_counted s count rest h =
     let e : r.count ≡ count = let i = r.is in omega arith in
     subst (λ x. IsChain s x rest) e r.chain
 
-at_number : (before behind : List AdsRefactorInfo) (r : AdsRefactorInfo) → slice_get (before ++ (r ∷ behind)) (length before) ≡ Some r
-at_number [] behind r = refl
-at_number (x ∷ before) behind r = at_number before behind r
-
 pub refactors_shown : RefactorsShown
-refactors_shown all number = record {
-  shown = λ before behind r e l. ap₂ (λ (x : List AdsRefactorInfo) (n : ℕ). ok_or (slice_get x n) (NoSuchNumber (length all) number)) e (sym l)
-      ∙ ap (λ (x : Option AdsRefactorInfo). ok_or x (NoSuchNumber (length all) number)) (at_number before behind r);
-  past = λ h. ap (λ (x : Option AdsRefactorInfo). ok_or x (NoSuchNumber (length all) number)) (slice_get_past all number h);
-}
+refactors_shown all number = numbers_meant all number

@@ -1,10 +1,9 @@
 -- docs/FORMAT.md, "Refactor records": where the records that are listed lie, what a chain has, and what an answer to a number means.
-use Rattle.std.specs.Prelude.{ℕ, ◌+◌, ◌<◌, ◌≤◌, ◌≡◌, List, ◌∷◌, ◌++◌, Result, Ok, Err, ltb, length}
+use Rattle.std.specs.Prelude.{ℕ, ◌+◌, ◌<◌, ◌≤◌, ◌≡◌, List, ◌∷◌, ◌++◌, Ok, ltb, length}
 use Rattle.std.specs.List.{All}
 use Rattle.std.specs.Borrow.{Bor}
 use Rattle.part.specs.Slice.{part, after}
-use Rattle.refusal.specs.declared.Refusal.{Refusal}
-use Rattle.refusal.specs.declared.Refusal.TheVariants.{NoSuchNumber}
+use Rattle.refusal.specs.ByNumber.{IsNumbered}
 use Rattle.refactor.specs.declared.AdsRefactorInfo.{AdsRefactorInfo}
 use Rattle.refactor.specs.Refactor.{listed, chain_of, numbered}
 
@@ -31,10 +30,6 @@ pub record IsChain (s : Bor (List ℕ)) (count : ℕ) (rest : Bor (List ℕ)) : 
 abbrev pub ChainsCounted : Type 0
 ChainsCounted = (s : Bor (List ℕ)) (count : ℕ) (rest : Bor (List ℕ)) → chain_of s ≡ Ok (count, rest) → IsChain s count rest
 
--- by number: the record before which so many stand; past the last 14, with how many there are and the number
-pub record IsNumbered (all : List AdsRefactorInfo) (number : ℕ) (answer : Result AdsRefactorInfo Refusal) : Type 0 where
-  pub shown : (before behind : List AdsRefactorInfo) (r : AdsRefactorInfo) → all ≡ before ++ (r ∷ behind) → length before ≡ number → answer ≡ Ok r
-  pub past : length all ≤ number → answer ≡ Err (NoSuchNumber (length all) number)
-
+-- by number
 abbrev pub RefactorsShown : Type 0
 RefactorsShown = (all : List AdsRefactorInfo) (number : ℕ) → IsNumbered all number (numbered all (length all) number)

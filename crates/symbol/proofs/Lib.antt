@@ -4,7 +4,6 @@ pub mod Tails
 pub mod Lies
 pub mod Ends
 pub mod Modes
-pub mod Shown
 pub mod Sizes
 pub mod Sections
 pub mod Accepted

@@ -109,7 +109,6 @@ module _ (e s : Bor (List ℕ)) (a : IsEnd e s) (there : refactors.n_of s + 7 �
 -- a chain: its records, and the bytes after it
 record ChainLies (e s : Bor (List ℕ)) (count : ℕ) (q : ℕ × Bor (List ℕ)) : Type 0 where
   more : count < q.0
-  long : length (refactor.listed s (q.0 - count)) ≡ q.0 - count
   lie : RefactorsLie e (rest_at e s) (refactor.listed s (q.0 - count)) (rest_at e q.1)
   tail : IsEnd e q.1
 
@@ -125,10 +124,8 @@ chain_more : (e s : Bor (List ℕ)) (count : ℕ) (q : ℕ × Bor (List ℕ)) �
 chain_more e s count q a t c =
     let n : q.0 - count ≡ suc (q.0 - (count + 1)) = omega (arith, c.more) in
     let next = subst (λ k. RefactorsLie e k (refactor.listed (refactors.here s).1 (q.0 - (count + 1))) (rest_at e q.1)) (refactor_next e s a t) c.lie in
-    let l : length (refactor.listed s (suc (q.0 - (count + 1)))) ≡ suc (q.0 - (count + 1)) = rw (listed_here s (q.0 - (count + 1)) t) (ap suc c.long) in
     record {
       more = omega (arith, c.more);
-      long = ap (λ (k : ℕ). length (refactor.listed s k)) n ∙ l ∙ sym n;
       lie = rw (n, listed_here s (q.0 - (count + 1)) t) (refactor_name e s a t, next);
       tail = c.tail;
     }
@@ -137,10 +134,8 @@ chain_last : (e s : Bor (List ℕ)) (count : ℕ) → IsEnd e s → refactors.n_
 chain_last e s count a t =
     let n : count + 1 - count ≡ suc 0 = omega arith in
     let next : RefactorsLie e (rest_at e s + 6 + length (refactors.here s).0.name.now + 1) (refactor.listed (refactors.here s).1 0) (rest_at e (refactors.here s).1) = rw (none_listed (refactors.here s).1) (sym (refactor_next e s a t)) in
-    let l : length (refactor.listed s (suc 0)) ≡ suc 0 = rw (listed_here s 0 t) (ap suc (ap length (none_listed (refactors.here s).1))) in
     record {
       more = omega arith;
-      long = ap (λ (k : ℕ). length (refactor.listed s k)) n ∙ l ∙ sym n;
       lie = rw (n, listed_here s 0 t) (refactor_name e s a t, next);
       tail = refactor_rest e s a t;
     }
@@ -243,12 +238,11 @@ attributes_section e s true a = by_room (leb 2 (length s.now)) refl
 
 record ChainSection (e s : Bor (List ℕ)) (q : RefactorInfos × Bor (List ℕ)) : Type 0 where
   from : q.0.bytes ≡ s
-  long : length (refactor.listed q.0.bytes q.0.count) ≡ q.0.count
   lie : RefactorsLie e (rest_at e s) (refactor.listed q.0.bytes q.0.count) (rest_at e q.1)
   tail : IsEnd e q.1
 
 no_chain : (e s : Bor (List ℕ)) → IsEnd e s → ChainSection e s (record { bytes = s; count = 0 }, s)
-no_chain e s a = record { from = refl; long = ap length (none_listed s); lie = rw (none_listed s) refl; tail = a }
+no_chain e s a = record { from = refl; lie = rw (none_listed s) refl; tail = a }
 
 chain_section : (e s : Bor (List ℕ)) (b : Bool) → IsEnd e s → ChainSection e s (refactor_infos_of s b)
 unfolding refactor_infos_of
@@ -260,7 +254,7 @@ chain_section e s true a = by_chain (refactor.chain_of s) refl
     by_chain (Ok p) h =
         let c = chain_lies e s 0 (length s.now) p a h in
         let n : p.0 - 0 ≡ p.0 = omega arith in
-        record { from = refl; long = subst (λ (k : ℕ). length (refactor.listed s k) ≡ k) n c.long; lie = subst (λ k. RefactorsLie e (rest_at e s) (refactor.listed s k) (rest_at e p.1)) n c.lie; tail = c.tail }
+        record { from = refl; lie = subst (λ k. RefactorsLie e (rest_at e s) (refactor.listed s k) (rest_at e p.1)) n c.lie; tail = c.tail }
     by_chain (Err why) h = no_chain e s a
 
 string_of : (e : Bor (List ℕ)) (at n : ℕ) → at + n < length e.now → IsString e at (part e at n)
@@ -335,16 +329,3 @@ inside e n t k h name_is type_is comment_is =
 pub symbols_inside : SymbolsInside
 symbols_inside mode e r h =
     subst (IsInside e) (accepted_is mode e r h) (inside e (le2 e.now 24) (le2 e.now 26) (le2 e.now 28) (accepted_room mode e r h) refl refl refl)
-
--- a chain has as many records as it counts
-with_counted : (e : Bor (List ℕ)) (n t k : ℕ) → length (refactor.listed (with_strings e n t k).refactor_infos.bytes (with_strings e n t k).refactor_infos.count) ≡ (with_strings e n t k).refactor_infos.count
-unfolding with_strings
-with_counted e n t k =
-    let g = guid_of (after e (33 + n + t + k)) (has (le2 e.now 20) type_guid_flag) in
-    let a = attributes_of g.1 (has (le2 e.now 20) attributes_flag) in
-    let x = extended_of a.1 (has (le2 e.now 20) extended_flags_flag) in
-    (chain_section x.1 x.1 (has (extended_word x.0) refactor_info_flag) (end_self x.1)).long
-
-pub chain_counted : (mode : Mode) (e : Bor (List ℕ)) (r : AdsSymbolInfo) → symbol_of mode e ≡ Ok r → length (refactor.listed r.refactor_infos.bytes r.refactor_infos.count) ≡ r.refactor_infos.count
-chain_counted mode e r h =
-    subst (λ (x : AdsSymbolInfo). length (refactor.listed x.refactor_infos.bytes x.refactor_infos.count) ≡ x.refactor_infos.count) (accepted_is mode e r h) (with_counted e (le2 e.now 24) (le2 e.now 26) (le2 e.now 28))

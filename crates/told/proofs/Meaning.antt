@@ -1,8 +1,7 @@
 -- What the slots of a symbol and of a field say of the bytes of its entry.
-use Rattle.std.proofs.Common.{ℕ, ◌+◌, ◌-◌, ◌<◌, ◌≤◌, ◌≡◌, refl, sym, ap, ◌∙◌, subst, List, length, drop, Ok, arith, Bor, length-drop}
+use Rattle.std.proofs.Common.{ℕ, ◌+◌, ◌-◌, ◌≤◌, ◌≡◌, refl, sym, ap, ◌∙◌, subst, List, [], ◌++◌, length, drop, Ok, arith, Bor, length-drop}
 use Rattle.std.specs.Prelude.{Option, Some, None, is_some, get_or}
 use lib.Seq.{length-take-le}
-use borrow.Author.Tests.{lt-ltb}
 use Rattle.le.specs.Le.{le2, le4}
 use Rattle.part.specs.Slice.{part, after}
 use Rattle.refusal.specs.declared.Mode.{Mode}
@@ -15,13 +14,7 @@ use Rattle.field.specs.declared.AdsFieldInfo.{AdsFieldInfo}
 use Rattle.field.specs.Front.{with_strings as front_with_strings, front_of}
 use Rattle.field.specs.Field.{field_of}
 use Rattle.field.specs.Within.{IsWithin}
-use Rattle.part.specs.End.{rest_at}
 use Rattle.field.proofs.Within.{fields_within, list_place}
-use Rattle.places.specs.declared.of_field.PlacedField.{PlacedField}
-use Rattle.field.specs.Placed.{attributes_from}
-use Rattle.places.specs.Field.{placed, placed_of}
-use Rattle.places.specs.FieldKind.{read_of}
-use Rattle.places.proofs.Fields.{placed_is}
 use Rattle.told.specs.Slots.{bit, guid_bytes, symbol_slots, field_slots}
 use Rattle.told.specs.Meaning.{GuidTold, ExtendedTold, SymbolsTold, FieldTold, FieldsTold}
 
@@ -165,19 +158,18 @@ module _ (mode : Mode) (e : Bor (List ℕ)) (r : AdsFieldInfo) (h : field_of mod
         comment = ap (λ (t : Bor (List ℕ)). length t.now) s.2 ∙ part_long e (44 + le2 e.now 32 + le2 e.now 34) (le2 e.now 36) (omega arith);
       }
 
-  -- the list begins at the place that is told, if it has a byte
-  pub list_told : 0 < length r.attributes.bytes.now → after e (attributes_from e.now) ≡ r.attributes.bytes
-  list_told some =
+  -- the list lies where so many bytes are left as it has
+  list_told : after e (length e.now - length r.attributes.bytes.now) ≡ r.attributes.bytes
+  list_told =
       let l = list_place mode e r h in
-      let at : attributes_from e.now ≡ rest_at e r.attributes.bytes =
-      sym (placed_is mode e r h) ∙ simp (lt-ltb 0 (length r.attributes.bytes.now) some) (omega (arith, l.within, some)) in
+      let long : length r.attributes.bytes.now ≡ length e.now - l.at = ap (λ (s : Bor (List ℕ)). length s.now) l.is ∙ length-drop l.at e.now in
+      let at : length e.now - length r.attributes.bytes.now ≡ l.at = omega (arith, l.fits) in
       ap (after e) at ∙ sym l.is
 
--- of a field with its place
-pub field_told : (mode : Mode) (e : Bor (List ℕ)) (r : AdsFieldInfo) → field_of mode e ≡ Ok r
-    → FieldTold e r (λ k. get_or (field_slots (placed e r)) k 0) (guid_bytes r.guid)
+-- whatever slots follow those of a field
+pub field_told : (more : List ℕ) (mode : Mode) (e : Bor (List ℕ)) (r : AdsFieldInfo) → field_of mode e ≡ Ok r → FieldTold e r (λ k. get_or (field_slots r ++ more) k 0) (guid_bytes r.guid)
 unfolding field_slots
-field_told mode e r h =
+field_told more mode e r h =
     let n = field_numbers mode e r h in
     let w : IsWithin e r = fields_within mode e r h in
     record {
@@ -196,15 +188,10 @@ field_told mode e r h =
       type_name_len = n.type_name;
       comment_len = n.comment;
       guid_told = guid_told r.guid;
-      attributes_at = refl;
-      attributes = list_told mode e r h;
+      attributes = ap (λ (l : ℕ). after e (l - length r.attributes.bytes.now)) w.long ∙ list_told mode e r h;
       attribute_count = refl;
     }
 
-placed_by : (mode : Mode) (e : Bor (List ℕ)) (p : PlacedField) → placed_of mode e ≡ Ok p → placed e p.field ≡ p
-unfolding placed_of
-placed_by mode e p h = grind arith
-
 pub fields_told : FieldsTold
-fields_told mode e p h =
-    subst (λ (q : PlacedField). FieldTold e p.field (λ k. get_or (field_slots q) k 0) (guid_bytes p.field.guid)) (placed_by mode e p h) (field_told mode e p.field (read_of mode e p h))
+unfolding field_slots
+fields_told mode e r h = field_told [] mode e r h

@@ -1,6 +1,9 @@
 pub mod Told
 pub mod Slots
+pub mod Asked
+pub mod TypeSlots
 pub mod Shown
 pub mod Lent
 pub mod One
 pub mod Meaning
+pub mod TypeMeaning

@@ -16,11 +16,9 @@ use Rattle.flags.specs.declared.symbol_flags.AdsSymbol2Flags.{AdsSymbol2Flags}
 use Rattle.symbol.specs.declared.AdsSymbolInfo.{AdsSymbolInfo}
 use Rattle.symbol.specs.Symbol.{symbol_of}
 use Rattle.field.specs.declared.AdsFieldInfo.{AdsFieldInfo}
-use Rattle.field.specs.Placed.{attributes_from}
+use Rattle.field.specs.Field.{field_of}
 use Rattle.places.specs.Alone.{chain_read}
 use Rattle.places.specs.Places.{attribute_places, refactor_places}
-use Rattle.places.specs.declared.of_field.PlacedField.{PlacedField}
-use Rattle.places.specs.Field.{placed_of}
 use Rattle.told.specs.Told.{numbers_told}
 use Rattle.told.specs.Slots.{symbol_slots, symbol_guid, field_slots, field_guid, attribute_slots, refactor_slots}
 
@@ -60,8 +58,7 @@ pub record SymbolTold (e : Bor (List ℕ)) (r : AdsSymbolInfo) (slot : ℕ → �
 abbrev pub SymbolsTold : Type 0
 SymbolsTold = (mode : Mode) (e : Bor (List ℕ)) (r : AdsSymbolInfo) → symbol_of mode e ≡ Ok r → SymbolTold e r (λ k. get_or (symbol_slots r) k 0) (symbol_guid r)
 
--- a field likewise. Its list lies from the place on where the headers and lengths before it lead; where it has no byte, and so no attribute, this may lie past the
--- entry
+-- a field likewise
 pub record FieldTold (e : Bor (List ℕ)) (r : AdsFieldInfo) (slot : ℕ → ℕ) (guid : List ℕ) : Type 0 where
   pub whole : slot 0 ≡ length e.now
   pub version : slot 1 ≡ le4 e.now 4
@@ -78,12 +75,11 @@ pub record FieldTold (e : Bor (List ℕ)) (r : AdsFieldInfo) (slot : ℕ → ℕ
   pub type_name_len : slot 11 ≡ le2 e.now 34
   pub comment_len : slot 13 ≡ le2 e.now 36
   pub guid_told : GuidTold r.guid (slot 14) guid
-  pub attributes_at : slot 15 ≡ attributes_from e.now
-  pub attributes : 0 < length r.attributes.bytes.now → after e (slot 15) ≡ r.attributes.bytes
+  pub attributes : after e (slot 15) ≡ r.attributes.bytes
   pub attribute_count : slot 16 ≡ r.attributes.count
 
 abbrev pub FieldsTold : Type 0
-FieldsTold = (mode : Mode) (e : Bor (List ℕ)) (p : PlacedField) → placed_of mode e ≡ Ok p → FieldTold e p.field (λ k. get_or (field_slots p) k 0) (field_guid p)
+FieldsTold = (mode : Mode) (e : Bor (List ℕ)) (r : AdsFieldInfo) → field_of mode e ≡ Ok r → FieldTold e r (λ k. get_or (field_slots r) k 0) (field_guid r)
 
 -- an attribute: it is the one that stands 2 bytes before its name, and what follows it goes on at the last place
 pub record AttributeTold (e : Bor (List ℕ)) (a : AdsAttribute) (slot : ℕ → ℕ) : Type 0 where

@@ -1,10 +1,10 @@
 -- docs/FORMAT.md, "Symbol entries", "Field entries", "Attributes" and "Refactor records": what the slots of a record hold, in order, and what lent slots and GUID bytes hold after a call: as they were unless there is a record.
 use Rattle.std.specs.Prelude.{ℕ, ◌+◌, ◌-◌, Bool, cond, List, [], ◌∷◌, length, Option, Some, None, Result, Ok, Err, is_some}
+use Rattle.std.specs.Borrow.{Bor}
 use Rattle.refusal.specs.declared.Refusal.{Refusal}
 use Rattle.symbol.specs.declared.AdsSymbolInfo.{AdsSymbolInfo}
 use Rattle.symbol.specs.Symbol.{extended_word}
 use Rattle.field.specs.declared.AdsFieldInfo.{AdsFieldInfo}
-use Rattle.places.specs.declared.of_field.PlacedField.{PlacedField}
 use Rattle.places.specs.declared.AttributePlaces.{AttributePlaces}
 use Rattle.places.specs.declared.RefactorPlaces.{RefactorPlaces}
 
@@ -13,15 +13,19 @@ abbrev pub bit : Bool → ℕ
 bit b = cond b 1 0
 
 -- lent slots that held `old`, after a call that finds a record whose slots are these; and after a step
-abbrev pub slots_after : {A : Type 0} → (A → List ℕ) → Result A Refusal → List ℕ → List ℕ
+abbrev pub slots_after : {A B : Type 0} → (A → B) → Result A Refusal → B → B
 slots_after slots (Ok r) old = slots r
 slots_after slots (Err why) old = old
 
-abbrev pub step_after : {A : Type 0} → (A → List ℕ) → Option (Result A Refusal) → List ℕ → List ℕ
+abbrev pub step_after : {A B : Type 0} → (A → B) → Option (Result A Refusal) → B → B
 step_after slots None old = old
 step_after slots (Some found) old = slots_after slots found old
 
--- the strings' places go from the header on, each with its end byte; those of the lists are counted from what they have left of the entry (symbol, IsInside)
+-- where a list begins that reaches to the end of an entry of so many bytes
+abbrev pub list_at : ℕ → Bor (List ℕ) → ℕ
+list_at entry list = entry - length list.now
+
+-- the strings' places go from the header on, each with its end byte
 unfoldable pub symbol_slots : AdsSymbolInfo → List ℕ
 symbol_slots r =
     r.length
@@ -38,11 +42,11 @@ symbol_slots r =
     ∷ (32 + length r.name.now + length r.type_name.now)
     ∷ length r.comment.now
     ∷ bit (is_some r.guid)
-    ∷ (r.length - length r.attributes.bytes.now)
+    ∷ list_at r.length r.attributes.bytes
     ∷ r.attributes.count
     ∷ bit (is_some r.extended_flags)
     ∷ extended_word r.extended_flags
-    ∷ (r.length - length r.refactor_infos.bytes.now)
+    ∷ list_at r.length r.refactor_infos.bytes
     ∷ r.refactor_infos.count
     ∷ length r.unread.now
     ∷ []
@@ -55,10 +59,9 @@ guid_bytes (Some bytes) = bytes
 abbrev pub symbol_guid : AdsSymbolInfo → List ℕ
 symbol_guid r = guid_bytes r.guid
 
--- likewise; the attributes' place may lie past the entry's end, where none is shown
-unfoldable pub field_slots : PlacedField → List ℕ
-field_slots p =
-    let r : AdsFieldInfo = p.field in
+-- likewise
+unfoldable pub field_slots : AdsFieldInfo → List ℕ
+field_slots r =
     r.length
     ∷ r.version
     ∷ r.hash_value
@@ -74,12 +77,12 @@ field_slots p =
     ∷ (44 + length r.name.now + length r.type_name.now)
     ∷ length r.comment.now
     ∷ bit (is_some r.guid)
-    ∷ p.attributes_at
+    ∷ list_at r.length r.attributes.bytes
     ∷ r.attributes.count
     ∷ []
 
-abbrev pub field_guid : PlacedField → List ℕ
-field_guid p = guid_bytes p.field.guid
+abbrev pub field_guid : AdsFieldInfo → List ℕ
+field_guid r = guid_bytes r.guid
 
 abbrev pub attribute_slots : AttributePlaces → List ℕ
 attribute_slots a = a.name ∷ a.name_len ∷ a.value ∷ a.value_len ∷ a.next ∷ []

@@ -2,8 +2,10 @@
 #![tactic(auto)]
 
 pub mod fields;
+pub mod records;
 pub mod symbols;
 pub mod theorems;
+pub mod types;
 
 ghost use Rattle.std.specs.Prelude.{◌≡◌};
 ghost use Rattle.refusal.specs.Refusal.{numbered, figures_of};

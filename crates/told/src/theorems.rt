@@ -2,6 +2,7 @@
 ghost use Rattle.told.specs.One.{OneTelling, OneWriting, OneWritingBoth};
 ghost use Rattle.told.specs.Lent.{LentKept};
 ghost use Rattle.told.specs.Meaning.{SymbolsTold, FieldsTold, AttributesTold, RefactorsTold, ChainsTold};
+ghost use Rattle.told.specs.TypeMeaning.{TypesTold, ArraysTold, MembersTold};
 
 /// Two statuses and two answers that one promise allows are equal.
 pub fn one_telling()
@@ -46,4 +47,19 @@ pub fn refactors_told()
 /// Of a chain the two numbers are how many records it has, and the place after them.
 pub fn chains_told()
     ensures { ChainsTold }
+{}
+
+/// And of a data type.
+pub fn types_told()
+    ensures { TypesTold }
+{}
+
+/// The slots of an array record are the two numbers that stand at its place.
+pub fn arrays_told()
+    ensures { ArraysTold }
+{}
+
+/// The member with a number is told, as a data type that begins at the last place of its path; past the members 14.
+pub fn members_told()
+    ensures { MembersTold }
 {}

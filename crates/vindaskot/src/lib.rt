@@ -15,6 +15,7 @@ ghost use Rattle.walk.specs.Mapped.{map_ok};
 ghost use Rattle.walk.specs.Step.{parse_of, step_at};
 ghost use Rattle.symbol.specs.Symbol.{symbol_of};
 ghost use Rattle.symbol.specs.Writing.{symbol_written};
+ghost use Rattle.field.specs.Field.{field_of};
 ghost use Rattle.field.specs.Writing.{field_written};
 ghost use Rattle.index.specs.Index.{indexing};
 ghost use Rattle.symbol_find.specs.Find.{find, find_indexed};
@@ -22,8 +23,7 @@ ghost use Rattle.room.specs.Room.{room_for};
 ghost use Rattle.salvage.specs.Salvage.{salvaging};
 ghost use Rattle.text.specs.Text.{decoding, encoding};
 ghost use Rattle.places.specs.Alone.{attribute_alone, refactor_alone, chain_read, chain_record};
-ghost use Rattle.places.specs.Field.{placed_of, field_attribute, field_attribute_named};
-ghost use Rattle.places.specs.Symbol.{symbol_attribute, symbol_attribute_named, symbol_refactor_info};
+ghost use Rattle.places.specs.Entry.{symbol_attribute, symbol_attribute_named, symbol_refactor_info, field_attribute, field_attribute_named};
 ghost use Rattle.told.specs.Told.{Tells, WritesTold, WritesBothTold, number_told, numbers_told, record_told, step_told, end_told};
 ghost use Rattle.told.specs.Slots.{slots_after, step_after, symbol_slots, symbol_guid, field_slots, field_guid, attribute_slots, refactor_slots};
 ghost use Rattle.vindaskot.specs.Lent.{lent_guid, new_symbol, new_field};
@@ -124,7 +124,7 @@ pub extern "C" fn vindaskot_symbol_refactor_info(
     ensures slots_after { slots.new ≡ slots_after refactor_slots (symbol_refactor_info Present bytes.entry number) slots.old }
 {
     told::refactor(
-        places::of_symbol::symbol_refactor_info(bytes, Mode::Present, number),
+        places::of_entry::symbol_refactor_info(bytes, Mode::Present, number),
         slots,
         answer,
     )
@@ -137,11 +137,11 @@ pub extern "C" fn vindaskot_field_read(
     guid: &mut [u8; 16],
     answer: &mut [u64; 2],
 ) -> u32
-    ensures tells { Tells (record_told (parse_of 42 (placed_of Present) bytes.entry)) result answer.new }
-    ensures slots_after { slots.new ≡ slots_after field_slots (parse_of 42 (placed_of Present) bytes.entry) slots.old }
-    ensures guid_after { guid.new ≡ slots_after field_guid (parse_of 42 (placed_of Present) bytes.entry) guid.old }
+    ensures tells { Tells (record_told (parse_of 42 (field_of Present) bytes.entry)) result answer.new }
+    ensures slots_after { slots.new ≡ slots_after field_slots (parse_of 42 (field_of Present) bytes.entry) slots.old }
+    ensures guid_after { guid.new ≡ slots_after field_guid (parse_of 42 (field_of Present) bytes.entry) guid.old }
 {
-    told::fields::read(bytes, Mode::Present, slots, guid, answer)
+    told::records::read::<AdsFieldInfo>(bytes, Mode::Present, slots, guid, answer)
 }
 
 #[unsafe(no_mangle)]
@@ -152,12 +152,12 @@ pub extern "C" fn vindaskot_field_step(
     guid: &mut [u8; 16],
     answer: &mut [u64; 2],
 ) -> u32
-    ensures tells { Tells (step_told (step_at (placed_of Present) bytes.entry cursor.old).answer) result answer.new }
-    ensures cursor_after { cursor.new ≡ (step_at (placed_of Present) bytes.entry cursor.old).cursor.at }
-    ensures slots_after { slots.new ≡ step_after field_slots (step_at (placed_of Present) bytes.entry cursor.old).answer slots.old }
-    ensures guid_after { guid.new ≡ step_after field_guid (step_at (placed_of Present) bytes.entry cursor.old).answer guid.old }
+    ensures tells { Tells (step_told (step_at (field_of Present) bytes.entry cursor.old).answer) result answer.new }
+    ensures cursor_after { cursor.new ≡ (step_at (field_of Present) bytes.entry cursor.old).cursor.at }
+    ensures slots_after { slots.new ≡ step_after field_slots (step_at (field_of Present) bytes.entry cursor.old).answer slots.old }
+    ensures guid_after { guid.new ≡ step_after field_guid (step_at (field_of Present) bytes.entry cursor.old).answer guid.old }
 {
-    told::fields::step(bytes, Mode::Present, cursor, slots, guid, answer)
+    told::records::step::<AdsFieldInfo>(bytes, Mode::Present, cursor, slots, guid, answer)
 }
 
 #[unsafe(no_mangle)]

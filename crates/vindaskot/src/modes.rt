@@ -3,12 +3,12 @@
 ghost use Rattle.std.specs.Prelude.{◌≡◌};
 ghost use Rattle.walk.specs.Step.{parse_of, step_at};
 ghost use Rattle.symbol.specs.Symbol.{symbol_of};
+ghost use Rattle.field.specs.Field.{field_of};
 ghost use Rattle.index.specs.Index.{indexing};
 ghost use Rattle.symbol_find.specs.Find.{find, find_indexed};
 ghost use Rattle.salvage.specs.Salvage.{salvaging};
 ghost use Rattle.places.specs.Alone.{attribute_alone, refactor_alone, chain_read, chain_record};
-ghost use Rattle.places.specs.Field.{placed_of, field_attribute, field_attribute_named};
-ghost use Rattle.places.specs.Symbol.{symbol_attribute, symbol_attribute_named, symbol_refactor_info};
+ghost use Rattle.places.specs.Entry.{symbol_attribute, symbol_attribute_named, symbol_refactor_info, field_attribute, field_attribute_named};
 ghost use Rattle.told.specs.Told.{Tells, WritesTold, WritesBothTold, mode_of, number_told, numbers_told, record_told, step_told};
 ghost use Rattle.told.specs.Slots.{slots_after, step_after, symbol_slots, symbol_guid, field_slots, field_guid, attribute_slots, refactor_slots};
 
@@ -28,7 +28,7 @@ pub extern "C" fn vindaskot_symbol_read_in(
     ensures slots_after { slots.new ≡ slots_after symbol_slots (parse_of 30 (symbol_of (mode_of checked)) bytes.entry) slots.old }
     ensures guid_after { guid.new ≡ slots_after symbol_guid (parse_of 30 (symbol_of (mode_of checked)) bytes.entry) guid.old }
 {
-    told::symbols::read(bytes, mode(checked), slots, guid, answer)
+    told::records::read::<AdsSymbolInfo>(bytes, mode(checked), slots, guid, answer)
 }
 
 #[unsafe(no_mangle)]
@@ -45,7 +45,7 @@ pub extern "C" fn vindaskot_symbol_step_in(
     ensures slots_after { slots.new ≡ step_after symbol_slots (step_at (symbol_of (mode_of checked)) bytes.entry cursor.old).answer slots.old }
     ensures guid_after { guid.new ≡ step_after symbol_guid (step_at (symbol_of (mode_of checked)) bytes.entry cursor.old).answer guid.old }
 {
-    told::symbols::step(bytes, mode(checked), cursor, slots, guid, answer)
+    told::records::step::<AdsSymbolInfo>(bytes, mode(checked), cursor, slots, guid, answer)
 }
 
 #[unsafe(no_mangle)]
@@ -96,7 +96,7 @@ pub extern "C" fn vindaskot_symbol_refactor_info_in(
     ensures slots_after { slots.new ≡ slots_after refactor_slots (symbol_refactor_info (mode_of checked) bytes.entry number) slots.old }
 {
     told::refactor(
-        places::of_symbol::symbol_refactor_info(bytes, mode(checked), number),
+        places::of_entry::symbol_refactor_info(bytes, mode(checked), number),
         slots,
         answer,
     )
@@ -110,11 +110,11 @@ pub extern "C" fn vindaskot_field_read_in(
     guid: &mut [u8; 16],
     answer: &mut [u64; 2],
 ) -> u32
-    ensures tells { Tells (record_told (parse_of 42 (placed_of (mode_of checked)) bytes.entry)) result answer.new }
-    ensures slots_after { slots.new ≡ slots_after field_slots (parse_of 42 (placed_of (mode_of checked)) bytes.entry) slots.old }
-    ensures guid_after { guid.new ≡ slots_after field_guid (parse_of 42 (placed_of (mode_of checked)) bytes.entry) guid.old }
+    ensures tells { Tells (record_told (parse_of 42 (field_of (mode_of checked)) bytes.entry)) result answer.new }
+    ensures slots_after { slots.new ≡ slots_after field_slots (parse_of 42 (field_of (mode_of checked)) bytes.entry) slots.old }
+    ensures guid_after { guid.new ≡ slots_after field_guid (parse_of 42 (field_of (mode_of checked)) bytes.entry) guid.old }
 {
-    told::fields::read(bytes, mode(checked), slots, guid, answer)
+    told::records::read::<AdsFieldInfo>(bytes, mode(checked), slots, guid, answer)
 }
 
 #[unsafe(no_mangle)]
@@ -126,12 +126,12 @@ pub extern "C" fn vindaskot_field_step_in(
     guid: &mut [u8; 16],
     answer: &mut [u64; 2],
 ) -> u32
-    ensures tells { Tells (step_told (step_at (placed_of (mode_of checked)) bytes.entry cursor.old).answer) result answer.new }
-    ensures cursor_after { cursor.new ≡ (step_at (placed_of (mode_of checked)) bytes.entry cursor.old).cursor.at }
-    ensures slots_after { slots.new ≡ step_after field_slots (step_at (placed_of (mode_of checked)) bytes.entry cursor.old).answer slots.old }
-    ensures guid_after { guid.new ≡ step_after field_guid (step_at (placed_of (mode_of checked)) bytes.entry cursor.old).answer guid.old }
+    ensures tells { Tells (step_told (step_at (field_of (mode_of checked)) bytes.entry cursor.old).answer) result answer.new }
+    ensures cursor_after { cursor.new ≡ (step_at (field_of (mode_of checked)) bytes.entry cursor.old).cursor.at }
+    ensures slots_after { slots.new ≡ step_after field_slots (step_at (field_of (mode_of checked)) bytes.entry cursor.old).answer slots.old }
+    ensures guid_after { guid.new ≡ step_after field_guid (step_at (field_of (mode_of checked)) bytes.entry cursor.old).answer guid.old }
 {
-    told::fields::step(bytes, mode(checked), cursor, slots, guid, answer)
+    told::records::step::<AdsFieldInfo>(bytes, mode(checked), cursor, slots, guid, answer)
 }
 
 #[unsafe(no_mangle)]

@@ -1,12 +1,13 @@
 // The calls about whole data types. Each takes the mode: there is none that leaves it out.
 ghost use Rattle.std.specs.Prelude.{◌≡◌};
 ghost use Rattle.walk.specs.Step.{parse_of, step_at};
+ghost use Rattle.data_type.specs.DataType.{type_of};
 ghost use Rattle.data_type.specs.List.{members_written};
-ghost use Rattle.places.specs.DataTypes.{placed_of, type_attribute, type_attribute_named};
+ghost use Rattle.places.specs.Entry.{type_attribute, type_attribute_named};
 ghost use Rattle.told.specs.Told.{Tells, WritesTold, mode_of, record_told, step_told};
 ghost use Rattle.told.specs.Slots.{slots_after, step_after, attribute_slots};
-ghost use Rattle.told_type.specs.Asked.{type_array, type_member};
-ghost use Rattle.told_type.specs.Slots.{type_slots, type_guid, array_slots, member_slots, member_guid, path_slots};
+ghost use Rattle.told.specs.Asked.{type_array, type_member};
+ghost use Rattle.told.specs.TypeSlots.{type_slots, type_guid, array_slots, member_slots, member_guid, path_slots};
 
 use data_type::AdsDataTypeInfo;
 use told::mode;
@@ -19,11 +20,11 @@ pub extern "C" fn vindaskot_type_read_in(
     guid: &mut [u8; 16],
     answer: &mut [u64; 2],
 ) -> u32
-    ensures tells { Tells (record_told (parse_of 42 (placed_of (mode_of checked)) bytes.entry)) result answer.new }
-    ensures slots_after { slots.new ≡ slots_after type_slots (parse_of 42 (placed_of (mode_of checked)) bytes.entry) slots.old }
-    ensures guid_after { guid.new ≡ slots_after type_guid (parse_of 42 (placed_of (mode_of checked)) bytes.entry) guid.old }
+    ensures tells { Tells (record_told (parse_of 42 (type_of (mode_of checked)) bytes.entry)) result answer.new }
+    ensures slots_after { slots.new ≡ slots_after type_slots (parse_of 42 (type_of (mode_of checked)) bytes.entry) slots.old }
+    ensures guid_after { guid.new ≡ slots_after type_guid (parse_of 42 (type_of (mode_of checked)) bytes.entry) guid.old }
 {
-    told_type::read(bytes, mode(checked), slots, guid, answer)
+    told::records::read::<AdsDataTypeInfo>(bytes, mode(checked), slots, guid, answer)
 }
 
 #[unsafe(no_mangle)]
@@ -35,12 +36,12 @@ pub extern "C" fn vindaskot_type_step_in(
     guid: &mut [u8; 16],
     answer: &mut [u64; 2],
 ) -> u32
-    ensures tells { Tells (step_told (step_at (placed_of (mode_of checked)) bytes.entry cursor.old).answer) result answer.new }
-    ensures cursor_after { cursor.new ≡ (step_at (placed_of (mode_of checked)) bytes.entry cursor.old).cursor.at }
-    ensures slots_after { slots.new ≡ step_after type_slots (step_at (placed_of (mode_of checked)) bytes.entry cursor.old).answer slots.old }
-    ensures guid_after { guid.new ≡ step_after type_guid (step_at (placed_of (mode_of checked)) bytes.entry cursor.old).answer guid.old }
+    ensures tells { Tells (step_told (step_at (type_of (mode_of checked)) bytes.entry cursor.old).answer) result answer.new }
+    ensures cursor_after { cursor.new ≡ (step_at (type_of (mode_of checked)) bytes.entry cursor.old).cursor.at }
+    ensures slots_after { slots.new ≡ step_after type_slots (step_at (type_of (mode_of checked)) bytes.entry cursor.old).answer slots.old }
+    ensures guid_after { guid.new ≡ step_after type_guid (step_at (type_of (mode_of checked)) bytes.entry cursor.old).answer guid.old }
 {
-    told_type::step(bytes, mode(checked), cursor, slots, guid, answer)
+    told::records::step::<AdsDataTypeInfo>(bytes, mode(checked), cursor, slots, guid, answer)
 }
 
 #[unsafe(no_mangle)]
@@ -54,7 +55,7 @@ pub extern "C" fn vindaskot_type_array_in(
     ensures tells { Tells (record_told (type_array (mode_of checked) bytes.entry number)) result answer.new }
     ensures slots_after { slots.new ≡ slots_after array_slots (type_array (mode_of checked) bytes.entry number) slots.old }
 {
-    told_type::array(bytes, mode(checked), number, slots, answer)
+    told::types::array(bytes, mode(checked), number, slots, answer)
 }
 
 #[unsafe(no_mangle)]
@@ -108,7 +109,7 @@ pub extern "C" fn vindaskot_type_member_in(
     ensures guid_after { guid.new ≡ slots_after member_guid (type_member (mode_of checked) bytes.entry number) guid.old }
     ensures path_after { path.new ≡ slots_after path_slots (type_member (mode_of checked) bytes.entry number) path.old }
 {
-    told_type::member(bytes, mode(checked), number, slots, guid, path, answer)
+    told::types::member(bytes, mode(checked), number, slots, guid, path, answer)
 }
 
 #[unsafe(no_mangle)]

@@ -1,29 +1,26 @@
-use Rattle.std.proofs.Common.{arith, sym, ◌∙◌, ap, Ok}
-use Rattle.places.proofs.Turn.{again, next_ends, name_found, name_goes_on, room_left, name_none, name_refused}
+use Rattle.std.proofs.Common.{◌≡◌, ap, ◌∙◌, rules, Ok}
+use borrow.Author.Tests.{tests}
+use Rattle.std.specs.Cmp.Lexicographic.{pointwise}
+use Rattle.std.specs.Prelude.{Option, Some, None, nat_eq, find, ok_or}
+use Rattle.std.proofs.lemmas.Iterator.Search.{find_from_yields_List}
+use Rattle.refusal.specs.declared.Refusal.TheVariants.{NameNotFound}
+use Rattle.attribute.specs.declared.AdsAttribute.{AdsAttribute}
+use Rattle.attribute.proofs.Left.{all_given}
+use Rattle.walk.specs.Mapped.{map_ok}
+use Rattle.places.specs.Places.{attribute_places}
+use Rattle.places.proofs.Attributes.{given_before}
 use Rattle.places.proofs.attribute_named.Goals as goal
 
-pub attribute_at-requires : goal.attribute_at-requires
-attribute_at-requires c =
-    let h = sym c.in-Ok.ensures in
-    let r = room_left c.loop-rest.rest.bytes (c.in-Ok.attribute, c.in-Ok.next) h c.args.own (again _ _ _ c.requires c.loop-rest.invariant.end) in
-    omega arith
+pub attribute_before-requires : goal.attribute_before-requires
+attribute_before-requires c = let r = c.in-Some.ensures.ran in given_before c.args.own c.args.all r.2.0 c.find.new.self r.0 c.in-Some.attribute c.requires r.2.1 r.2.2
 
-pub returns-in_default : goal.returns-in_default
-returns-in_default c = sym (name_refused c.args.own c.args.all c.loop-rest.rest.bytes c.loop-rest.rest.count c.args.name.now c.in_default.field-0 (sym c.in_default.ensures) c.loop-rest.invariant.same)
+pub returns-in-Some : goal.returns-in-Some
+returns-in-Some c =
+    ap Ok c.attribute_before.ensures
+    ∙ ap (λ (o : Option AdsAttribute). map_ok (attribute_places c.args.own) (ok_or o NameNotFound))
+    (find_from_yields_List (λ a. pointwise nat_eq a.name.now c.args.name.now) _ _ (Some c.in-Some.attribute) c.in-Some.ensures.ran (all_given c.args.all) (λ x b q k. search (rules, tests)))
 
-pub returns-after-loop-rest : goal.returns-after-loop-rest
-returns-after-loop-rest c = sym (name_none c.args.own c.args.all c.loop-rest.rest.bytes c.loop-rest.rest.count c.args.name.now (omega arith) c.loop-rest.invariant.same)
-
-pub loop-rest-preserved : goal.loop-rest-preserved
-loop-rest-preserved c =
-    record {
-      end = next_ends c.loop-rest.rest.bytes (c.in-Ok.attribute, c.in-Ok.next) (sym c.in-Ok.ensures) c.args.all.bytes c.loop-rest.invariant.end;
-      same =
-          name_goes_on c.loop-rest.rest.bytes (c.in-Ok.attribute, c.in-Ok.next) (sym c.in-Ok.ensures) c.args.name.now c.loop-rest.rest.count c.loop-rest-test.true (sym c.eq.ensures ∙ c.if-eq.false)
-          ∙ c.loop-rest.invariant.same;
-    }
-
-pub returns-then-eq : goal.returns-then-eq
-returns-then-eq c =
-    ap Ok c.attribute_at.ensures
-    ∙ sym (name_found c.loop-rest.rest.bytes (c.in-Ok.attribute, c.in-Ok.next) (sym c.in-Ok.ensures) c.args.own c.args.all c.requires c.loop-rest.invariant.end c.loop-rest.rest.count c.loop-rest-test.true c.args.name.now (sym c.eq.ensures ∙ c.if-eq.true) c.loop-rest.invariant.same)
+pub returns-in-None : goal.returns-in-None
+returns-in-None c =
+    ap (λ (o : Option AdsAttribute). map_ok (attribute_places c.args.own) (ok_or o NameNotFound))
+    (find_from_yields_List (λ a. pointwise nat_eq a.name.now c.args.name.now) _ _ None c.in-None.ensures.ran (all_given c.args.all) (λ x b q k. search (rules, tests)))

@@ -1,4 +1,0 @@
-pub mod Asked
-pub mod Slots
-pub mod Shown
-pub mod Meaning
