@@ -1,5 +1,6 @@
 -- The laws of symbols.
 use Rattle.std.proofs.Common.{◌≡◌, ℕ, ◌+◌, ◌≤◌, Bool, true, false, List, length, Ok, Err, Result, refl, ap, arith, Bor, subst}
+use Rattle.part.proofs.Slice.{end_self}
 use Rattle.part.specs.Outcome.{outcome, and_then}
 use Rattle.refusal.specs.declared.Mode.{Mode}
 use Rattle.refusal.specs.declared.Refusal.{Refusal}
@@ -26,7 +27,7 @@ chain_at s true = by_chain (refactor.chain_of s) refl
     by_chain : (w : Result (ℕ × Bor (List ℕ)) Refusal) → refactor.chain_of s ≡ w
         → length (refactor.listed (outcome w (λ p. (record { bytes = s; count = p.0 }, p.1)) (λ why. (record { bytes = s; count = 0 }, s))).0.bytes (outcome w (λ p. (record { bytes = s; count = p.0 }, p.1)) (λ why. (record { bytes = s; count = 0 }, s))).0.count)
         ≡ (outcome w (λ p. (record { bytes = s; count = p.0 }, p.1)) (λ why. (record { bytes = s; count = 0 }, s))).0.count
-    by_chain (Ok p) h = (refactor-inside.chains_counted s p.0 p.1 h).long
+    by_chain (Ok p) h = (refactor-inside.chains_counted s s p.0 p.1 (end_self s) h).long
     by_chain (Err why) h = ap length (refactor-inside.listed_none s)
 
 -- an accepted symbol is the one that its entry's lengths place
