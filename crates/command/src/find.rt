@@ -96,13 +96,16 @@ fn no_attribute(
     asked: &[u8],
 ) -> Result<(), Failure> {
     let mut there = String::new(alloc);
-    let mut comma = "";
+    let mut is_first = true;
     for one in symbol.attributes {
         let one = Shown(one.name);
-        write!(there, "{comma}{one}")?;
-        comma = ", ";
+        if !is_first {
+            there.push_str(", ")?;
+        }
+        write!(there, "{one}")?;
+        is_first = false;
     }
-    if there.is_empty() {
+    if is_first {
         there.push_str("none")?;
     }
     let name = Shown(symbol.name);

@@ -1,21 +1,15 @@
 -- docs/FORMAT.md, "Field entries": what a field that is accepted tells is a number of its header or a part of its entry, with its end byte.
-use Rattle.std.specs.Prelude.{ℕ, ◌+◌, ◌<◌, ◌≤◌, ◌≡◌, List, Ok, length}
-use Rattle.std.specs.List.{All}
+use Rattle.std.specs.Prelude.{ℕ, ◌+◌, ◌≤◌, ◌≡◌, List, Ok, length}
 use Rattle.std.specs.Borrow.{Bor}
 use Rattle.le.specs.Le.{le2, le4}
 use Rattle.part.specs.Slice.{part}
+use Rattle.part.specs.End.{IsEnd, rest_at}
 use Rattle.refusal.specs.declared.Mode.{Mode}
 use Rattle.attribute.specs.declared.AdsAttribute.{AdsAttribute}
-use Rattle.attribute.specs.Attribute.{listed}
+use Rattle.attribute.specs.Attribute.{listed, after_listed}
+use Rattle.attribute.specs.Inside.{AttributesLie}
 use Rattle.field.specs.declared.AdsFieldInfo.{AdsFieldInfo}
 use Rattle.field.specs.Field.{field_of}
-
--- an attribute of an entry: its name and an end byte, its value and an end byte
-pub record IsAttributeIn (e : Bor (List ℕ)) (a : AdsAttribute) : Type 0 where
-  pub at : ℕ
-  pub name : a.name ≡ part e at (length a.name.now)
-  pub value : a.value ≡ part e (at + length a.name.now + 1) (length a.value.now)
-  pub room : at + length a.name.now + 1 + length a.value.now + 1 ≤ length e.now
 
 -- the attributes of a field
 abbrev pub shown : AdsFieldInfo → List AdsAttribute
@@ -38,7 +32,9 @@ pub record IsWithin (e : Bor (List ℕ)) (r : AdsFieldInfo) : Type 0 where
   pub type_name : r.type_name ≡ part e (43 + length r.name.now) (length r.type_name.now)
   pub comment : r.comment ≡ part e (44 + length r.name.now + length r.type_name.now) (length r.comment.now)
   pub room : 45 + length r.name.now + length r.type_name.now + length r.comment.now ≤ length e.now
-  pub attributes : All (IsAttributeIn e) (shown r)
+  -- they are read of the entry's last bytes, and lie there one after another
+  pub attribute_bytes : IsEnd e r.attributes.bytes
+  pub attributes : AttributesLie e (rest_at e r.attributes.bytes) (shown r) (rest_at e (after_listed r.attributes.bytes r.attributes.count))
   pub counted : length (shown r) ≡ r.attributes.count
 
 abbrev pub FieldsWithin : Type 0

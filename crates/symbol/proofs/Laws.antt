@@ -1,5 +1,6 @@
 -- The laws of symbols.
 use Rattle.std.proofs.Common.{◌≡◌, ℕ, ◌+◌, ◌≤◌, Bool, true, false, List, length, Ok, Err, Result, refl, ap, arith, Bor, subst}
+use Rattle.part.proofs.Slice.{end_self}
 use Rattle.part.specs.Outcome.{outcome, and_then}
 use Rattle.refusal.specs.declared.Mode.{Mode}
 use Rattle.refusal.specs.declared.Refusal.{Refusal}
@@ -7,6 +8,7 @@ use Rattle.refusal.specs.declared.Mode.TheVariants.{Present, Checked}
 use Rattle.le.specs.Le.{le2}
 use Rattle.attribute.specs.Attribute as attribute
 use Rattle.attribute.proofs.Laws.{listed_again, listed_none}
+use Rattle.refactor.specs.declared.RefactorInfos.{RefactorInfos}
 use Rattle.refactor.specs.Refactor as refactor
 use Rattle.refactor.proofs.Inside as refactor-inside
 use Rattle.symbol.specs.declared.AdsSymbolInfo.{AdsSymbolInfo}
@@ -18,16 +20,18 @@ counted_at : (s : Bor (List ℕ)) (b : Bool) → length (attribute.listed (attri
 unfolding attributes_of
 counted_at s b = grind (arith, listed_again, listed_none)
 
+-- the records of a chain, and of one that is dropped
+abbrev kept : Bor (List ℕ) → Result (ℕ × Bor (List ℕ)) Refusal → RefactorInfos × Bor (List ℕ)
+kept s w = outcome w (λ p. (record { bytes = s; count = p.0 }, p.1)) (λ why. (record { bytes = s; count = 0 }, s))
+
+kept_counted : (s : Bor (List ℕ)) (w : Result (ℕ × Bor (List ℕ)) Refusal) → refactor.chain_of s ≡ w → length (refactor.listed (kept s w).0.bytes (kept s w).0.count) ≡ (kept s w).0.count
+kept_counted s (Ok p) h = (refactor-inside.chains_counted s s p.0 p.1 (end_self s) h).long
+kept_counted s (Err why) h = ap length (refactor-inside.listed_none s)
+
 chain_at : (s : Bor (List ℕ)) (b : Bool) → length (refactor.listed (refactor_infos_of s b).0.bytes (refactor_infos_of s b).0.count) ≡ (refactor_infos_of s b).0.count
 unfolding refactor_infos_of
 chain_at s false = ap length (refactor-inside.listed_none s)
-chain_at s true = by_chain (refactor.chain_of s) refl
-  where
-    by_chain : (w : Result (ℕ × Bor (List ℕ)) Refusal) → refactor.chain_of s ≡ w
-        → length (refactor.listed (outcome w (λ p. (record { bytes = s; count = p.0 }, p.1)) (λ why. (record { bytes = s; count = 0 }, s))).0.bytes (outcome w (λ p. (record { bytes = s; count = p.0 }, p.1)) (λ why. (record { bytes = s; count = 0 }, s))).0.count)
-        ≡ (outcome w (λ p. (record { bytes = s; count = p.0 }, p.1)) (λ why. (record { bytes = s; count = 0 }, s))).0.count
-    by_chain (Ok p) h = (refactor-inside.chains_counted s p.0 p.1 h).long
-    by_chain (Err why) h = ap length (refactor-inside.listed_none s)
+chain_at s true = kept_counted s (refactor.chain_of s) refl
 
 -- an accepted symbol is the one that its entry's lengths place
 pub accepted_room : (mode : Mode) (e : Bor (List ℕ)) (r : AdsSymbolInfo) → symbol_of mode e ≡ Ok r → 33 + le2 e.now 24 + le2 e.now 26 + le2 e.now 28 ≤ length e.now

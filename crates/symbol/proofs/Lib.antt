@@ -1,6 +1,5 @@
 pub mod Within
 pub mod Laws
-pub mod Tails
 pub mod Lies
 pub mod Ends
 pub mod Modes
