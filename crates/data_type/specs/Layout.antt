@@ -22,8 +22,10 @@ arrays_end s = strings_end s + 8 * le2 s 38
 -- the end bytes of name, type and comment, each with its place
 abbrev pub string_bytes : List ℕ → List (ℕ × ℕ)
 string_bytes s =
-    (42 + le2 s 32, get_or s (42 + le2 s 32) 0) ∷ (43 + le2 s 32 + le2 s 34, get_or s (43 + le2 s 32 + le2 s 34) 0)
-    ∷ (44 + le2 s 32 + le2 s 34 + le2 s 36, get_or s (44 + le2 s 32 + le2 s 34 + le2 s 36) 0) ∷ []
+    let name : ℕ = 42 + le2 s 32 in
+    let type : ℕ = name + 1 + le2 s 34 in
+    let comment : ℕ = type + 1 + le2 s 36 in
+    (name, get_or s name 0) ∷ (type, get_or s type 0) ∷ (comment, get_or s comment 0) ∷ []
 
 -- the strings are there, and in the checked mode each ends in 0
 pub record HasStrings (mode : Mode) (e : Bor (List ℕ)) : Type 0 where
