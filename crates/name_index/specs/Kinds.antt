@@ -1,9 +1,8 @@
 -- docs/FORMAT.md, "Name index", "Symbol entries" and "Field entries". Where symbols, fields and data types have their names.
-use Rattle.std.proofs.Common.{ℕ, ◌+◌, ◌≤◌, ◌≡◌, refl, sym, ap, subst, ◌∙◌, List, length, arith, Bor}
-use Rattle.std.specs.Prelude.{Ok, Err, Result}
+use Rattle.std.proofs.Common.{ℕ, ◌+◌, ◌≤◌, ◌≡◌, ap, subst, List, length, arith, Bor}
+use Rattle.std.specs.Prelude.{Ok}
 use Rattle.le.specs.Le.{le2, part}
 use Rattle.refusal.specs.declared.Mode.{Mode}
-use Rattle.refusal.specs.declared.Refusal.{Refusal}
 use Rattle.symbol.specs.declared.AdsSymbolInfo.{AdsSymbolInfo}
 use Rattle.symbol.specs.Symbol.{symbol_of, ended_symbol}
 use Rattle.symbol.specs.Symbol as symbol
