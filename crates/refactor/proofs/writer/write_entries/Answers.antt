@@ -3,7 +3,7 @@ use Rattle.le.proofs.Laws.{after}
 use Rattle.writing.proofs.Laws.{refuses}
 use Rattle.writing.proofs.Entry.{room_passed, no_room, written_whole}
 use Rattle.refactor.proofs.Written.{count_refused, block_refused, both_pass}
-use Rattle.refactor.proofs.writer.entries_to_vec.Goals as goal
+use Rattle.refactor.proofs.writer.write_entries.Goals as goal
 
 pub returns-in_err-check_count : goal.returns-in_err-check_count
 returns-in_err-check_count c =

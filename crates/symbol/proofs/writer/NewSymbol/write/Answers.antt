@@ -3,7 +3,7 @@ use Rattle.writing.proofs.Laws.{refuses}
 use Rattle.writing.proofs.Entry.{room_passed, no_room, written_whole}
 use Rattle.symbol.specs.Writing.{symbol_written}
 use Rattle.symbol.proofs.Sizes.{passes}
-use Rattle.symbol.proofs.writer.NewSymbol.to_vec.Goals as goal
+use Rattle.symbol.proofs.writer.NewSymbol.write.Goals as goal
 
 pub returns-in_err-check : goal.returns-in_err-check
 unfolding symbol_written

@@ -3,7 +3,7 @@ use Rattle.le.proofs.Laws.{after}
 use Rattle.writing.proofs.Laws.{refuses, too_small, done}
 use Rattle.attribute.specs.Writing.{attribute_bytes}
 use Rattle.attribute.proofs.Written.{length_bytes, passes, refused}
-use Rattle.attribute.proofs.AdsAttribute.to_vec.Goals as goal
+use Rattle.attribute.proofs.AdsAttribute.write.Goals as goal
 
 pub returns-in_err-check_lengths : goal.returns-in_err-check_lengths
 returns-in_err-check_lengths c =

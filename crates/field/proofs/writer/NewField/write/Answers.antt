@@ -2,7 +2,7 @@ use Rattle.std.proofs.Common.{◌≡◌, sym, ◌∙◌, Err, arith, rules}
 use Rattle.writing.proofs.Laws.{refuses}
 use Rattle.writing.proofs.Entry.{room_passed, no_room, written_whole}
 use Rattle.field.proofs.Written.{not_written, passes}
-use Rattle.field.proofs.writer.NewField.to_vec.Goals as goal
+use Rattle.field.proofs.writer.NewField.write.Goals as goal
 
 pub returns-in_err-check : goal.returns-in_err-check
 returns-in_err-check c =
