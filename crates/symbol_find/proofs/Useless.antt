@@ -10,7 +10,8 @@ use Rattle.entry.specs.Walk.{steps, steps_from}
 use Rattle.walk.specs.Step.{parse_of, step_at}
 use Rattle.names.specs.Names.{folded, same_name}
 use Rattle.symbol.specs.declared.AdsSymbolInfo.{AdsSymbolInfo}
-use Rattle.symbol.specs.Symbol.{guid_of, attributes_of, extended_of, refactor_infos_of, with_strings, ended_symbol, symbol_of}
+use Rattle.layout.specs.Layout.{guid_of}
+use Rattle.symbol.specs.Symbol.{attributes_of, extended_of, refactor_infos_of, with_strings, ended_symbol, symbol_of}
 use Rattle.symbol_find.specs.Find.{is_named}
 use Rattle.symbol_find.specs.Meaning.{HasName, Nowhere, Finds, UselessShutOut}
 use Rattle.symbol_find.proofs.Meaning.{has_of}

@@ -25,7 +25,8 @@ use Rattle.entry.proofs.Direct.{part_all, part_long, room_of}
 use Rattle.walk.specs.Step.{step_at}
 use Rattle.walk.specs.Pieces.{piece_at, pieces_from}
 use Rattle.symbol.specs.declared.AdsSymbolInfo.{AdsSymbolInfo}
-use Rattle.symbol.specs.Symbol.{guid_of, attributes_of, extended_of, refactor_infos_of, with_strings, symbol_ended, ended_symbol, symbol_of}
+use Rattle.layout.specs.Layout.{guid_of}
+use Rattle.symbol.specs.Symbol.{attributes_of, extended_of, refactor_infos_of, with_strings, symbol_ended, ended_symbol, symbol_of}
 use Rattle.symbol.specs.Kind as kind
 use Rattle.attribute.specs.Attribute.{ends}
 use Rattle.symbol_find.specs.Find.{is_named}
