@@ -8,10 +8,10 @@ use std::io::Write;
 /// Whether the two are alike.
 pub fn compare<W: Write>(
     alloc: Global,
-    _upload: &Upload<'_>,
-    _other: &Upload<'_>,
-    _json: bool,
-    _out: &mut W,
+    upload: &Upload<'_>,
+    other: &Upload<'_>,
+    json: bool,
+    out: &mut W,
 ) -> Result<bool, Failure> {
-    Err(Failure::Refused(String::from_str(alloc, "compare is not there yet")?))
+    Ok(comparison::compare(alloc, upload, other, json, out)?)
 }

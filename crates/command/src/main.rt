@@ -11,6 +11,7 @@ mod salvage;
 mod show;
 mod source;
 mod types;
+mod written;
 
 use arguments::{Asked, Request, Run};
 use failure::Failure;

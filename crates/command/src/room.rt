@@ -3,8 +3,18 @@
 use crate::failure::Failure;
 use std::alloc::Global;
 use std::io::Write;
+use wording::InWords;
 
-/// The number alone.
-pub fn room<W: Write>(alloc: Global, _length: usize, _out: &mut W) -> Result<(), Failure> {
-    Err(Failure::Refused(String::from_str(alloc, "room is not there yet")?))
+/// The number alone and without commas, for scripts.
+pub fn room<W: Write>(alloc: Global, length: usize, out: &mut W) -> Result<(), Failure> {
+    match room::room(length) {
+        Ok(slots) => {
+            writeln!(out, "{slots}")?;
+            Ok(())
+        }
+        Err(why) => {
+            let why = InWords(&why);
+            Err(Failure::Refused(format!(in alloc; "{why}")?))
+        }
+    }
 }

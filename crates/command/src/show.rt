@@ -1,6 +1,7 @@
 //! `show`: everything of one symbol, and a picture of its bytes.
 
 use crate::failure::Failure;
+use crate::find::named;
 use report::Upload;
 use std::alloc::Global;
 use std::io::Write;
@@ -8,10 +9,21 @@ use std::io::Write;
 /// Whether colours are asked for is the caller's to say.
 pub fn show<W: Write>(
     alloc: Global,
-    _upload: &Upload<'_>,
-    _name: &str,
-    _coloured: bool,
-    _out: &mut W,
+    upload: &Upload<'_>,
+    name: &str,
+    coloured: bool,
+    out: &mut W,
 ) -> Result<(), Failure> {
-    Err(Failure::Refused(String::from_str(alloc, "show is not there yet")?))
+    let found = named(alloc, upload, name)?;
+    let begin = found.at.min(upload.bytes.len());
+    let length = found.symbol.length.min(upload.bytes.len() - begin);
+    writeln!(out, "{upload}")?;
+    writeln!(out, "")?;
+    let entry = picture::Found {
+        at: found.at,
+        own: &upload.bytes[begin..begin + length],
+        symbol: found.symbol,
+    };
+    picture::show(alloc, &entry, coloured, out)?;
+    Ok(())
 }

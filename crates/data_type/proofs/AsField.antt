@@ -12,7 +12,7 @@ use Rattle.data_type.specs.declared.AdsDataTypeInfo.{AdsDataTypeInfo}
 use Rattle.data_type.specs.declared.array.ArrayInfos.{ArrayInfos}
 use Rattle.data_type.specs.declared.reader.Items.{Items}
 use Rattle.data_type.specs.DataType.{taken, items_from, item_at, arrays_of, type_at, type_of}
-use Rattle.data_type.specs.Theorems.{as_field, TypesAsFields}
+use Rattle.data_type.specs.Theorems.{TypesAsFields}
 use Rattle.data_type.proofs.Inside.{turn, accepted_at}
 use Rattle.data_type.proofs.Parsed.{parsed}
 
@@ -46,12 +46,12 @@ arrays_skipped f a h =
     let is : after f.rest (8 * f.array_count) ≡ a.1 = grind arith in
     ap (after f.rest) m ∙ is
 
-pub entry_as_field : (mode : Mode) (left : ℕ) (e : Bor (List ℕ)) (r : AdsDataTypeInfo) → type_at mode left e ≡ Ok r → field_of mode e ≡ Ok (as_field r)
+pub entry_as_field : (mode : Mode) (left : ℕ) (e : Bor (List ℕ)) (r : AdsDataTypeInfo) → type_at mode left e ≡ Ok r → field_of mode e ≡ Ok r.field
 unfolding field_of
 entry_as_field mode left e r h =
     let a = accepted_at mode left e r h in
     let s : behind_items a.front ≡ a.items.rest = ap (λ (x : Bor (List ℕ)). after_items x a.front.sub_item_count) (arrays_skipped a.front (a.arrays, a.first) a.arrays_are) ∙ skipped mode left a.front.sub_item_count a.first a.items a.items_are in
-    simp (a.front_is, s, a.tail_is) (ap (λ (x : AdsDataTypeInfo). Ok (as_field x)) a.is)
+    simp (a.front_is, s, a.tail_is) (ap (λ (x : AdsDataTypeInfo). Ok x.field) a.is)
 
 pub types_as_fields : TypesAsFields
 types_as_fields mode s r h = let p = parsed (type_of mode) s r h in simp p.claims (entry_as_field mode 15 _ r p.entry)

@@ -21,7 +21,8 @@ use Rattle.field.specs.Front.{with_strings, front_of}
 use Rattle.field.specs.Tail.{guid_of, after_mask, after_methods, attributes_of, tail_of}
 use Rattle.data_type.specs.declared.AdsDataTypeInfo.{AdsDataTypeInfo}
 use Rattle.data_type.specs.declared.reader.Items.{Items}
-use Rattle.data_type.specs.DataType.{joined, sub_items_of, ItemReader, taken, items_from, item_at, arrays_of, type_with, type_at, type_of}
+use Rattle.field.specs.Field.{joined}
+use Rattle.data_type.specs.DataType.{sub_items_of, ItemReader, taken, items_from, item_at, arrays_of, type_with, type_at, type_of}
 use Rattle.data_type.specs.Chain.{around, chain, HasMembers, TypesNest}
 use Rattle.data_type.proofs.Turns.{type_step}
 
@@ -78,7 +79,7 @@ module _ (e : Bor (List ℕ)) (count : ℕ) (items : List ℕ) (a : Around e cou
   tail_is Checked s = simp no_flags
 
   abbrev record_of : ℕ → Bor (List ℕ) → AdsDataTypeInfo
-  record_of members rest = joined f (record { bytes = part f.rest 0 0; count = 0 }) (sub_items_of f first) members (none_at rest)
+  record_of members rest = record { field = joined f (none_at rest); arrays = record { bytes = part f.rest 0 0; count = 0 }; sub_items = sub_items_of f first; member_count = members }
 
   counted : f.sub_item_count ≡ count
   unfolding with_strings

@@ -9,7 +9,8 @@ use Rattle.field.specs.Front.{with_strings, front_of}
 use Rattle.field.specs.Tail.{tail_of}
 use Rattle.data_type.specs.declared.array.ArrayInfos.{ArrayInfos}
 use Rattle.data_type.specs.declared.reader.Items.{Items}
-use Rattle.data_type.specs.DataType.{joined, items_from, item_at, arrays_of, sub_items_of, type_with, type_at}
+use Rattle.field.specs.Field.{joined}
+use Rattle.data_type.specs.DataType.{items_from, item_at, arrays_of, sub_items_of, type_with, type_at}
 use Rattle.data_type.proofs.Turns.{type_step}
 
 -- of a front that was read: its length, and that the header and three end bytes stand before the rest
@@ -45,6 +46,6 @@ module _ (mode : Mode) (left : ℕ) (e : Bor (List ℕ)) where
         unfolding type_with
         tail_refused why l = type_step mode left e ∙ simp (h, k, i, l)
 
-        pub is_read : (t : Tail) → tail_of mode f items.rest ≡ Ok t → type_at mode left e ≡ Ok (joined f a.0 (sub_items_of f a.1) items.members t)
+        pub is_read : (t : Tail) → tail_of mode f items.rest ≡ Ok t → type_at mode left e ≡ Ok (record { field = joined f t; arrays = a.0; sub_items = sub_items_of f a.1; member_count = items.members })
         unfolding type_with
         is_read t l = type_step mode left e ∙ simp (h, k, i, l)

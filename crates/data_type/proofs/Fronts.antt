@@ -13,7 +13,8 @@ use Rattle.refusal.specs.declared.Refusal.{Refusal}
 use Rattle.field.specs.declared.front.Front.{Front}
 use Rattle.field.specs.declared.tail.Tail.{Tail}
 use Rattle.field.specs.Front.{with_strings, front_of}
-use Rattle.data_type.specs.DataType.{joined, sub_items_of}
+use Rattle.field.specs.Field.{joined}
+use Rattle.data_type.specs.DataType.{sub_items_of}
 use Rattle.data_type.specs.declared.members.Position.{Position}
 use Rattle.data_type.specs.Members.{below}
 use Rattle.data_type.specs.Layout.{strings_end, string_bytes, HasStrings, front, record_of}
@@ -51,11 +52,11 @@ part_after e a n = bor _ _ _ _ (ap (λ (x : ℕ). (e.ref_ptr.0, x)) (add-zero (e
 
 -- the record of an entry
 pub record_is : (e : Bor (List ℕ)) (f : Front) (t : Tail) (n : ℕ) → front e ≡ f
-    → joined f (record { bytes = part f.rest 0 (8 * f.array_count); count = f.array_count }) (sub_items_of f (after f.rest (8 * f.array_count))) n t ≡ record_of e t n
+    → record { field = joined f t; arrays = record { bytes = part f.rest 0 (8 * f.array_count); count = f.array_count }; sub_items = sub_items_of f (after f.rest (8 * f.array_count)); member_count = n } ≡ record_of e t n
 unfolding with_strings
 record_is e f t n h =
-    ap (λ (f : Front). joined f (record { bytes = part f.rest 0 (8 * f.array_count); count = f.array_count }) (sub_items_of f (after f.rest (8 * f.array_count))) n t) (sym h)
-    ∙ ap₂ (λ (x y : Bor (List ℕ)). joined (front e) (record { bytes = x; count = (front e).array_count }) (sub_items_of (front e) y) n t)
+    ap (λ (f : Front). record { field = joined f t; arrays = record { bytes = part f.rest 0 (8 * f.array_count); count = f.array_count }; sub_items = sub_items_of f (after f.rest (8 * f.array_count)); member_count = n }) (sym h)
+    ∙ ap₂ (λ (x y : Bor (List ℕ)). record { field = joined (front e) t; arrays = record { bytes = x; count = (front e).array_count }; sub_items = sub_items_of (front e) y; member_count = n })
     (part_after e (strings_end e.now) (8 * (front e).array_count)) (after_after e (strings_end e.now) (8 * (front e).array_count))
 
 pub below_is : (p : Position) (place offset : ℕ) → p.depth + 1 ≤ 16 → below p place offset ≡ under p place offset

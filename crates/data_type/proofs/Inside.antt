@@ -77,12 +77,12 @@ front_present Checked e f h = grind arith
 
 -- the iterator meets a sub-item that was read as its record says
 pub item_is : (mode : Mode) (left : ℕ) (s own behind : Bor (List ℕ)) (info : AdsDataTypeInfo) → taken s ≡ Ok (own, behind) → type_at mode left own ≡ Ok info
-    → item_in s ≡ Ok (record { own = own; offset = info.offset; first = info.sub_items.bytes; count = info.sub_items.count; behind = behind })
+    → item_in s ≡ Ok (record { own = own; offset = info.field.offset; first = info.sub_items.bytes; count = info.sub_items.count; behind = behind })
 unfolding item_in
 item_is mode left s own behind info t h =
     let a = accepted_at mode left own info h in
     let f = front_present mode own a.front a.front_is in
-    simp (t, f, a.arrays_are) (ap (λ (x : AdsDataTypeInfo). Ok (record { own = own; offset = x.offset; first = x.sub_items.bytes; count = x.sub_items.count; behind = behind })) a.is)
+    simp (t, f, a.arrays_are) (ap (λ (x : AdsDataTypeInfo). Ok (record { own = own; offset = x.field.offset; first = x.sub_items.bytes; count = x.sub_items.count; behind = behind })) a.is)
 
 pub below_depth : (p : Position) (place offset : ℕ) → p.depth < 16 → (below p place offset).depth ≡ p.depth + 1
 unfolding below
@@ -91,7 +91,7 @@ below_depth p place offset h = simp (lt-ltb p.depth 16 h)
 -- a sub-item, then its members, then those behind it
 module _ (mode : Mode) (left : ℕ) (s : Bor (List ℕ)) (n : ℕ) (items : Items) (t : Turn mode left s n items) (above : Position) (end : ℕ) where
   abbrev pub here : Position
-  here = below above (end - length s.now) t.info.offset
+  here = below above (end - length s.now) t.info.field.offset
 
   pub brings : (k : ℕ) → members_below (suc k) above end s (suc n)
       ≡ record { position = here; own = t.own } ∷ (members_below k here (end - length s.now + length t.own.now) t.info.sub_items.bytes t.info.sub_items.count ++ members_below (suc k) above end t.behind n)
@@ -122,7 +122,7 @@ module _ (mode : Mode) (P : Position → ℕ → Bor (List ℕ) → ℕ → Item
       let t = turn mode left s n items i in
       let o = holds mode t.deeper t.own t.info t.entry in
       let p : Position = here mode left s n items t above end in
-      let inner = each t.deeper t.some p (end - length s.now + length t.own.now) t.info.sub_items.count t.info.sub_items.bytes o.items (below_deeper above (end - length s.now) t.info.offset left t.deeper t.some h) o.read in
+      let inner = each t.deeper t.some p (end - length s.now + length t.own.now) t.info.sub_items.count t.info.sub_items.bytes o.items (below_deeper above (end - length s.now) t.info.field.offset left t.deeper t.some h) o.read in
       let rest = items_all left each n above end t.behind t.more h t.rest in
       let m = more left s n items t above end o.items (members_below t.deeper p (end - length s.now + length t.own.now) t.info.sub_items.bytes t.info.sub_items.count) (members_below left above end t.behind n) h (sym o.count) o.read inner rest in
       subst (P above end s (suc n) items) (sym (brings_at left t.deeper t.some s n items t above end)) m
@@ -147,7 +147,7 @@ counted mode e r h =
     let l = length-append held rest in
     let i : 1 + t.info.member_count + t.more.members ≡ items.members = ap (λ (x : Items). x.members) t.is in
     omega arith)
-    15 r.sub_items.count root r.length r.sub_items.bytes o.items refl o.read
+    15 r.sub_items.count root r.field.length r.sub_items.bytes o.items refl o.read
     ∙ sym o.count
 
 -- fewer than bytes

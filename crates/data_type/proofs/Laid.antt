@@ -30,7 +30,7 @@ pub record Behind (e : Bor (List ℕ)) (r : AdsDataTypeInfo) : Type 0 where
   pub some : 45 ≤ from
   pub room : from ≤ length e.now
   pub is : r.sub_items.bytes ≡ after e from
-  pub offset : r.offset ≡ le4 e.now 20
+  pub offset : r.field.offset ≡ le4 e.now 20
   pub arrays : r.arrays.count ≡ le2 e.now 38
   pub items : r.sub_items.count ≡ le2 e.now 40
 
@@ -48,7 +48,7 @@ behind_arrays mode left e r h =
       some = omega arith;
       room = omega arith;
       is = sym (ap (λ (x : AdsDataTypeInfo). x.sub_items.bytes) a.is) ∙ f.first ∙ ap (λ (x : Bor (List ℕ)). after x (8 * a.front.array_count)) d.rest ∙ after_after e end (8 * a.front.array_count);
-      offset = sym (ap (λ (x : AdsDataTypeInfo). x.offset) a.is) ∙ d.offset;
+      offset = sym (ap (λ (x : AdsDataTypeInfo). x.field.offset) a.is) ∙ d.offset;
       arrays = sym (ap (λ (x : AdsDataTypeInfo). x.arrays.count) a.is) ∙ ap (λ (x : ArrayInfos). x.count) f.arrays ∙ d.arrays;
       items = sym (ap (λ (x : AdsDataTypeInfo). x.sub_items.count) a.is) ∙ d.items;
     }
@@ -92,7 +92,7 @@ module _ (mode : Mode) (s : Bor (List ℕ)) (small : length s.now ≤ limit) (wh
     own_long : length own.now ≡ size
     own_long = ap (λ (x : Bor (List ℕ)). length x.now) own_is ∙ length_in s place size (omega arith)
 
-    pub offset_is : info.offset ≡ le4 s.now (place + 20)
+    pub offset_is : info.field.offset ≡ le4 s.now (place + 20)
     offset_is = (behind_arrays mode left own info entry).offset ∙ ap (λ (x : Bor (List ℕ)). le4 x.now 20) own_is ∙ le4_part s.now place size 20 (omega arith)
 
     as_root : type_of mode own ≡ Ok info
@@ -150,9 +150,9 @@ module _ (mode : Mode) (s : Bor (List ℕ)) (small : length s.now ≤ limit) (wh
       let long : length t.own.now ≡ size = ap (λ (x : Bor (List ℕ)). length x.now) own_is ∙ length_in s place size (omega arith) in
       let off = offset_is t.deeper place size t.own t.info own_is room kl claims fits t.entry in
       let h : Position = here mode left c n i t above end in
-      let at = at_below s.now above a deep place t.info.offset off in
-      let hd : h.depth ≡ above.depth + 1 = depth_below s.now above a deep place t.info.offset in
-      let hp : place_of h ≡ place = place_below s.now above a deep place t.info.offset in
+      let at = at_below s.now above a deep place t.info.field.offset off in
+      let hd : h.depth ≡ above.depth + 1 = depth_below s.now above a deep place t.info.field.offset in
+      let hp : place_of h ≡ place = place_below s.now above a deep place t.info.field.offset in
       let b = behind_arrays mode t.deeper t.own t.info t.entry in
       let bs = b.some in
       let br : b.from ≤ size = omega (arith, b.room, long) in

@@ -43,28 +43,28 @@ types_meant mode s r h =
     let wr = w.room in
     let wc = w.claims in
     let n : length (part s 0 p.size).now ≡ p.size = length_in s 0 p.size (omega arith) in
-    let long : r.length ≡ p.size = at_long mode 15 (part s 0 p.size) r p.entry ∙ n in
+    let long : r.field.length ≡ p.size = at_long mode 15 (part s 0 p.size) r p.entry ∙ n in
     let b = behind_arrays mode 15 (part s 0 p.size) r p.entry in
     let bs = b.some in
     let br = b.room in
     let o = holds mode 15 (part s 0 p.size) r p.entry in
     let whole : le4 s.now 0 ≤ length s.now = omega arith in
-    let z : 0 + p.size ≡ r.length = omega arith in
+    let z : 0 + p.size ≡ r.field.length = omega arith in
     let inside = within_own mode s ws whole 0 p.size b.from (part s 0 p.size) r.sub_items.bytes refl (omega arith) (omega arith) b.is in
-    let l = all_of mode (LaidIn mode s ws whole) (laid_none mode s ws whole) (laid_more mode s ws whole) 15 r.sub_items.count root r.length r.sub_items.bytes o.items refl o.read (root_at s.now)
+    let l = all_of mode (LaidIn mode s ws whole) (laid_none mode s ws whole) (laid_more mode s ws whole) 15 r.sub_items.count root r.field.length r.sub_items.bytes o.items refl o.read (root_at s.now)
     (subst (λ (e : ℕ). Laid.Within mode s ws whole r.sub_items.bytes e) z inside.0) in
     let il = inside.1 in
     let c : r.member_count ≡ length (members_of r) = sym (counted mode (part s 0 p.size) r p.entry) in
-    let size : r.length ≡ le4 s.now 0 = omega arith in
+    let size : r.field.length ≡ le4 s.now 0 = omega arith in
     record {
       arrays = b.arrays ∙ le2_part s.now 0 p.size 38 (omega (arith, w.least));
       items = b.items ∙ le2_part s.now 0 p.size 40 (omega (arith, w.least));
       among = l.counts ∙ b.items ∙ le2_part s.now 0 p.size 40 (omega (arith, w.least));
       counted = c;
-      order = subst (λ (e : ℕ). Between 1 e (members_of r)) size (sooner (r.length - length r.sub_items.bytes.now) 1 r.length (members_of r) (omega arith) l.order);
+      order = subst (λ (e : ℕ). Between 1 e (members_of r)) size (sooner (r.field.length - length r.sub_items.bytes.now) 1 r.field.length (members_of r) (omega arith) l.order);
       stands = each_get l.each;
       path = λ k m x i y.
-          let q = all_of mode PathsIn paths_none (paths_more mode) 15 r.sub_items.count root r.length r.sub_items.bytes o.items refl o.read (omega (arith, il)) refl (omega arith) k m x in
+          let q = all_of mode PathsIn paths_none (paths_more mode) 15 r.sub_items.count root r.field.length r.sub_items.bytes o.items refl o.read (omega (arith, il)) refl (omega arith) k m x in
           q.lies i (omega arith) y;
       slots = slots_of (members_of r);
       written = simp h;

@@ -183,7 +183,7 @@ module _ (mode : Mode) where
       let own : length t.own.now ≡ size = ap (λ (x : Bor (List ℕ)). length x.now) k.own_is ∙ length_in s 0 size (omega arith) in
       let behind : length t.behind.now ≡ length s.now - size = ap (λ (x : Bor (List ℕ)). length x.now) k.behind_is ∙ length-drop size s.now in
       let h : Position = here mode left s n i t above end in
-      let is : h ≡ under above place t.info.offset = below_is above place t.info.offset (omega (arith, t.some)) in
+      let is : h ≡ under above place t.info.field.offset = below_is above place t.info.field.offset (omega (arith, t.some)) in
       let deep : h.depth ≡ above.depth + 1 = ap (λ (x : Position). x.depth) is in
       let path : h.path ≡ set above.path (above.depth - 1) place = ap (λ (x : Position). x.path) is in
       let last : above.depth + 1 - 2 ≡ above.depth - 1 = omega (arith, least) in

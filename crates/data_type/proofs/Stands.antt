@@ -18,7 +18,8 @@ use Rattle.data_type.specs.Kind.{at_long}
 use Rattle.data_type.specs.declared.members.Member.{Member}
 use Rattle.data_type.specs.declared.members.Position.{Position}
 use Rattle.data_type.specs.declared.reader.Items as items
-use Rattle.data_type.specs.DataType.{joined, taken, items_from, item_at, arrays_of, sub_items_of, type_at, type_of}
+use Rattle.field.specs.Field.{joined}
+use Rattle.data_type.specs.DataType.{taken, items_from, item_at, arrays_of, sub_items_of, type_at, type_of}
 use Rattle.data_type.specs.Members.{root, below, members_below, members_of}
 use Rattle.data_type.specs.Layout.{strings_end, arrays_end, HasStrings, front, record_of}
 use Rattle.data_type.specs.Stand.{under, What, Entry, Items, Stand, entry, none, item, IsRoot, TypesStand}
@@ -54,16 +55,16 @@ Goal mode left p end (Entry e r ms) = Reads mode left p end e r ms
 Goal mode left p end (Items s n rest ms) = ReadsItems mode left p end s n rest ms
 
 -- the offset of a sub-item that was read
-offset_there : (mode : Mode) (left : ℕ) (s : Bor (List ℕ)) (info : AdsDataTypeInfo) → 42 ≤ le4 s.now 0 → le4 s.now 0 ≤ length s.now → type_at mode left (part s 0 (le4 s.now 0)) ≡ Ok info → info.offset ≡ le4 s.now 20
+offset_there : (mode : Mode) (left : ℕ) (s : Bor (List ℕ)) (info : AdsDataTypeInfo) → 42 ≤ le4 s.now 0 → le4 s.now 0 ≤ length s.now → type_at mode left (part s 0 (le4 s.now 0)) ≡ Ok info → info.field.offset ≡ le4 s.now 20
 offset_there mode left s info h k r =
     let a = accepted_at mode left (part s 0 (le4 s.now 0)) info r in
-    sym (ap (λ (x : AdsDataTypeInfo). x.offset) a.is) ∙ (heads mode (part s 0 (le4 s.now 0)) a.front a.front_is).offset ∙ le4_part s.now 0 (le4 s.now 0) 20 (omega arith)
+    sym (ap (λ (x : AdsDataTypeInfo). x.field.offset) a.is) ∙ (heads mode (part s 0 (le4 s.now 0)) a.front a.front_is).offset ∙ le4_part s.now 0 (le4 s.now 0) 20 (omega arith)
 
 module _ (mode : Mode) where
   item_reads : (l left : ℕ) (p : Position) (end n : ℕ) (s rest : Bor (List ℕ)) (more held : List Member) (info : AdsDataTypeInfo) → left ≡ suc l → 42 ≤ le4 s.now 0 → le4 s.now 0 ≤ length s.now
-      → Reads mode l (below p (end - length s.now) info.offset) (end - length s.now + le4 s.now 0) (part s 0 (le4 s.now 0)) info held
+      → Reads mode l (below p (end - length s.now) info.field.offset) (end - length s.now + le4 s.now 0) (part s 0 (le4 s.now 0)) info held
       → ReadsItems mode left p end (after s (le4 s.now 0)) n rest more
-      → ReadsItems mode left p end s (suc n) rest (record { position = below p (end - length s.now) info.offset; own = part s 0 (le4 s.now 0) } ∷ (held ++ more))
+      → ReadsItems mode left p end s (suc n) rest (record { position = below p (end - length s.now) info.field.offset; own = part s 0 (le4 s.now 0) } ∷ (held ++ more))
   unfolding items_from
   item_reads l left p end n s rest more held info z h k x y =
       let t = taken_there s h k in
@@ -75,13 +76,13 @@ module _ (mode : Mode) where
       let b : suc n - 1 ≡ n = omega arith in
       let y' : members_below (suc l) p end (after s (le4 s.now 0)) n ≡ more = subst (λ (m : ℕ). members_below m p end (after s (le4 s.now 0)) n ≡ more) z y.members in
       let w = one_left p end s l (suc n) _ (λ e. omega (arith, e)) (item_is mode l s (part s 0 (le4 s.now 0)) (after s (le4 s.now 0)) info t x.read) in
-      let v = ap (λ (m : ℕ). members_below l (below p (end - length s.now) info.offset) (end - length s.now + m) info.sub_items.bytes info.sub_items.count) o ∙ x.members in
+      let v = ap (λ (m : ℕ). members_below l (below p (end - length s.now) info.field.offset) (end - length s.now + m) info.sub_items.bytes info.sub_items.count) o ∙ x.members in
       let u = ap (λ (m : ℕ). members_below (suc l) p end (after s (le4 s.now 0)) m) b ∙ y' in
       record {
         read = simp (i, y.read) (ap (λ (m : ℕ). Ok (record { rest = rest; members = m })) c);
         members =
             ap (λ (m : ℕ). members_below m p end s (suc n)) z ∙ w
-            ∙ ap₂ (λ (a d : List Member). record { position = below p (end - length s.now) info.offset; own = part s 0 (le4 s.now 0) } ∷ (a ++ d)) v u;
+            ∙ ap₂ (λ (a d : List Member). record { position = below p (end - length s.now) info.field.offset; own = part s 0 (le4 s.now 0) } ∷ (a ++ d)) v u;
       }
 
   -- an entry whose sub-items were read
@@ -109,8 +110,8 @@ module _ (mode : Mode) where
   reads {p} {end} (item {left = n} {s = s} {rest = rest} {more = more} info held d h k x y) left l =
       let place : ℕ = end - length s.now in
       let i = reads x (left - 1) (omega arith) in
-      let o : info.offset ≡ le4 s.now 20 = offset_there mode (left - 1) s info h k i.read in
-      let q : below p place info.offset ≡ under p place (le4 s.now 20) = ap (below p place) o ∙ below_is p place (le4 s.now 20) d in
+      let o : info.field.offset ≡ le4 s.now 20 = offset_there mode (left - 1) s info h k i.read in
+      let q : below p place info.field.offset ≡ under p place (le4 s.now 20) = ap (below p place) o ∙ below_is p place (le4 s.now 20) d in
       subst (λ (x : Position). ReadsItems mode left p end s (suc n) rest (record { position = x; own = part s 0 (le4 s.now 0) } ∷ (held ++ more))) q
       (item_reads (left - 1) left p end n s rest more held info (omega arith) h k
       (subst (λ (x : Position). Reads mode (left - 1) x (place + le4 s.now 0) (part s 0 (le4 s.now 0)) info held) (sym q) i) (reads y left l))
@@ -151,8 +152,8 @@ module _ (mode : Mode) where
       (subst (λ (x : Bor (List ℕ)). Stand mode p end (Items x r.sub_items.count i.rest ms)) bytes s)) in
       let is : record_of e a.tail (length ms) ≡ r =
       sym (record_is e a.front a.tail (length ms) w.1)
-      ∙ ap₂ (λ (x : ArrayInfos) (y : Bor (List ℕ)). joined a.front x (sub_items_of a.front y) (length ms) a.tail) (sym f.arrays) (sym f.first)
-      ∙ ap (λ (n : ℕ). joined a.front a.arrays (sub_items_of a.front a.first) n a.tail) long ∙ a.is in
+      ∙ ap₂ (λ (x : ArrayInfos) (y : Bor (List ℕ)). record { field = joined a.front a.tail; arrays = x; sub_items = sub_items_of a.front y; member_count = length ms }) (sym f.arrays) (sym f.first)
+      ∙ ap (λ (n : ℕ). record { field = joined a.front a.tail; arrays = a.arrays; sub_items = sub_items_of a.front a.first; member_count = n }) long ∙ a.is in
       subst (λ (x : AdsDataTypeInfo). Stand mode p end (Entry e x ms)) is
       (entry a.items.rest a.tail w.0 room there (ap (λ (x : Front). tail_of mode x a.items.rest) w.1 ∙ a.tail_is))
 
@@ -169,7 +170,7 @@ module _ (mode : Mode) where
       let own : length t.own.now ≡ le4 s.now 0 = ap (λ (x : Bor (List ℕ)). length x.now) k.own_is ∙ length_in s 0 (le4 s.now 0) (omega (arith, k.room)) in
       let e = entry_stands t.deeper (here mode left s n i t above end) (end - length s.now + length t.own.now) t.own t.info inner held t.entry o p.1 p.0 in
       let place : ℕ = end - length s.now in
-      let off : t.info.offset ≡ le4 s.now 20 = offset_there mode t.deeper s t.info k.least k.room (subst (λ (x : Bor (List ℕ)). type_at mode t.deeper x ≡ Ok t.info) k.own_is t.entry) in
+      let off : t.info.field.offset ≡ le4 s.now 20 = offset_there mode t.deeper s t.info k.least k.room (subst (λ (x : Bor (List ℕ)). type_at mode t.deeper x ≡ Ok t.info) k.own_is t.entry) in
       let at : here mode left s n i t above end ≡ under above place (le4 s.now 20) = ap (below above place) off ∙ below_is above place (le4 s.now 20) (omega (arith, t.some)) in
       let e2 = subst (λ (x : Bor (List ℕ)). Stand mode (here mode left s n i t above end) (place + le4 s.now 0) (Entry x t.info held)) k.own_is
       (subst (λ (m : ℕ). Stand mode (here mode left s n i t above end) (place + m) (Entry t.own t.info held)) own e) in
@@ -194,14 +195,14 @@ module _ (mode : Mode) where
       entry_stands left p end e r o.items _ h o.read x.1 x.0
 
   root_stands : (e : Bor (List ℕ)) (r : AdsDataTypeInfo) → type_of mode e ≡ Ok r → Stand mode root (length e.now) (Entry e r (members_of r))
-  root_stands e r h = subst (λ (n : ℕ). Stand mode root n (Entry e r (members_below 15 root r.length r.sub_items.bytes r.sub_items.count))) (at_long mode 15 e r h) (entry_stand 15 root r.length e r refl h)
+  root_stands e r h = subst (λ (n : ℕ). Stand mode root n (Entry e r (members_below 15 root r.field.length r.sub_items.bytes r.sub_items.count))) (at_long mode 15 e r h) (entry_stand 15 root r.field.length e r refl h)
 
 root_reads : (mode : Mode) (s : Bor (List ℕ)) (r : AdsDataTypeInfo) (ms : List Member) → IsRoot mode s r ms → (parse_of 42 (type_of mode) s ≡ Ok r) × (members_of r ≡ ms)
 unfolding claim_of
 root_reads mode s r ms w =
     let x = reads mode w.stands 15 refl in
     let l : length (part s 0 (le4 s.now 0)).now ≡ le4 s.now 0 = length_in s 0 (le4 s.now 0) (omega (arith, w.room)) in
-    let n : r.length ≡ le4 s.now 0 = at_long mode 15 (part s 0 (le4 s.now 0)) r x.read ∙ l in (
+    let n : r.field.length ≡ le4 s.now 0 = at_long mode 15 (part s 0 (le4 s.now 0)) r x.read ∙ l in (
       simp (
         le-ltb limit (length s.now) w.small,
         le-ltb (length s.now) 42 (omega (arith, w.least, w.room)),

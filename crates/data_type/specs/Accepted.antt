@@ -7,10 +7,11 @@ use Rattle.field.specs.declared.front.Front.{Front}
 use Rattle.field.specs.declared.tail.Tail.{Tail}
 use Rattle.field.specs.Front.{with_strings, front_of}
 use Rattle.field.specs.Tail.{tail_of}
+use Rattle.field.specs.Field.{joined}
 use Rattle.data_type.specs.declared.AdsDataTypeInfo.{AdsDataTypeInfo}
 use Rattle.data_type.specs.declared.array.ArrayInfos.{ArrayInfos}
 use Rattle.data_type.specs.declared.reader.Items.{Items}
-use Rattle.data_type.specs.DataType.{joined, ItemReader, items_from, arrays_of, sub_items_of, type_with}
+use Rattle.data_type.specs.DataType.{ItemReader, items_from, arrays_of, sub_items_of, type_with}
 
 -- a step that was not the last
 pub and_then_ok : {A B E : Type 0} (r : Result A E) (next : A → Result B E) (b : B) → and_then r next ≡ Ok b → (a : A) × ((r ≡ Ok a) × (next a ≡ Ok b))
@@ -32,7 +33,7 @@ pub record Accepted (mode : Mode) (item : ItemReader) (e : Bor (List ℕ)) (r : 
   pub arrays_are : arrays_of front ≡ Ok (arrays, first)
   pub items_are : items_from item first front.sub_item_count ≡ Ok items
   pub tail_is : tail_of mode front items.rest ≡ Ok tail
-  pub is : joined front arrays (sub_items_of front first) items.members tail ≡ r
+  pub is : record { field = joined front tail; arrays = arrays; sub_items = sub_items_of front first; member_count = items.members } ≡ r
 
 pub accepted : (mode : Mode) (item : ItemReader) (e : Bor (List ℕ)) (r : AdsDataTypeInfo) → type_with mode item e ≡ Ok r → Accepted mode item e r
 unfolding type_with

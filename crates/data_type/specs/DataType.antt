@@ -12,31 +12,11 @@ use Rattle.field.specs.declared.front.Front.{Front}
 use Rattle.field.specs.declared.tail.Tail.{Tail}
 use Rattle.field.specs.Front.{front_of}
 use Rattle.field.specs.Tail.{tail_of}
+use Rattle.field.specs.Field.{joined}
 use Rattle.data_type.specs.declared.AdsDataTypeInfo.{AdsDataTypeInfo}
 use Rattle.data_type.specs.declared.SubItems.{SubItems}
 use Rattle.data_type.specs.declared.array.ArrayInfos.{ArrayInfos}
 use Rattle.data_type.specs.declared.reader.Items.{Items}
-
-abbrev pub joined : Front → ArrayInfos → SubItems → ℕ → Tail → AdsDataTypeInfo
-joined f arrays sub_items member_count t =
-    record {
-      length = f.length;
-      version = f.version;
-      hash_value = f.hash_value;
-      type_hash_value = f.type_hash_value;
-      size = f.size;
-      offset = f.offset;
-      type_id = f.type_id;
-      flags = f.flags;
-      name = f.name;
-      type_name = f.type_name;
-      comment = f.comment;
-      guid = t.guid;
-      attributes = t.attributes;
-      arrays = arrays;
-      sub_items = sub_items;
-      member_count = member_count;
-    }
 
 -- the own bytes of the sub-item at the start of some bytes of its parent, and the bytes behind it: 2 for fewer than 4 bytes, 3 for a claim that leaves
 -- the parent, 4 for one below the header
@@ -72,7 +52,7 @@ type_with mode item e =
     and_then (front_of mode e) (λ f.
     and_then (arrays_of f) (λ a.
     and_then (items_from item a.1 f.sub_item_count) (λ items.
-    and_then (tail_of mode f items.rest) (λ t. Ok (joined f a.0 (sub_items_of f a.1) items.members t)))))
+    and_then (tail_of mode f items.rest) (λ t. Ok (record { field = joined f t; arrays = a.0; sub_items = sub_items_of f a.1; member_count = items.members })))))
 
 -- a sub-item at the deepest level is refused before anything of it is looked at
 abbrev pub too_deep : ItemReader

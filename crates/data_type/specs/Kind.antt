@@ -15,17 +15,17 @@ use Rattle.data_type.specs.Own.{type_own}
 pub four : 4 < 42
 four = omega arith
 
-with_long : (mode : Mode) (item : ItemReader) (e : Bor (List ℕ)) (r : AdsDataTypeInfo) → type_with mode item e ≡ Ok r → r.length ≡ length e.now
+with_long : (mode : Mode) (item : ItemReader) (e : Bor (List ℕ)) (r : AdsDataTypeInfo) → type_with mode item e ≡ Ok r → r.field.length ≡ length e.now
 with_long mode item e r h =
     let a = accepted mode item e r h in
-    sym (ap (λ (x : AdsDataTypeInfo). x.length) a.is) ∙ front_long mode e a.front a.front_is
+    sym (ap (λ (x : AdsDataTypeInfo). x.field.length) a.is) ∙ front_long mode e a.front a.front_is
 
-pub at_long : (mode : Mode) (left : ℕ) (e : Bor (List ℕ)) (r : AdsDataTypeInfo) → type_at mode left e ≡ Ok r → r.length ≡ length e.now
+pub at_long : (mode : Mode) (left : ℕ) (e : Bor (List ℕ)) (r : AdsDataTypeInfo) → type_at mode left e ≡ Ok r → r.field.length ≡ length e.now
 unfolding type_at
 at_long mode zero e r h = with_long mode _ e r h
 at_long mode (suc left) e r h = with_long mode _ e r h
 
-pub long : (mode : Mode) (e : Bor (List ℕ)) (r : AdsDataTypeInfo) → type_of mode e ≡ Ok r → r.length ≡ length e.now
+pub long : (mode : Mode) (e : Bor (List ℕ)) (r : AdsDataTypeInfo) → type_of mode e ≡ Ok r → r.field.length ≡ length e.now
 long mode e r h = at_long mode 15 e r h
 
 pub room : (mode : Mode) (e : Bor (List ℕ)) (r : AdsDataTypeInfo) → type_of mode e ≡ Ok r → 42 ≤ length e.now

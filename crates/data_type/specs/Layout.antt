@@ -38,19 +38,21 @@ front e = with_strings e (le2 e.now 32) (le2 e.now 34) (le2 e.now 36)
 abbrev pub record_of : Bor (List ℕ) → Tail → ℕ → AdsDataTypeInfo
 record_of e tail members =
     record {
-      length = length e.now;
-      version = le4 e.now 4;
-      hash_value = le4 e.now 8;
-      type_hash_value = le4 e.now 12;
-      size = le4 e.now 16;
-      offset = le4 e.now 20;
-      type_id = le4 e.now 24;
-      flags = record { 0 = le4 e.now 28 };
-      name = part e 42 (le2 e.now 32);
-      type_name = part e (43 + le2 e.now 32) (le2 e.now 34);
-      comment = part e (44 + le2 e.now 32 + le2 e.now 34) (le2 e.now 36);
-      guid = tail.guid;
-      attributes = tail.attributes;
+      field = record {
+        length = length e.now;
+        version = le4 e.now 4;
+        hash_value = le4 e.now 8;
+        type_hash_value = le4 e.now 12;
+        size = le4 e.now 16;
+        offset = le4 e.now 20;
+        type_id = le4 e.now 24;
+        flags = record { 0 = le4 e.now 28 };
+        name = part e 42 (le2 e.now 32);
+        type_name = part e (43 + le2 e.now 32) (le2 e.now 34);
+        comment = part e (44 + le2 e.now 32 + le2 e.now 34) (le2 e.now 36);
+        guid = tail.guid;
+        attributes = tail.attributes;
+      };
       arrays = record { bytes = part e (strings_end e.now) (8 * le2 e.now 38); count = le2 e.now 38 };
       sub_items = record { bytes = after e (arrays_end e.now); count = le2 e.now 40 };
       member_count = members;

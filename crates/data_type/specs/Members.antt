@@ -48,7 +48,7 @@ members_below (suc left) above end s count =
 
 -- of a record
 abbrev pub members_of : AdsDataTypeInfo → List Member
-members_of r = members_below levels root r.length r.sub_items.bytes r.sub_items.count
+members_of r = members_below levels root r.field.length r.sub_items.bytes r.sub_items.count
 
 -- the one with a number, counted from 0
 abbrev pub numbered : AdsDataTypeInfo → ℕ → Result Member Refusal

@@ -5,7 +5,6 @@ use Rattle.le.specs.Le.{le2, le4}
 use Rattle.refusal.specs.declared.Mode.{Mode}
 use Rattle.refusal.specs.declared.Refusal.TheVariants.{NoSuchNumber}
 use Rattle.walk.specs.Step.{parse_of}
-use Rattle.field.specs.declared.AdsFieldInfo.{AdsFieldInfo}
 use Rattle.field.specs.Field.{field_of}
 use Rattle.data_type.specs.declared.AdsDataTypeInfo.{AdsDataTypeInfo}
 use Rattle.data_type.specs.declared.array.AdsArrayInfo.{AdsArrayInfo}
@@ -13,28 +12,9 @@ use Rattle.data_type.specs.Array.{numbered}
 use Rattle.data_type.specs.DataType.{type_of}
 use Rattle.data_type.specs.Layout.{strings_end}
 
--- what a field's record says of a data type
-abbrev pub as_field : AdsDataTypeInfo → AdsFieldInfo
-as_field r =
-    record {
-      length = r.length;
-      version = r.version;
-      hash_value = r.hash_value;
-      type_hash_value = r.type_hash_value;
-      size = r.size;
-      offset = r.offset;
-      type_id = r.type_id;
-      flags = r.flags;
-      name = r.name;
-      type_name = r.type_name;
-      comment = r.comment;
-      guid = r.guid;
-      attributes = r.attributes;
-    }
-
--- what this reader accepts the field reader accepts, with the same record: both take the same bytes for array records, sub-items and tail
+-- what this reader accepts the field reader accepts, with the record's field: both take the same bytes for array records, sub-items and tail
 abbrev pub TypesAsFields : Type 0
-TypesAsFields = (mode : Mode) (s : Bor (List ℕ)) (r : AdsDataTypeInfo) → parse_of 42 (type_of mode) s ≡ Ok r → parse_of 42 (field_of mode) s ≡ Ok (as_field r)
+TypesAsFields = (mode : Mode) (s : Bor (List ℕ)) (r : AdsDataTypeInfo) → parse_of 42 (type_of mode) s ≡ Ok r → parse_of 42 (field_of mode) s ≡ Ok r.field
 
 abbrev pub array_at : List ℕ → ℕ → AdsArrayInfo
 array_at s at = record { lower_bound = le4 s at; elements = le4 s (at + 4) }

@@ -107,7 +107,7 @@ pub fn list(bytes: &[u8], mode: Mode, slots: &mut [u64]) -> Result<usize, Refusa
     let all = Run {
         bytes: info.sub_items.bytes,
         count: info.sub_items.count,
-        end: info.length,
+        end: info.field.length,
         depth: 1,
         offset: 0,
     };

@@ -176,7 +176,7 @@ impl<'a> AdsDataTypeInfo<'a> {
         ensures { members_left result ≡ members_of self.now }
     {
         let items = self.sub_items;
-        let first = Level::first(items.bytes, self.length, items.count);
+        let first = Level::first(items.bytes, self.field.length, items.count);
         Members {
             bytes: items.bytes,
             levels: [first; 15],

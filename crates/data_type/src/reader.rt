@@ -6,6 +6,7 @@ ghost use Rattle.data_type.specs.DataType.{taken, arrays_of, item_at, items_from
 
 use crate::array::ArrayInfos;
 use crate::{AdsDataTypeInfo, SubItems};
+use field::AdsFieldInfo;
 use field::front::Front;
 use field::tail::Tail;
 use refusal::{Mode, Refusal};
@@ -97,7 +98,12 @@ pub(crate) fn read_entry(
         count: front.sub_item_count,
     };
     let tail = Tail::read(&front, items.rest, mode)?;
-    Ok(AdsDataTypeInfo::joined(&front, arrays, sub_items, items.members, tail))
+    Ok(AdsDataTypeInfo {
+        field: AdsFieldInfo::joined(front, tail),
+        arrays,
+        sub_items,
+        member_count: items.members,
+    })
 }
 
 /// So many sub-items at the start of some bytes. A loop, since there may be 65,535 of them.

@@ -60,18 +60,18 @@ record Told : Type 0 where
 abbrev told_of : AdsDataTypeInfo → Told
 told_of r =
     record {
-      version = r.version;
-      hash_value = r.hash_value;
-      type_hash_value = r.type_hash_value;
-      size = r.size;
-      offset = r.offset;
-      type_id = r.type_id;
-      flags = r.flags.0;
-      name = r.name.now;
-      type_name = r.type_name.now;
-      comment = r.comment.now;
-      guid = r.guid;
-      attributes = attributes.told (listed r.attributes.bytes r.attributes.count);
+      version = r.field.version;
+      hash_value = r.field.hash_value;
+      type_hash_value = r.field.type_hash_value;
+      size = r.field.size;
+      offset = r.field.offset;
+      type_id = r.field.type_id;
+      flags = r.field.flags.0;
+      name = r.field.name.now;
+      type_name = r.field.type_name.now;
+      comment = r.field.comment.now;
+      guid = r.field.guid;
+      attributes = attributes.told (listed r.field.attributes.bytes r.field.attributes.count);
       arrays = left r.arrays;
       sub_items = r.sub_items.count;
       member_count = r.member_count;

@@ -8,14 +8,13 @@ use Rattle.field.specs.Placed.{attributes_from}
 use Rattle.data_type.specs.declared.AdsDataTypeInfo.{AdsDataTypeInfo}
 use Rattle.data_type.specs.DataType.{type_of}
 use Rattle.places.specs.declared.AttributePlaces.{AttributePlaces}
-use Rattle.data_type.specs.Theorems.{as_field}
 use Rattle.places.specs.declared.of_field.PlacedField.{PlacedField}
 use Rattle.places.specs.declared.of_type.PlacedType.{PlacedType}
 use Rattle.places.specs.Entry.{entry_attribute, entry_attribute_named}
 
 -- what it has as a field has it
 abbrev pub field_of_type : PlacedType → PlacedField
-field_of_type p = record { field = as_field p.data_type; attributes_at = p.attributes_at }
+field_of_type p = record { field = p.data_type.field; attributes_at = p.attributes_at }
 
 -- a data type with that place
 abbrev pub placed : Bor (List ℕ) → AdsDataTypeInfo → PlacedType
@@ -26,7 +25,7 @@ placed_of mode e = map_ok (placed e) (type_of mode e)
 
 -- the reading refusals, then 14, or 13 of a name
 abbrev pub type_attribute : Mode → Bor (List ℕ) → ℕ → Result AttributePlaces Refusal
-type_attribute mode s number = entry_attribute 42 (type_of mode) (λ r. r.attributes) s number
+type_attribute mode s number = entry_attribute 42 (type_of mode) (λ r. r.field.attributes) s number
 
 abbrev pub type_attribute_named : Mode → Bor (List ℕ) → List ℕ → Result AttributePlaces Refusal
-type_attribute_named mode s name = entry_attribute_named 42 (type_of mode) (λ r. r.attributes) s name
+type_attribute_named mode s name = entry_attribute_named 42 (type_of mode) (λ r. r.field.attributes) s name

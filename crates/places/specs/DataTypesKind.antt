@@ -8,7 +8,6 @@ use Rattle.walk.specs.Mapped.{map_ok}
 use Rattle.walk.specs.Zero.{is_zero}
 use Rattle.data_type.specs.declared.AdsDataTypeInfo.{AdsDataTypeInfo}
 use Rattle.data_type.specs.DataType.{levels, type_of}
-use Rattle.data_type.specs.Theorems.{as_field}
 use Rattle.data_type.specs.Kind as kind
 use Rattle.data_type.proofs.AsField.{entry_as_field}
 use Rattle.places.specs.declared.of_type.PlacedType.{PlacedType}
@@ -19,8 +18,8 @@ use Rattle.places.specs.DataTypes.{placed, placed_of}
 pub four : 4 < 42
 four = kind.four
 
-pub attributes_at_end : (mode : Mode) (e : Bor (List ℕ)) (r : AdsDataTypeInfo) → type_of mode e ≡ Ok r → IsEnd e r.attributes.bytes
-attributes_at_end mode e r h = field.attributes_at_end mode e (as_field r) (entry_as_field mode levels e r h)
+pub attributes_at_end : (mode : Mode) (e : Bor (List ℕ)) (r : AdsDataTypeInfo) → type_of mode e ≡ Ok r → IsEnd e r.field.attributes.bytes
+attributes_at_end mode e r h = field.attributes_at_end mode e r.field (entry_as_field mode levels e r h)
 
 -- what is placed was read
 pub read_of : (mode : Mode) (e : Bor (List ℕ)) (r : PlacedType) → placed_of mode e ≡ Ok r → type_of mode e ≡ Ok r.data_type
@@ -39,7 +38,7 @@ refused_of mode e why h = by (type_of mode e) h
     by (Ok x) h = cc
     by (Err x) h = cc
 
-pub long : (mode : Mode) (e : Bor (List ℕ)) (r : PlacedType) → placed_of mode e ≡ Ok r → r.data_type.length ≡ length e.now
+pub long : (mode : Mode) (e : Bor (List ℕ)) (r : PlacedType) → placed_of mode e ≡ Ok r → r.data_type.field.length ≡ length e.now
 long mode e r h = kind.long mode e r.data_type (read_of mode e r h)
 
 pub room : (mode : Mode) (e : Bor (List ℕ)) (r : PlacedType) → placed_of mode e ≡ Ok r → 42 ≤ length e.now

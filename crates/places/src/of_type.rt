@@ -7,7 +7,6 @@ use crate::of_entry::Attributed;
 use crate::of_field::{PlacedField, attributes_before_end};
 use attribute::Attributes;
 use data_type::AdsDataTypeInfo;
-use field::AdsFieldInfo;
 use refusal::{Mode, Refusal};
 use walk::Entry;
 
@@ -25,23 +24,8 @@ impl<'a> PlacedType<'a> {
     pub fn as_field(&self) -> PlacedField<'a>
         ensures { result ≡ field_of_type self.now }
     {
-        let own = &self.data_type;
         PlacedField {
-            field: AdsFieldInfo {
-                length: own.length,
-                version: own.version,
-                hash_value: own.hash_value,
-                type_hash_value: own.type_hash_value,
-                size: own.size,
-                offset: own.offset,
-                type_id: own.type_id,
-                flags: own.flags,
-                name: own.name,
-                type_name: own.type_name,
-                comment: own.comment,
-                guid: own.guid,
-                attributes: own.attributes,
-            },
+            field: self.data_type.field,
             attributes_at: self.attributes_at,
         }
     }
@@ -52,7 +36,7 @@ impl<'a> Entry<'a> for PlacedType<'a> {
 
     ghost read = { placed_of };
 
-    ghost length_of = { λ r. r.data_type.length };
+    ghost length_of = { λ r. r.data_type.field.length };
 
     ghost four = { four };
 
@@ -73,7 +57,7 @@ impl<'a> Entry<'a> for PlacedType<'a> {
     #[inline(always)]
     fn read(own: &'a [u8], mode: Mode) -> Result<Self, Refusal> {
         let data_type = AdsDataTypeInfo::read(own, mode)?;
-        let attributes_at = attributes_before_end(own, data_type.attributes.bytes.len());
+        let attributes_at = attributes_before_end(own, data_type.field.attributes.bytes.len());
         Ok(PlacedType {
             data_type,
             attributes_at,
@@ -82,10 +66,10 @@ impl<'a> Entry<'a> for PlacedType<'a> {
 }
 
 impl<'a> Attributed<'a> for AdsDataTypeInfo<'a> {
-    ghost shown = { λ r. r.attributes };
+    ghost shown = { λ r. r.field.attributes };
 
     fn shown(&self) -> Attributes<'a> {
-        self.attributes
+        self.field.attributes
     }
 
     ghost at_end = { attributes_at_end };

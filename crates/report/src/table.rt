@@ -13,8 +13,8 @@ type Widths = [usize; 9];
 
 const HEADINGS: Widths = [5, 4, 4, 4, 5, 6, 5, 6, 4];
 
-// How many digits a number has in a base.
-fn digits(number: usize, base: usize) -> usize
+/// How many digits a number has in a base.
+pub fn digits(number: usize, base: usize) -> usize
     ensures { result ≤ 20 }
 {
     let mut rest = number;

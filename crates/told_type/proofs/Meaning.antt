@@ -20,7 +20,6 @@ use Rattle.data_type.specs.Accepted.{and_then_ok}
 use Rattle.data_type.specs.Array as array
 use Rattle.data_type.specs.DataType.{levels, arrays_of, type_of}
 use Rattle.data_type.specs.Members.{members_of, numbered}
-use Rattle.data_type.specs.Theorems.{as_field}
 use Rattle.data_type.proofs.AsField.{entry_as_field}
 use Rattle.data_type.proofs.Inside.{accepted_at, counted}
 use Rattle.data_type.proofs.Meant.{types_meant}
@@ -50,18 +49,18 @@ filled f a h = (grind arith, grind arith)
 type_told : (mode : Mode) (e : Bor (List ℕ)) (r : AdsDataTypeInfo) → type_of mode e ≡ Ok r → TypeTold e r (λ k. get_or (type_slots (placed e r)) k 0) (type_guid (placed e r))
 unfolding type_slots field_slots
 type_told mode e r h =
-    let f = field_told mode e (as_field r) (entry_as_field mode levels e r h) in
+    let f = field_told mode e r.field (entry_as_field mode levels e r h) in
     let a = accepted_at mode levels e r h in
     let c = front_counts mode e a.front a.front_is in
     let b = filled a.front (a.arrays, a.first) a.arrays_are in
     let arrays : r.arrays ≡ a.arrays = sym (ap (λ (x : AdsDataTypeInfo). x.arrays) a.is) in
     let count : r.arrays.count ≡ a.front.array_count = ap (λ (x : ArrayInfos). x.count) arrays ∙ b.1 in
-    let at : 45 + le2 e.now 32 + le2 e.now 34 + le2 e.now 36 ≡ 45 + length r.name.now + length r.type_name.now + length r.comment.now = omega (arith, f.name_len, f.type_name_len, f.comment_len) in
-    let bytes : r.arrays.bytes ≡ part (after e (45 + length r.name.now + length r.type_name.now + length r.comment.now)) 0 (8 * r.arrays.count) =
+    let at : 45 + le2 e.now 32 + le2 e.now 34 + le2 e.now 36 ≡ 45 + length r.field.name.now + length r.field.type_name.now + length r.field.comment.now = omega (arith, f.name_len, f.type_name_len, f.comment_len) in
+    let bytes : r.arrays.bytes ≡ part (after e (45 + length r.field.name.now + length r.field.type_name.now + length r.field.comment.now)) 0 (8 * r.arrays.count) =
     ap (λ (x : ArrayInfos). x.bytes) arrays
     ∙ b.0
     ∙ ap (λ (s : Bor (List ℕ)). part s 0 (8 * a.front.array_count)) (c.0 ∙ ap (after e) at)
-    ∙ ap (λ (n : ℕ). part (after e (45 + length r.name.now + length r.type_name.now + length r.comment.now)) 0 (8 * n)) (sym count) in
+    ∙ ap (λ (n : ℕ). part (after e (45 + length r.field.name.now + length r.field.type_name.now + length r.field.comment.now)) 0 (8 * n)) (sym count) in
     record {
       as_of_field = record {
         whole = f.whole;
@@ -83,7 +82,7 @@ type_told mode e r h =
         attributes = f.attributes;
         attribute_count = f.attribute_count;
       };
-      arrays = sym (bytes ∙ part_after e (45 + length r.name.now + length r.type_name.now + length r.comment.now) 0 (45 + length r.name.now + length r.type_name.now + length r.comment.now) (8 * r.arrays.count) (omega arith));
+      arrays = sym (bytes ∙ part_after e (45 + length r.field.name.now + length r.field.type_name.now + length r.field.comment.now) 0 (45 + length r.field.name.now + length r.field.type_name.now + length r.field.comment.now) (8 * r.arrays.count) (omega arith));
       array_count = count ∙ c.1;
       item_count = sym (ap (λ (x : AdsDataTypeInfo). x.sub_items.count) a.is) ∙ c.2;
       member_count = sym (counted mode e r h);

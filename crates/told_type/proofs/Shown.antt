@@ -8,7 +8,6 @@ use Rattle.field.proofs.Within.{fields_within}
 use Rattle.data_type.specs.Accepted.{and_then_ok}
 use Rattle.data_type.specs.DataType.{levels, type_of}
 use Rattle.data_type.specs.Members.{numbered}
-use Rattle.data_type.specs.Theorems.{as_field}
 use Rattle.data_type.proofs.AsField.{entry_as_field}
 use Rattle.places.specs.declared.of_type.PlacedType.{PlacedType}
 use Rattle.places.specs.DataTypes.{placed_of}
@@ -20,7 +19,7 @@ use Rattle.told_type.specs.Shown.{IsTypeShown}
 
 pub type_shown : (mode : Mode) (e : Bor (List ℕ)) (p : PlacedType) → placed_of mode e ≡ Ok p → IsTypeShown p
 type_shown mode e p h =
-    let w : IsWithin e (as_field p.data_type) = fields_within mode e (as_field p.data_type) (entry_as_field mode levels e p.data_type (read_of mode e p h)) in
+    let w : IsWithin e p.data_type.field = fields_within mode e p.data_type.field (entry_as_field mode levels e p.data_type (read_of mode e p h)) in
     omega (arith, w.room, w.long)
 
 pub parsed_shown : (mode : Mode) (s : Bor (List ℕ)) (p : PlacedType) → parse_of 42 (placed_of mode) s ≡ Ok p → IsTypeShown p

@@ -11,7 +11,6 @@ use Rattle.data_type.specs.declared.AdsDataTypeInfo.{AdsDataTypeInfo}
 use Rattle.data_type.specs.declared.array.AdsArrayInfo.{AdsArrayInfo}
 use Rattle.data_type.specs.DataType.{type_of}
 use Rattle.data_type.specs.Members.{members_of}
-use Rattle.data_type.specs.Theorems.{as_field}
 use Rattle.places.specs.declared.of_type.PlacedType.{PlacedType}
 use Rattle.places.specs.DataTypes.{placed_of}
 use Rattle.told.specs.Meaning.{FieldTold}
@@ -21,7 +20,7 @@ use Rattle.told_type.specs.Slots.{type_slots, type_guid, array_slots, member_slo
 
 -- a data type, of its entry's own bytes: first what a field says, then the array records, 8 bytes each, and how many entries stand in it and below it
 pub record TypeTold (e : Bor (List ℕ)) (r : AdsDataTypeInfo) (slot : ℕ → ℕ) (guid : List ℕ) : Type 0 where
-  pub as_of_field : FieldTold e (as_field r) slot guid
+  pub as_of_field : FieldTold e r.field slot guid
   pub arrays : part e (slot 17) (8 * slot 18) ≡ r.arrays.bytes
   pub array_count : slot 18 ≡ le2 e.now 38
   pub item_count : slot 19 ≡ le2 e.now 40

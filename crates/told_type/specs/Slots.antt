@@ -9,7 +9,7 @@ use Rattle.told_type.specs.declared.PlacedMember.{PlacedMember}
 
 -- where the strings end, and the array records begin
 abbrev pub arrays_at : AdsDataTypeInfo → ℕ
-arrays_at r = 45 + length r.name.now + length r.type_name.now + length r.comment.now
+arrays_at r = 45 + length r.field.name.now + length r.field.type_name.now + length r.field.comment.now
 
 -- those of a field, and what a data type has besides
 unfoldable pub type_slots : PlacedType → List ℕ
@@ -18,7 +18,7 @@ type_slots p =
     ++ (arrays_at p.data_type ∷ p.data_type.arrays.count ∷ p.data_type.sub_items.count ∷ p.data_type.member_count ∷ [])
 
 abbrev pub type_guid : PlacedType → List ℕ
-type_guid p = guid_bytes p.data_type.guid
+type_guid p = guid_bytes p.data_type.field.guid
 
 abbrev pub array_slots : AdsArrayInfo → List ℕ
 array_slots a = a.lower_bound ∷ a.elements ∷ []

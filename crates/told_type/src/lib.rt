@@ -53,7 +53,7 @@ fn type_slots(placed: &PlacedType<'_>) -> [u64; 21]
         f[14],
         f[15],
         f[16],
-        (45 + own.name.len() + own.type_name.len() + own.comment.len()) as u64,
+        (45 + own.field.name.len() + own.field.type_name.len() + own.field.comment.len()) as u64,
         own.arrays.count as u64,
         own.sub_items.count as u64,
         own.member_count as u64,
@@ -74,7 +74,7 @@ fn data_type(
     ensures guid_after { guid.new ≡ type_guid placed.now }
 {
     *slots = type_slots(placed);
-    *guid = placed.data_type.guid.unwrap_or([0; 16]);
+    *guid = placed.data_type.field.guid.unwrap_or([0; 16]);
     told::tell(told::DONE, 0, 0, answer)
 }
 

@@ -13,11 +13,14 @@ use Rattle.walk.specs.Mapped.{map_ok}
 use Rattle.attribute.specs.declared.Attributes.{Attributes}
 use Rattle.attribute.specs.Told as attributes
 use Rattle.field.specs.declared.tail.Tail.{Tail}
+use Rattle.field.specs.declared.front.Front.{Front}
 use Rattle.field.specs.Front.{with_strings, front_of}
 use Rattle.field.specs.Tail.{tail_of}
+use Rattle.field.specs.Field.{joined}
 use Rattle.field.specs.Told as field
 use Rattle.data_type.specs.declared.AdsDataTypeInfo.{AdsDataTypeInfo}
 use Rattle.data_type.specs.declared.array.AdsArrayInfo.{AdsArrayInfo}
+use Rattle.data_type.specs.declared.SubItems.{SubItems}
 use Rattle.data_type.specs.declared.array.ArrayInfos.{ArrayInfos}
 use Rattle.data_type.specs.declared.members.Item.{Item}
 use Rattle.data_type.specs.declared.members.Member.{Member}
@@ -25,8 +28,7 @@ use Rattle.data_type.specs.declared.members.Position.{Position}
 use Rattle.data_type.specs.declared.reader.Items.{Items}
 use Rattle.data_type.specs.Array.{listed, first_of}
 use Rattle.data_type.specs.Members.{root, below, item_in, each, members_below}
-use Rattle.data_type.specs.DataType.{joined, taken, ItemReader, items_from, arrays_of, sub_items_of, type_with, too_deep, item_by, type_at, levels, type_of}
-use Rattle.data_type.specs.Theorems.{as_field}
+use Rattle.data_type.specs.DataType.{taken, ItemReader, items_from, arrays_of, sub_items_of, type_with, too_deep, item_by, type_at, levels, type_of}
 use Rattle.types_regrown.specs.Told.{ToldMember, told_member, Told, told_of}
 use Rattle.types_damaged.specs.Anywhere.{moved, on, tail_moved, front_moved, attributes_at, attributes_told}
 
@@ -162,6 +164,9 @@ module _ (item : ItemReader) (alike : (m : ℕ × ℕ) (s : Bor (List ℕ)) → 
 abbrev Types : Result AdsDataTypeInfo Refusal → Result AdsDataTypeInfo Refusal → Type 0
 Types x y = ((why : Refusal) × (x ≡ Err why) × (y ≡ Err why)) ⊎ ((q : AdsDataTypeInfo) × (r : AdsDataTypeInfo) × (x ≡ Ok q) × (y ≡ Ok r) × (told_of q ≡ told_of r))
 
+abbrev record_with : Front → ArrayInfos → SubItems → ℕ → Tail → AdsDataTypeInfo
+record_with f arrays sub_items members t = record { field = joined f t; arrays = arrays; sub_items = sub_items; member_count = members }
+
 module _ (mode : Mode) (m : ℕ × ℕ) (e : Bor (List ℕ)) (n t k : ℕ) where
   abbrev there : ℕ × ℕ
   there = on m (45 + n + t + k)
@@ -173,20 +178,20 @@ module _ (mode : Mode) (m : ℕ × ℕ) (e : Bor (List ℕ)) (n t k : ℕ) where
   tail_made g x = record { guid = g; attributes = x }
 
   joined_told : (members : ℕ) (g : Option (List ℕ)) (l : ℕ × ℕ) (x : Attributes)
-      → told_of (joined (with_strings (moved m e) n t k) (arrays_in (le2 e.now 38) (moved there rest)) (sub_items_of (with_strings (moved m e) n t k) (after (moved there rest) (8 * le2 e.now 38))) members (tail_made g (attributes_at l x)))
-      ≡ told_of (joined (with_strings e n t k) (arrays_in (le2 e.now 38) rest) (sub_items_of (with_strings e n t k) (after rest (8 * le2 e.now 38))) members (tail_made g x))
+      → told_of (record_with (with_strings (moved m e) n t k) (arrays_in (le2 e.now 38) (moved there rest)) (sub_items_of (with_strings (moved m e) n t k) (after (moved there rest) (8 * le2 e.now 38))) members (tail_made g (attributes_at l x)))
+      ≡ told_of (record_with (with_strings e n t k) (arrays_in (le2 e.now 38) rest) (sub_items_of (with_strings e n t k) (after rest (8 * le2 e.now 38))) members (tail_made g x))
   unfolding with_strings
   joined_told members g l x =
-      let r : AdsDataTypeInfo = joined (with_strings e n t k) (arrays_in (le2 e.now 38) rest) (sub_items_of (with_strings e n t k) (after rest (8 * le2 e.now 38))) members (tail_made g x) in
-      ap (λ (all : List attributes.Told). record (told_of r) { field = record (field.told_of (as_field r)) { attributes = all }; arrays = listed (part (moved there rest) 0 (8 * le2 e.now 38)) (le2 e.now 38); members = map told_member (members_below levels root (length e.now) (after (moved there rest) (8 * le2 e.now 38)) (le2 e.now 40)) }) (attributes_told l x.bytes x.count)
+      let r : AdsDataTypeInfo = record_with (with_strings e n t k) (arrays_in (le2 e.now 38) rest) (sub_items_of (with_strings e n t k) (after rest (8 * le2 e.now 38))) members (tail_made g x) in
+      ap (λ (all : List attributes.Told). record (told_of r) { field = record (field.told_of r.field) { attributes = all }; arrays = listed (part (moved there rest) 0 (8 * le2 e.now 38)) (le2 e.now 38); members = map told_member (members_below levels root (length e.now) (after (moved there rest) (8 * le2 e.now 38)) (le2 e.now 40)) }) (attributes_told l x.bytes x.count)
       ∙ ap₂ (λ (all : List AdsArrayInfo) (ms : List ToldMember). record (told_of r) { arrays = all; members = ms })
       (arrays_told (on there 0) (part rest 0 (8 * le2 e.now 38)) (le2 e.now 38))
       (members_told levels root (length e.now) (on there (8 * le2 e.now 38)) (after rest (8 * le2 e.now 38)) (le2 e.now 40))
 
   type_tail : (members : ℕ) (a b : Result Tail Refusal) (p : ℕ × ℕ) (s : Bor (List ℕ)) → tail_of mode (with_strings (moved m e) n t k) (moved p s) ≡ a → tail_of mode (with_strings e n t k) s ≡ b
       → Types
-      (and_then (tail_of mode (with_strings (moved m e) n t k) (moved p s)) (λ x. Ok (joined (with_strings (moved m e) n t k) (arrays_in (le2 e.now 38) (moved there rest)) (sub_items_of (with_strings (moved m e) n t k) (after (moved there rest) (8 * le2 e.now 38))) members x)))
-      (and_then (tail_of mode (with_strings e n t k) s) (λ x. Ok (joined (with_strings e n t k) (arrays_in (le2 e.now 38) rest) (sub_items_of (with_strings e n t k) (after rest (8 * le2 e.now 38))) members x)))
+      (and_then (tail_of mode (with_strings (moved m e) n t k) (moved p s)) (λ x. Ok (record_with (with_strings (moved m e) n t k) (arrays_in (le2 e.now 38) (moved there rest)) (sub_items_of (with_strings (moved m e) n t k) (after (moved there rest) (8 * le2 e.now 38))) members x)))
+      (and_then (tail_of mode (with_strings e n t k) s) (λ x. Ok (record_with (with_strings e n t k) (arrays_in (le2 e.now 38) rest) (sub_items_of (with_strings e n t k) (after rest (8 * le2 e.now 38))) members x)))
   type_tail members a b p s h i = elim (tail_moved mode m e n t k p s) [
     | inl w ↦ rw (w.1, w.2) (inl (w.0, refl, refl))
     | inr w ↦ rw (w.3, w.4) (inr (_, _, refl, refl, joined_told members w.0 w.1 w.2))
@@ -194,8 +199,8 @@ module _ (mode : Mode) (m : ℕ × ℕ) (e : Bor (List ℕ)) (n t k : ℕ) where
 
   module _ (item : ItemReader) (alike : (m : ℕ × ℕ) (s : Bor (List ℕ)) → Read (item (moved m s)) (item s)) where
     type_front : Types
-        (and_then (arrays_of (with_strings (moved m e) n t k)) (λ a. and_then (items_from item a.1 (le2 e.now 40)) (λ items. and_then (tail_of mode (with_strings (moved m e) n t k) items.rest) (λ x. Ok (joined (with_strings (moved m e) n t k) a.0 (sub_items_of (with_strings (moved m e) n t k) a.1) items.members x)))))
-        (and_then (arrays_of (with_strings e n t k)) (λ a. and_then (items_from item a.1 (le2 e.now 40)) (λ items. and_then (tail_of mode (with_strings e n t k) items.rest) (λ x. Ok (joined (with_strings e n t k) a.0 (sub_items_of (with_strings e n t k) a.1) items.members x)))))
+        (and_then (arrays_of (with_strings (moved m e) n t k)) (λ a. and_then (items_from item a.1 (le2 e.now 40)) (λ items. and_then (tail_of mode (with_strings (moved m e) n t k) items.rest) (λ x. Ok (record_with (with_strings (moved m e) n t k) a.0 (sub_items_of (with_strings (moved m e) n t k) a.1) items.members x)))))
+        (and_then (arrays_of (with_strings e n t k)) (λ a. and_then (items_from item a.1 (le2 e.now 40)) (λ items. and_then (tail_of mode (with_strings e n t k) items.rest) (λ x. Ok (record_with (with_strings e n t k) a.0 (sub_items_of (with_strings e n t k) a.1) items.members x)))))
     type_front = elim (arrays_moved m e n t k) [
       | inl w ↦ rw (w.1, w.2) (inl (w.0, refl, refl))
       | inr w ↦ rw (w.0, w.1) (elim (items_counted item alike (le2 e.now 40) (on there (8 * le2 e.now 38)) (after rest (8 * le2 e.now 38))) [

@@ -65,7 +65,7 @@ pub fn types_in_place()
 
 /// Wherever the two uploads lie, all that is told of other data types is the same.
 pub fn types_anywhere()
-    ensures { (mode : Mode) → StaysAnywhere 42 (type_of mode) (λ r. r.length) type_told }
+    ensures { (mode : Mode) → StaysAnywhere 42 (type_of mode) (λ r. r.field.length) type_told }
 {
     damage::stays_anywhere::<TellingTypes>()
 }

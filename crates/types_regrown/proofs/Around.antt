@@ -51,4 +51,4 @@ fit = record { parts = smallest; extra = []; fit = record { typed = typed; accep
 
 pub shut : TypesShutOut
 unfolding fit grown field_bytes entry_bytes header_bytes numbers_bytes lengths_bytes strings_bytes sections_bytes guid_bytes mask_bytes attributes_bytes
-shut = shuts_out IsFit field_bytes meant cursor_of (tells (λ (r : AdsDataTypeInfo). r.length) told_of) fit (omega arith)
+shut = shuts_out IsFit field_bytes meant cursor_of (tells (λ (r : AdsDataTypeInfo). r.field.length) told_of) fit (omega arith)

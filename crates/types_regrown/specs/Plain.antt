@@ -16,7 +16,7 @@ use Rattle.field.specs.Tail.{tail_of}
 use Rattle.field.specs.Field as field
 use Rattle.field.specs.Field.{behind_items, field_of}
 use Rattle.data_type.specs.declared.AdsDataTypeInfo.{AdsDataTypeInfo}
-use Rattle.data_type.specs.DataType.{joined, sub_items_of, ItemReader, items_from, item_at, arrays_of, type_with, type_at}
+use Rattle.data_type.specs.DataType.{sub_items_of, ItemReader, items_from, item_at, arrays_of, type_with, type_at}
 use Rattle.data_type.specs.Layout.{strings_end}
 use Rattle.data_type.proofs.Turns.{type_step}
 use Rattle.data_type.proofs.Numbers.{heads}
@@ -25,19 +25,7 @@ use Rattle.data_type.proofs.Numbers.{heads}
 abbrev pub plain : Bor (List ℕ) → AdsFieldInfo → AdsDataTypeInfo
 plain e r =
     record {
-      length = r.length;
-      version = r.version;
-      hash_value = r.hash_value;
-      type_hash_value = r.type_hash_value;
-      size = r.size;
-      offset = r.offset;
-      type_id = r.type_id;
-      flags = r.flags;
-      name = r.name;
-      type_name = r.type_name;
-      comment = r.comment;
-      guid = r.guid;
-      attributes = r.attributes;
+      field = r;
       arrays = record { bytes = part (after e (strings_end e.now)) 0 0; count = 0 };
       sub_items = record { bytes = after (after e (strings_end e.now)) 0; count = 0 };
       member_count = 0;
@@ -60,9 +48,9 @@ module _ (f : Front) (a : f.array_count ≡ 0) (c : f.sub_item_count ≡ 0) wher
       → tail_of mode f (after f.rest 0) ≡ t → type_with mode item e ≡ map_ok (plain e) (field_of mode e)
   unfolding type_with field_of
   plain_tail mode item e (Ok t) h r k =
-      let x : type_with mode item e ≡ Ok (joined f (record { bytes = part f.rest 0 0; count = 0 }) (sub_items_of f (after f.rest 0)) 0 t) = simp (h, no_arrays, no_items item (after f.rest 0), k) in
+      let x : type_with mode item e ≡ Ok (record { field = field.joined f t; arrays = record { bytes = part f.rest 0 0; count = 0 }; sub_items = sub_items_of f (after f.rest 0); member_count = 0 }) = simp (h, no_arrays, no_items item (after f.rest 0), k) in
       let y : map_ok (plain e) (field_of mode e) ≡ Ok (plain e (field.joined f t)) = simp (h, nothing_behind, k) in
-      x ∙ ap₂ (λ (s : Bor (List ℕ)) (n : ℕ). Ok (joined f (record { bytes = part s 0 0; count = 0 }) (record { bytes = after s 0; count = n }) 0 t)) r c ∙ sym y
+      x ∙ ap₂ (λ (s : Bor (List ℕ)) (n : ℕ). Ok (record { field = field.joined f t; arrays = record { bytes = part s 0 0; count = 0 }; sub_items = record { bytes = after s 0; count = n }; member_count = 0 })) r c ∙ sym y
   plain_tail mode item e (Err why) h r k =
       let x : type_with mode item e ≡ Err why = simp (h, no_arrays, no_items item (after f.rest 0), k) in
       let y : map_ok (plain e) (field_of mode e) ≡ Err why = simp (h, nothing_behind, k) in

@@ -19,11 +19,11 @@ use Rattle.types_regrown.specs.Plain.{plain}
 
 -- fit fields, written one after another, come back from the walk over data types, in whatever mode, with no array record and no member
 abbrev pub TypesComeBack : Type 0
-TypesComeBack = (mode : Mode) → ComeBack IsFit field_bytes meant (step_at (type_of mode)) cursor_of (tells (λ (r : AdsDataTypeInfo). r.length) told_of)
+TypesComeBack = (mode : Mode) → ComeBack IsFit field_bytes meant (step_at (type_of mode)) cursor_of (tells (λ (r : AdsDataTypeInfo). r.field.length) told_of)
 
 -- a step that never gives a record, and one that gives a record wherever it is asked
 abbrev pub TypesShutOut : Type 0
-TypesShutOut = ShutsOut IsFit field_bytes meant cursor_of (tells (λ (r : AdsDataTypeInfo). r.length) told_of)
+TypesShutOut = ShutsOut IsFit field_bytes meant cursor_of (tells (λ (r : AdsDataTypeInfo). r.field.length) told_of)
 
 -- an entry with no array record and no sub-item is read as a field is, at whatever level it stands
 abbrev pub PlainEntries : Type 0

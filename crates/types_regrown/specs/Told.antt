@@ -8,7 +8,6 @@ use Rattle.data_type.specs.declared.members.Member.{Member}
 use Rattle.data_type.specs.declared.members.Position.{Position}
 use Rattle.data_type.specs.Array.{listed}
 use Rattle.data_type.specs.Members.{members_of}
-use Rattle.data_type.specs.Theorems.{as_field}
 
 -- a member: where it stands, with its path, its depth and its offset, and the bytes of its entry
 pub record ToldMember : Type 0 where
@@ -28,7 +27,7 @@ pub record Told : Type 0 where
 abbrev pub told_of : AdsDataTypeInfo → Told
 told_of r =
     record {
-      field = field.told_of (as_field r);
+      field = field.told_of r.field;
       arrays = listed r.arrays.bytes r.arrays.count;
       count = r.member_count;
       members = map told_member (members_of r);

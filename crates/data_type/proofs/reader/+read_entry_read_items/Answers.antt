@@ -1,6 +1,5 @@
-use Rattle.std.proofs.Common.{◌≡◌, sym, ap, ◌∙◌, arith, rules}
+use Rattle.std.proofs.Common.{◌≡◌, sym, ◌∙◌, arith, rules}
 use Rattle.std.specs.Prelude.{Err}
-use Rattle.data_type.specs.declared.AdsDataTypeInfo.{AdsDataTypeInfo}
 use Rattle.data_type.specs.DataType.{item_at}
 use Rattle.data_type.proofs.Entry.{fits, arrays_fit, front_refused, arrays_refused, items_refused, tail_refused, is_read}
 use Rattle.data_type.proofs.Turns as turns
@@ -43,8 +42,7 @@ pub read_entry-returns-clause-few : goal.read_entry-returns-clause-few
 read_entry-returns-clause-few t c =
     let f = fits c.args.mode c.args.own c.in_ok-front.front (sym c.read.ensures ∙ c.in_ok-front.was) in
     let a = arrays_fit c.in_ok-front.front _ (sym c.read_arrays.ensures ∙ c.in_ok-arrays.was) in
-    let j = ap (λ (x : AdsDataTypeInfo). x.member_count) c.joined.ensures in
-    omega (arith, f.rest, a, j, c.in_ok-items.ensures.few)
+    omega (arith, f.rest, a, c.in_ok-items.ensures.few)
 
 pub read_items-returns-then-deepest-clause-value : goal.read_items-returns-then-deepest-clause-value
 read_items-returns-then-deepest-clause-value t c =
