@@ -64,11 +64,7 @@ fn ended(end: Result<bool, Failure>, printed: Result<(), Failure>) -> Result<boo
     }
 }
 
-fn answer<W: Write>(
-    rt: &HostRuntime,
-    request: &Request<'_>,
-    out: &mut W,
-) -> Result<bool, Failure> {
+fn answer<W: Write>(rt: &HostRuntime, request: &Request<'_>, out: &mut W) -> Result<bool, Failure> {
     match request {
         Request::Help => out.write_all(help::HELP.as_bytes())?,
         Request::Version => writeln!(out, "vindaskot 0.1.0")?,
