@@ -66,27 +66,29 @@ fn write_optional<W: Write>(symbol: &AdsSymbolInfo<'_>, out: &mut W) -> io::Resu
 const BELOW: &str = "              ";
 
 fn write_attributes<W: Write>(symbol: &AdsSymbolInfo<'_>, out: &mut W) -> io::Result<()> {
-    let mut heading = "attributes    ";
     if symbol.attributes.count == 0 {
-        return writeln!(out, "{heading}none");
+        return writeln!(out, "attributes    none");
     }
+    let mut is_first = true;
     for one in symbol.attributes {
+        let heading = if is_first { "attributes    " } else { BELOW };
         let one = NameAndValue(one);
         writeln!(out, "{heading}{one}")?;
-        heading = BELOW;
+        is_first = false;
     }
     Ok(())
 }
 
 fn write_former_names<W: Write>(symbol: &AdsSymbolInfo<'_>, out: &mut W) -> io::Result<()> {
-    let mut heading = "former names  ";
     if symbol.refactor_infos.count == 0 {
-        return writeln!(out, "{heading}none");
+        return writeln!(out, "former names  none");
     }
+    let mut is_first = true;
     for one in symbol.refactor_infos {
+        let heading = if is_first { "former names  " } else { BELOW };
         let name = FormerName(one.name);
         writeln!(out, "{heading}{name}")?;
-        heading = BELOW;
+        is_first = false;
     }
     Ok(())
 }

@@ -81,7 +81,7 @@ impl<'a> Iterator for Members<'a> {
 
     ghost remaining = { item_count members_left };
 
-    #[tactic(auto, unfolding(crate::specs::Node::accepted))]
+    #[tactic(auto, using(crate::proofs::Members::one_left, crate::proofs::Members::none_left, crate::proofs::Members::refused_left), unfolding(crate::specs::Node::accepted))]
     fn next(&mut self) -> Option<Node<'a>> {
         if self.left == 0 {
             return None;

@@ -121,19 +121,20 @@ struct Bounds<'a>(ArrayInfos<'a>);
 
 impl fmt::Display for Bounds<'_> {
     fn fmt<W: fmt::Write>(&self, f: &mut fmt::Formatter<W>) -> fmt::Result {
-        let mut before = "[";
+        let mut is_first = true;
         for one in self.0 {
+            let before = if is_first { "[" } else { ", " };
+            is_first = false;
             let lower = signed(one.lower_bound);
             let upper = lower
                 .saturating_add(i64::from(one.elements))
                 .saturating_sub(1);
             write!(f, "{before}{lower}..{upper}")?;
-            before = ", ";
         }
-        if before == ", " {
-            write!(f, "]")?;
+        if is_first {
+            return Ok(());
         }
-        Ok(())
+        write!(f, "]")
     }
 }
 
@@ -152,12 +153,13 @@ struct InOneCell<'a>(Attributes<'a>);
 
 impl fmt::Display for InOneCell<'_> {
     fn fmt<W: fmt::Write>(&self, f: &mut fmt::Formatter<W>) -> fmt::Result {
-        let mut before = "";
+        let mut is_first = true;
         for one in self.0 {
+            let before = if is_first { "" } else { "; " };
             let name = Shown(one.name);
             let value = Shown(one.value);
             write!(f, "{before}{name} = {value}")?;
-            before = "; ";
+            is_first = false;
         }
         Ok(())
     }
@@ -211,15 +213,16 @@ fn write_row<W: Write>(
     out: &mut W,
 ) -> io::Result<()> {
     let mut row = String::new(alloc);
-    let mut before = "";
+    let mut is_first = true;
     for ((cell, most), is_text) in cells.iter().zip(widths).zip(&TEXT) {
+        let before = if is_first { "" } else { "  " };
+        is_first = false;
         let gap = Spaces(most.saturating_sub(width(cell)));
         if *is_text {
             write!(row, "{before}{cell}{gap}")?;
         } else {
             write!(row, "{before}{gap}{cell}")?;
         }
-        before = "  ";
     }
     let row = row.as_str().trim_end_matches(' ');
     writeln!(out, "{row}")
