@@ -24,14 +24,14 @@ item_of n start r =
       «record» = r;
     }
 
+abbrev pub accepted_by : Node → ℕ → Result AdsDataTypeInfo Refusal → List Node → List Node
+accepted_by n start (Ok r) rest = item_of n start r ∷ rest
+accepted_by n start (Err why) rest = []
+
 -- of so many pieces, up to one that is refused
 unfoldable pub accepted : Node → List (Piece AdsDataTypeInfo) → List Node
 accepted n [] = []
 accepted n (p ∷ ps) = accepted_by n p.start p.answer (accepted n ps)
-
-abbrev pub accepted_by : Node → ℕ → Result AdsDataTypeInfo Refusal → List Node → List Node
-accepted_by n start (Ok r) rest = item_of n start r ∷ rest
-accepted_by n start (Err why) rest = []
 
 -- its sub-items stand at the start of their bytes
 abbrev pub sub_items_of : Mode → Node → List Node
