@@ -6,9 +6,9 @@ mod compare;
 mod failure;
 mod find;
 mod help;
-mod room;
 mod salvage;
 mod show;
+mod slots;
 mod source;
 mod types;
 mod written;
@@ -64,15 +64,11 @@ fn ended(end: Result<bool, Failure>, printed: Result<(), Failure>) -> Result<boo
     }
 }
 
-fn answer<W: Write>(
-    rt: &HostRuntime,
-    request: &Request<'_>,
-    out: &mut W,
-) -> Result<bool, Failure> {
+fn answer<W: Write>(rt: &HostRuntime, request: &Request<'_>, out: &mut W) -> Result<bool, Failure> {
     match request {
         Request::Help => out.write_all(help::HELP.as_bytes())?,
         Request::Version => writeln!(out, "vindaskot 0.1.0")?,
-        Request::Room { length } => room::room(rt.alloc(), *length, out)?,
+        Request::Room { length } => slots::room(rt.alloc(), *length, out)?,
         Request::Run(run) => return answer_of_a_file(rt, run, out),
     }
     Ok(true)
