@@ -6,7 +6,7 @@ mod compare;
 mod failure;
 mod find;
 mod help;
-mod salvage;
+mod salvaged;
 mod show;
 mod slots;
 mod source;
@@ -81,7 +81,7 @@ fn answer_of_a_file<W: Write>(
 ) -> Result<bool, Failure> {
     let alloc = rt.alloc();
     if let Asked::Salvage { to } = &run.asked {
-        salvage::is_free(rt, to, run.file)?;
+        salvaged::is_free(rt, to, run.file)?;
     }
     let source = source::read(rt, run.file, run.form, run.mode)?;
     let upload = source.upload();
@@ -101,7 +101,7 @@ fn answer_of_a_file<W: Write>(
             let other = source::read(rt, with, run.form, run.mode)?;
             return compare::compare(alloc, &upload, &other.upload(), *json, out);
         }
-        Asked::Salvage { to } => salvage::salvage(rt, &upload, to, out)?,
+        Asked::Salvage { to } => salvaged::salvage(rt, &upload, to, out)?,
         Asked::Type { name, json } => types::print(alloc, &upload, *name, *json, out)?,
     }
     Ok(true)
