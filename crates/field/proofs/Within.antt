@@ -1,19 +1,17 @@
 -- What a field tells lies in its entry: proved.
-use Rattle.std.proofs.Common.{ℕ, subst, zero, suc, ◌+◌, ◌*◌, ◌≤◌, ◌≡◌, refl, sym, ap, ap₂, ◌∙◌, Bool, true, false, List, length, Ok, Err, Result, min, arith, Bor}
+use Rattle.std.proofs.Common.{ℕ, subst, zero, suc, ◌+◌, ◌*◌, ◌≤◌, ◌≡◌, refl, sym, ap, ap₂, ◌∙◌, Bool, true, false, List, length, Ok, Err, min, arith, Bor}
 use Rattle.std.specs.Prelude.{ltb, leb, if◌then◌else◌}
 use borrow.Author.Tests.{ltb-false, leb-true}
 use Rattle.le.specs.Le.{le2, le4, has}
 use Rattle.part.specs.Slice.{part, after}
-use Rattle.part.specs.End.{rest_at, IsEnd}
+use Rattle.part.specs.End.{IsEnd}
 use Rattle.part.specs.Outcome.{and_then}
 use Rattle.refusal.specs.EndBytes.{ended, in_mode}
 use Rattle.refusal.specs.declared.Mode.{Mode}
-use Rattle.refusal.specs.declared.Refusal.{Refusal}
 use Rattle.refusal.specs.declared.Refusal.TheVariants.{TooShort, EntryLengthMismatch}
-use Rattle.attribute.specs.declared.AdsAttribute.{AdsAttribute}
 use Rattle.attribute.specs.declared.Attributes.{Attributes}
-use Rattle.attribute.specs.Attribute.{first_of, listed}
-use Rattle.part.proofs.Slice.{length_part, end_self, end_after, part_of_end}
+use Rattle.attribute.specs.Attribute.{listed}
+use Rattle.part.proofs.Slice.{length_part, end_self, end_after}
 use Rattle.attribute.proofs.Inside.{attributes_inside}
 use Rattle.attribute.proofs.Laws.{listed_none, listed_again}
 use Rattle.part.proofs.Outcome.{both_passed}

@@ -25,11 +25,7 @@ module _ (mode : Mode) (e : Bor (List ℕ)) where
   refactor_infos_end r h = in_memory (symbols_inside mode e r h).refactor_bytes
 
   pub field_attributes_end : (r : AdsFieldInfo) → field_of mode e ≡ Ok r → IsEnd e r.attributes.bytes
-  field_attributes_end r h =
-      let p = list_place mode e r h in
-      let m : r.attributes.bytes.ref_ptr.1 ≡ e.ref_ptr.1 + p.at = ap (λ (s : Bor (List ℕ)). s.ref_ptr.1) p.is in
-      let l : length r.attributes.bytes.now ≡ length e.now - p.at = ap (λ (s : Bor (List ℕ)). length s.now) p.is ∙ length-drop p.at e.now in
-      record { memory = omega (arith, p.fits); within = omega arith }
+  field_attributes_end r h = in_memory (list_place mode e r h)
 
   pub type_attributes_end : (r : AdsDataTypeInfo) → type_of mode e ≡ Ok r → IsEnd e r.field.attributes.bytes
   type_attributes_end r h = field_attributes_end r.field (entry_as_field mode levels e r h)

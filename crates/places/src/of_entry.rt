@@ -7,7 +7,9 @@ ghost use Rattle.places.specs.Places.{IsEnd};
 ghost use Rattle.places.specs.Entry.{entry_attribute, entry_attribute_named, symbol_refactor_info};
 ghost use Rattle.places.specs.Kind.{symbol_attributes_end, field_attributes_end, type_attributes_end};
 
-use crate::{AttributePlaces, RefactorPlaces, attribute_named, attribute_numbered, refactor_numbered};
+use crate::{
+    AttributePlaces, RefactorPlaces, attribute_named, attribute_numbered, refactor_numbered,
+};
 use attribute::Attributes;
 use data_type::AdsDataTypeInfo;
 use field::AdsFieldInfo;

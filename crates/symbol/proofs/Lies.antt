@@ -1,5 +1,5 @@
 -- Every part of a symbol lies in its entry, in layout order.
-use Rattle.std.proofs.Common.{ℕ, zero, suc, ◌+◌, ◌-◌, ◌<◌, ◌≤◌, ◌≡◌, refl, sym, ap, ◌∙◌, Bool, true, false, List, [], ◌∷◌, length, take, drop, Ok, Err, Result, arith, Bor, subst, length-drop}
+use Rattle.std.proofs.Common.{ℕ, ◌+◌, ◌-◌, ◌<◌, ◌≤◌, ◌≡◌, refl, sym, ap, ◌∙◌, Bool, true, false, List, length, take, drop, Ok, Err, Result, arith, Bor, subst, length-drop}
 use Rattle.std.specs.Prelude.{Option, Some, None, is_some, leb, if◌then◌else◌}
 use Rattle.std.proofs.lemmas.Grind.{common_steps}
 use lib.Seq.{length-take-le, get_or-drop}
@@ -10,7 +10,6 @@ use Rattle.le.specs.Le.{le2, le4, has}
 use Rattle.part.specs.Slice.{part, after}
 use Rattle.part.proofs.Slice.{end_self, end_after, end_again, string_at}
 use Rattle.part.specs.Outcome.{outcome}
-use Rattle.refusal.specs.declared.Mode.{Mode}
 use Rattle.refusal.specs.declared.Refusal.{Refusal}
 use Rattle.attribute.specs.Attribute as attribute
 use Rattle.attribute.specs.declared.Attributes.{Attributes}
@@ -20,10 +19,9 @@ use Rattle.refactor.specs.Refactor as refactor
 use Rattle.refactor.specs.declared.RefactorInfos.{RefactorInfos}
 use Rattle.refactor.specs.Inside.{RefactorsLie}
 use Rattle.refactor.proofs.Inside.{listed_none, chains_counted}
-use Rattle.symbol.specs.declared.AdsSymbolInfo.{AdsSymbolInfo}
 use Rattle.layout.specs.Layout.{guid_of}
 use Rattle.layout.proofs.Guid.{end_guid}
-use Rattle.symbol.specs.Symbol.{type_guid_flag, attributes_flag, extended_flags_flag, refactor_info_flag, extended_word, attributes_of, extended_of, refactor_infos_of, with_strings, symbol_of}
+use Rattle.symbol.specs.Symbol.{type_guid_flag, attributes_flag, extended_flags_flag, refactor_info_flag, extended_word, attributes_of, extended_of, refactor_infos_of, with_strings}
 use Rattle.part.specs.End.{IsEnd, IsString, rest_at}
 use Rattle.symbol.specs.Inside.{behind_strings, behind_guid, IsInside, SymbolsInside}
 use Rattle.symbol.proofs.Laws.{accepted_is, accepted_room}
