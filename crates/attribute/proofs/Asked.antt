@@ -8,7 +8,7 @@ use Rattle.refusal.specs.declared.Refusal.TheVariants.{NameNotFound, NoSuchNumbe
 use Rattle.attribute.specs.declared.AdsAttribute.{AdsAttribute}
 use Rattle.attribute.specs.Attribute.{named}
 use Rattle.attribute.specs.Asked.{AttributesShown, NoneNamed, FirstNamed, found, nowhere, AttributesNamed, OneNamed}
-use Rattle.attribute.proofs.Inside.{each_more}
+use Rattle.std.proofs.lemmas.List.Elements.{All-cons}
 
 at_number : (before behind : List AdsAttribute) (a : AdsAttribute) → slice_get (before ++ (a ∷ behind)) (length before) ≡ Some a
 at_number [] behind a = refl
@@ -23,7 +23,7 @@ attributes_shown all number = record {
 
 -- the first of some has the name, or the answer is that of the others
 none_later : (name : List ℕ) (a : AdsAttribute) (all : List AdsAttribute) → (a.name.now ≡ name → ⊥) → NoneNamed name all → NoneNamed name (a ∷ all)
-none_later name a all = each_more (λ b. b.name.now ≡ name → ⊥) a all
+none_later name a all = All-cons (λ b. b.name.now ≡ name → ⊥) a all
 
 later : (name : List ℕ) (a : AdsAttribute) (all : List AdsAttribute) (t : Result AdsAttribute Refusal) → (a.name.now ≡ name → ⊥) → FirstNamed all name t → FirstNamed (a ∷ all) name t
 later name a all t not (found before behind b e is has none) = found (a ∷ before) behind b (ap (λ l. a ∷ l) e) is has (none_later name a before not none)

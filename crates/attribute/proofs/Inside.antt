@@ -1,18 +1,15 @@
 -- The parts of listed attributes lie inside: proved.
-use Rattle.std.proofs.Common.{◌≡◌, ℕ, zero, suc, ◌+◌, ◌≤◌, List, ◌∷◌, length, take, Ok, Err, Result, refl, sym, ap, ap₂, ◌∙◌, subst, arith, length-drop, Bor}
-use native.Mathlib.Nat.{add_assoc}
-use lib.Seq.{drop-drop}
+use Rattle.std.proofs.Common.{◌≡◌, ℕ, zero, suc, ◌+◌, ◌≤◌, List, length, Ok, Err, Result, refl, sym, ap, ◌∙◌, subst, arith, length-drop, Bor}
 use Rattle.std.specs.List.{All}
-use Rattle.part.specs.Slice.{part, after}
+use Rattle.part.specs.Slice.{after}
 use Rattle.refusal.specs.declared.Refusal.{Refusal}
 use Rattle.attribute.specs.declared.AdsAttribute.{AdsAttribute}
 use Rattle.attribute.specs.Attribute.{first_of, listed, after_listed}
 use Rattle.attribute.specs.Inside.{IsInside, AttributesInside}
-use Rattle.attribute.proofs.Again.{n_of, v_of, here, fits, first_here, length_name, length_value, after_after, after_zero}
+use Rattle.std.proofs.lemmas.List.Elements.{All-cons}
+use Rattle.part.proofs.Slice.{part_after, after_after, after_zero}
+use Rattle.attribute.proofs.Again.{n_of, v_of, here, fits, first_here, length_name, length_value}
 use Rattle.attribute.proofs.Laws.{listed_more, listed_none, listed_stop, after_more, after_none, after_stop}
-
-part_after : (s : Bor (List ℕ)) (k at n : ℕ) → part (after s k) at n ≡ part s (k + at) n
-part_after s k at n = ap₂ (λ (x : ℕ) (y : List ℕ). record { ref_ptr = (s.ref_ptr.0, x); now = take n y }) (add_assoc s.ref_ptr.1 k at) (drop-drop at k s.now)
 
 -- of the bytes from a place on
 module _ (s : Bor (List ℕ)) (k : ℕ) (inside : k ≤ length s.now) where
@@ -39,10 +36,6 @@ module _ (s : Bor (List ℕ)) (k : ℕ) (inside : k ≤ length s.now) where
         whole = omega arith;
       }
 
-pub each_more : {X : Type 0} (P : X → Type 0) (x : X) (xs : List X) → P x → All P xs → All P (x ∷ xs)
-each_more P x xs p ps zero d h = p
-each_more P x xs p ps (suc k) d h = ps k d (omega arith)
-
 none_here : (s : Bor (List ℕ)) (k : ℕ) (h : k ≤ length s.now) → FromHere s k h 0
 none_here s k h = record { each = rw (listed_none (after s k)) (λ j d l. absurd (omega arith)); end = k; stop = after_none (after s k); whole = h }
 
@@ -59,7 +52,7 @@ more_here s k h left t from =
     let a : (here q).1 ≡ after s m = after_after s k (n_of q + v_of q + 4) in
     let r = from m (omega arith) in
     record {
-      each = rw (listed_more q left (here q) f) (each_more (IsInside s) (here q).0 (listed (here q).1 left) (one s k h t) (rw a r.each));
+      each = rw (listed_more q left (here q) f) (All-cons (IsInside s) (here q).0 (listed (here q).1 left) (one s k h t) (rw a r.each));
       end = r.end;
       stop = after_more q left (here q) f ∙ ap (λ x. after_listed x left) a ∙ r.stop;
       whole = r.whole;

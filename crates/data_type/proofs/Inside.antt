@@ -11,7 +11,8 @@ use Rattle.data_type.specs.declared.members.Member.{Member}
 use Rattle.data_type.specs.declared.members.Position.{Position}
 use Rattle.data_type.specs.declared.reader.Items.{Items}
 use Rattle.data_type.specs.DataType.{taken, items_from, item_at, type_at, type_of}
-use Rattle.data_type.specs.Accepted.{and_then_ok, Accepted, accepted}
+use Rattle.part.proofs.Outcome.{both_passed}
+use Rattle.data_type.specs.Accepted.{Accepted, accepted}
 use Rattle.data_type.specs.Members.{root, below, item_in, members_below, members_of}
 use Rattle.data_type.proofs.Turns.{type_step, taken_fits}
 use Rattle.data_type.proofs.Entry.{fits, arrays_fit}
@@ -34,10 +35,10 @@ pub turn : (mode : Mode) (left : ℕ) (s : Bor (List ℕ)) (n : ℕ) (items : It
 unfolding items_from item_at
 turn mode zero s n items h = cc
 turn mode (suc left) s n items h =
-    let p = and_then_ok (item_at mode (suc left) s) _ items h in
-    let t = and_then_ok (taken s) _ p.0 p.1.0 in
-    let i = and_then_ok (type_at mode left t.0.0) _ p.0 t.1.1 in
-    let m = and_then_ok (items_from (item_at mode (suc left)) p.0.1 n) _ items p.1.1 in
+    let p = both_passed (item_at mode (suc left) s) h in
+    let t = both_passed (taken s) p.1.0 in
+    let i = both_passed (type_at mode left t.0.0) t.1.1 in
+    let m = both_passed (items_from (item_at mode (suc left)) p.0.1 n) p.1.1 in
     let e : (i.0, t.0.1) ≡ p.0 = cc i.1.1 in
     record {
       deeper = left;

@@ -11,7 +11,7 @@ use Rattle.data_type.specs.DataType.{items_from, item_at}
 use Rattle.data_type.specs.Members.{place_of}
 use Rattle.data_type.specs.Meaning.{LiesIn}
 use Rattle.data_type.specs.Stand.{under}
-use Rattle.data_type.proofs.Parts.{length_in}
+use Rattle.part.proofs.Slice.{length_part}
 use Rattle.data_type.proofs.Fronts.{below_is}
 use Rattle.data_type.proofs.Stands.{took}
 use Rattle.data_type.proofs.Inside.{Turn, here}
@@ -180,7 +180,7 @@ module _ (mode : Mode) where
       let kr = k.room in
       let size : ℕ = le4 s.now 0 in
       let place : ℕ = end - length s.now in
-      let own : length t.own.now ≡ size = ap (λ (x : Bor (List ℕ)). length x.now) k.own_is ∙ length_in s 0 size (omega arith) in
+      let own : length t.own.now ≡ size = ap (λ (x : Bor (List ℕ)). length x.now) k.own_is ∙ length_part s 0 size (omega arith) in
       let behind : length t.behind.now ≡ length s.now - size = ap (λ (x : Bor (List ℕ)). length x.now) k.behind_is ∙ length-drop size s.now in
       let h : Position = here mode left s n i t above end in
       let is : h ≡ under above place t.info.field.offset = below_is above place t.info.field.offset (omega (arith, t.some)) in

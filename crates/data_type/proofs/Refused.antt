@@ -36,7 +36,7 @@ use Rattle.data_type.proofs.Turns.{item_deep, item_untaken, item_unread, item_re
 use Rattle.data_type.proofs.Entry.{fits, front_refused, arrays_refused, items_refused, tail_refused, is_read}
 use Rattle.data_type.proofs.Numbers.{heads}
 use Rattle.data_type.proofs.Fronts.{front_there, front_was}
-use Rattle.data_type.proofs.Parts.{after_after, length_in}
+use Rattle.part.proofs.Slice.{after_after, length_part}
 use Rattle.data_type.proofs.AsField.{skipped, arrays_skipped}
 use Rattle.data_type.proofs.Stands.{taken_there, arrays_there, reads, took, items_stand, entry_stand}
 
@@ -260,7 +260,7 @@ module _ (mode : Mode) where
         by_entry own behind t (Err x) k =
             let w = took s own behind t in
             let y = same (first_refuses (suc left) s n x (item_unread mode s (suc left) own behind x (λ z. omega (arith, z)) t (ap (λ (m : ℕ). type_at mode m own) one_less ∙ k))) h in
-            let long : 42 ≤ length (part s 0 (le4 s.now 0)).now = omega (arith, length_in s 0 (le4 s.now 0) (omega (arith, w.room)), w.least) in
+            let long : 42 ≤ length (part s 0 (le4 s.now 0)).now = omega (arith, length_part s 0 (le4 s.now 0) (omega (arith, w.room)), w.least) in
             subst (IsRefused mode depth (Many s (suc n))) y
             (first (omega arith) (record { least = w.least; room = w.room }) (inner (part s 0 (le4 s.now 0)) x long (ap (type_at mode left) (sym w.own_is) ∙ k)))
 
@@ -305,7 +305,7 @@ module _ (mode : Mode) (s : Bor (List ℕ)) (why : Refusal) (h : parse_of 42 (ty
   root_by false false false false x y z w =
       let room = ltb-false (length s.now) (le4 s.now 0) z in
       let least = ltb-false (le4 s.now 0) 42 w in
-      let long : 42 ≤ length (part s 0 (le4 s.now 0)).now = omega (arith, length_in s 0 (le4 s.now 0) (omega (arith, room)), least) in
+      let long : 42 ≤ length (part s 0 (le4 s.now 0)).now = omega (arith, length_part s 0 (le4 s.now 0) (omega (arith, room)), least) in
       let e : parse_of 42 (type_of mode) s ≡ type_of mode (part s 0 (le4 s.now 0)) = simp (x, y, z, w) in
       refused.entry (ltb-false limit (length s.now) x) (record { least = least; room = room }) (was_refused mode 15 1 refl (part s 0 (le4 s.now 0)) why long (sym e ∙ h))
 

@@ -29,7 +29,7 @@ use Rattle.data_type.proofs.Steps.{none_left, one_left}
 use Rattle.data_type.proofs.Inside.{Turn, here, item_is, accepted_at, holds, all_of}
 use Rattle.data_type.proofs.Numbers.{heads, fills, le4_part}
 use Rattle.data_type.proofs.Fronts.{front_there, front_was, record_is, below_is}
-use Rattle.data_type.proofs.Parts.{length_in, after_after}
+use Rattle.part.proofs.Slice.{after_after, length_part}
 use Rattle.data_type.proofs.Parsed.{meets, parsed}
 
 pub taken_there : (s : Bor (List ℕ)) → 42 ≤ le4 s.now 0 → le4 s.now 0 ≤ length s.now → taken s ≡ Ok (part s 0 (le4 s.now 0), after s (le4 s.now 0))
@@ -72,7 +72,7 @@ module _ (mode : Mode) where
       let i : item_at mode left s ≡ Ok (info, after s (le4 s.now 0)) =
       item_read mode s left (part s 0 (le4 s.now 0)) (after s (le4 s.now 0)) info (λ e. omega (arith, z, e)) t (subst (λ (m : ℕ). type_at mode m (part s 0 (le4 s.now 0)) ≡ Ok info) (sym q) x.read) in
       let c : 1 + info.member_count + length more ≡ suc (length (held ++ more)) = omega (arith, x.counts, length-append held more) in
-      let o : length (part s 0 (le4 s.now 0)).now ≡ le4 s.now 0 = length_in s 0 (le4 s.now 0) (omega (arith, k)) in
+      let o : length (part s 0 (le4 s.now 0)).now ≡ le4 s.now 0 = length_part s 0 (le4 s.now 0) (omega (arith, k)) in
       let b : suc n - 1 ≡ n = omega arith in
       let y' : members_below (suc l) p end (after s (le4 s.now 0)) n ≡ more = subst (λ (m : ℕ). members_below m p end (after s (le4 s.now 0)) n ≡ more) z y.members in
       let w = one_left p end s l (suc n) _ (λ e. omega (arith, e)) (item_is mode l s (part s 0 (le4 s.now 0)) (after s (le4 s.now 0)) info t x.read) in
@@ -167,7 +167,7 @@ module _ (mode : Mode) where
       → Stood above end s (suc n) i (record { position = here mode left s n i t above end; own = t.own } ∷ (held ++ rest))
   stood_more left s n i t above end inner held rest d c o p q =
       let k = took s t.own t.behind t.takes in
-      let own : length t.own.now ≡ le4 s.now 0 = ap (λ (x : Bor (List ℕ)). length x.now) k.own_is ∙ length_in s 0 (le4 s.now 0) (omega (arith, k.room)) in
+      let own : length t.own.now ≡ le4 s.now 0 = ap (λ (x : Bor (List ℕ)). length x.now) k.own_is ∙ length_part s 0 (le4 s.now 0) (omega (arith, k.room)) in
       let e = entry_stands t.deeper (here mode left s n i t above end) (end - length s.now + length t.own.now) t.own t.info inner held t.entry o p.1 p.0 in
       let place : ℕ = end - length s.now in
       let off : t.info.field.offset ≡ le4 s.now 20 = offset_there mode t.deeper s t.info k.least k.room (subst (λ (x : Bor (List ℕ)). type_at mode t.deeper x ≡ Ok t.info) k.own_is t.entry) in
@@ -201,7 +201,7 @@ root_reads : (mode : Mode) (s : Bor (List ℕ)) (r : AdsDataTypeInfo) (ms : List
 unfolding claim_of
 root_reads mode s r ms w =
     let x = reads mode w.stands 15 refl in
-    let l : length (part s 0 (le4 s.now 0)).now ≡ le4 s.now 0 = length_in s 0 (le4 s.now 0) (omega (arith, w.room)) in
+    let l : length (part s 0 (le4 s.now 0)).now ≡ le4 s.now 0 = length_part s 0 (le4 s.now 0) (omega (arith, w.room)) in
     let n : r.field.length ≡ le4 s.now 0 = at_long mode 15 (part s 0 (le4 s.now 0)) r x.read ∙ l in (
       simp (
         le-ltb limit (length s.now) w.small,
@@ -217,7 +217,7 @@ root_stood mode s r h =
     let p = parsed (type_of mode) s r h in
     let w = meets s.now p.size p.claims in
     let z : p.size ≡ le4 s.now 0 = sym w.claims in
-    let l : length (part s 0 p.size).now ≡ p.size = length_in s 0 p.size (omega (arith, w.room)) in
+    let l : length (part s 0 p.size).now ≡ p.size = length_part s 0 p.size (omega (arith, w.room)) in
     let t = subst (λ (n : ℕ). Stand mode root n (Entry (part s 0 p.size) r (members_of r))) l (root_stands mode (part s 0 p.size) r p.entry) in
     record {
       small = w.small;

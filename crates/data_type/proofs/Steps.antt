@@ -12,9 +12,10 @@ use Rattle.field.specs.declared.front.Front.{Front}
 use Rattle.field.specs.Front.{with_strings, front_of}
 use Rattle.data_type.specs.declared.array.ArrayInfos.{ArrayInfos}
 use Rattle.data_type.specs.Level.{cut}
-use Rattle.data_type.proofs.Parts.{part_in, after_is, after_after, length_in, cut_inside}
+use Rattle.part.proofs.Slice.{after_after, length_part}
+use Rattle.data_type.proofs.Parts.{part_in, after_is, cut_inside}
 use Rattle.data_type.specs.DataType.{taken, arrays_of}
-use Rattle.data_type.specs.Accepted.{and_then_ok}
+use Rattle.part.proofs.Outcome.{both_passed}
 use Rattle.data_type.specs.Members.{below, item_in, members_below, each}
 
 -- a sub-item's own bytes stand first, its own sub-items at their end, and what is behind it behind them
@@ -62,7 +63,7 @@ first_is own rest first e d =
 lies_by : (s own behind rest first : Bor (List ℕ)) (offset count : ℕ) → Taken s own behind → Ends own rest → Ends rest first → Lies s (record { own = own; offset = offset; first = first; count = count; behind = behind })
 lies_by s own behind rest first offset count t e d =
     let f = first_is own rest first e d in
-    let o : length own.now ≡ t.size = ap (λ (x : Bor (List ℕ)). length x.now) t.own_is ∙ length_in s 0 t.size (omega (arith, t.room)) in
+    let o : length own.now ≡ t.size = ap (λ (x : Bor (List ℕ)). length x.now) t.own_is ∙ length_part s 0 t.size (omega (arith, t.room)) in
     let b : length behind.now ≡ length s.now - t.size = ap (λ (x : Bor (List ℕ)). length x.now) t.behind_is ∙ length-drop t.size s.now in
     record {
       long = omega (arith, o, b, t.room);
@@ -75,9 +76,9 @@ lies_by s own behind rest first offset count t e d =
 pub lies : (s : Bor (List ℕ)) (i : Item) → item_in s ≡ Ok i → Lies s i
 unfolding item_in
 lies s i h =
-    let p = and_then_ok (taken s) _ i h in
-    let f = and_then_ok (front_of Present p.0.0) _ i p.1.1 in
-    let a = and_then_ok (arrays_of f.0) _ i f.1.1 in
+    let p = both_passed (taken s) h in
+    let f = both_passed (front_of Present p.0.0) p.1.1 in
+    let a = both_passed (arrays_of f.0) f.1.1 in
     let is : record { own = p.0.0; offset = f.0.offset; first = a.0.1; count = f.0.sub_item_count; behind = p.0.1 } ≡ i = cc a.1.1 in
     subst (Lies s) is (lies_by s p.0.0 p.0.1 f.0.rest a.0.1 f.0.offset f.0.sub_item_count (taken_is s p.0.0 p.0.1 p.1.0) (front_ends p.0.0 f.0 f.1.0) (arrays_end f.0 a.0 a.1.0))
 
@@ -112,7 +113,7 @@ module _ (b : Bor (List ℕ)) (above : Position) (end at stop : ℕ) (fits : at 
   step_gives levels count i z h =
       let r : Bor (List ℕ) = part b at (stop - at) in
       let l = lies r i h in
-      let long : length r.now ≡ stop - at = length_in b at (stop - at) (omega arith) in
+      let long : length r.now ≡ stop - at = length_part b at (stop - at) (omega arith) in
       let x = l.long in
       let y = l.short in
       let near : length i.own.now ≤ stop - at = omega arith in

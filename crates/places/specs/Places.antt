@@ -1,6 +1,7 @@
 -- docs/FORMAT.md, "Numbers": where in some bytes a record of them stands: a place and a length for each of its strings, and the place after it.
 use Rattle.std.specs.Prelude.{ℕ, ◌+◌, ◌-◌, ◌≤◌, ◌≡◌, List, Result, length}
 use Rattle.std.specs.Borrow.{Bor}
+use Rattle.part.specs.End.{IsEnd}
 use Rattle.refusal.specs.declared.Refusal.{Refusal}
 use Rattle.attribute.specs.declared.AdsAttribute.{AdsAttribute}
 use Rattle.attribute.specs.declared.Attributes.{Attributes}
@@ -15,11 +16,6 @@ use Rattle.places.specs.declared.RefactorPlaces.{RefactorPlaces}
 -- how far behind the start of some bytes a part of them begins, in memory
 abbrev pub place_in : Bor (List ℕ) → Bor (List ℕ) → ℕ
 place_in e s = s.ref_ptr.1 - e.ref_ptr.1
-
--- these bytes are the last of those
-pub record IsEnd (e s : Bor (List ℕ)) : Type 0 where
-  pub memory : s.ref_ptr.1 + length s.now ≡ e.ref_ptr.1 + length e.now
-  pub within : length s.now ≤ length e.now
 
 -- an attribute of these bytes, behind which the others begin: behind its two lengths stand its strings, each with its end byte
 pub record IsAttributeBefore (e : Bor (List ℕ)) (a : AdsAttribute) (rest : Bor (List ℕ)) : Type 0 where

@@ -5,7 +5,8 @@ pub mod alone;
 pub mod of_entry;
 
 ghost use Rattle.std.specs.Prelude.{◌≡◌};
-ghost use Rattle.places.specs.Places.{IsEnd, IsAttributeBefore, IsRefactorBefore, attribute_places, refactor_places, attribute_numbered, attribute_named, refactor_numbered};
+ghost use Rattle.part.specs.End.{IsEnd};
+ghost use Rattle.places.specs.Places.{IsAttributeBefore, IsRefactorBefore, attribute_places, refactor_places, attribute_numbered, attribute_named, refactor_numbered};
 
 use attribute::{AdsAttribute, Attributes};
 use refactor::{AdsRefactorInfo, RefactorInfos};

@@ -1,9 +1,9 @@
 // What can be asked of the entry at the start of some bytes, whatever its kind.
 ghost use Rattle.std.specs.Prelude.{◌≡◌, List, ℕ, Ok};
 ghost use Rattle.std.specs.Borrow.{Bor};
+ghost use Rattle.part.specs.End.{IsEnd};
 ghost use Rattle.refusal.specs.declared.Mode.{Mode};
 ghost use Rattle.attribute.specs.declared.Attributes.{Attributes};
-ghost use Rattle.places.specs.Places.{IsEnd};
 ghost use Rattle.places.specs.Entry.{entry_attribute, entry_attribute_named, symbol_refactor_info};
 ghost use Rattle.places.specs.Kind.{symbol_attributes_end, field_attributes_end, type_attributes_end};
 

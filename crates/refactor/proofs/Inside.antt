@@ -1,28 +1,18 @@
 -- Where records lie, what a chain has, and what an answer to a number means: proved.
-use Rattle.std.proofs.Common.{◌≡◌, ℕ, zero, suc, ◌+◌, ◌≤◌, Bool, true, false, List, [], ◌∷◌, ◌++◌, length, take, Ok, Err, Result, refl, sym, ap, ap₂, ◌∙◌, subst, arith, length-drop, Bor}
+use Rattle.std.proofs.Common.{◌≡◌, ℕ, zero, suc, ◌+◌, ◌≤◌, Bool, true, false, List, [], ◌∷◌, ◌++◌, length, Ok, Err, Result, refl, sym, ap, ap₂, ◌∙◌, subst, arith, length-drop, Bor}
 use Rattle.std.specs.Prelude.{slice_get, ok_or, ltb, Option, Some}
 use Rattle.std.specs.List.{All}
 use Rattle.std.proofs.lemmas.Option.{slice_get_past}
-use native.Mathlib.Nat.{add_assoc, add-zero}
-use lib.Seq.{drop-drop}
 use borrow.Author.Tests.{lt-ltb}
-use Rattle.part.specs.Slice.{part, after}
+use Rattle.part.specs.Slice.{after}
 use Rattle.refusal.specs.declared.Refusal.{Refusal}
 use Rattle.refusal.specs.declared.Refusal.TheVariants.{NoSuchNumber}
 use Rattle.refactor.specs.declared.AdsRefactorInfo.{AdsRefactorInfo}
 use Rattle.refactor.specs.Refactor.{first_of, listed, chained}
 use Rattle.refactor.specs.Inside.{IsInside, RefactorsInside, IsChain, ChainsCounted, RefactorsShown}
-use Rattle.refactor.proofs.Again.{n_of, here, fits, first_here, length_name, after_after, listed_here}
-
-part_after : (s : Bor (List ℕ)) (k at n : ℕ) → part (after s k) at n ≡ part s (k + at) n
-part_after s k at n = ap₂ (λ (x : ℕ) (y : List ℕ). record { ref_ptr = (s.ref_ptr.0, x); now = take n y }) (add_assoc s.ref_ptr.1 k at) (drop-drop at k s.now)
-
-pub after_zero : (s : Bor (List ℕ)) → s ≡ after s 0
-after_zero s = ap (λ (x : ℕ). record { ref_ptr = (s.ref_ptr.0, x); now = s.now }) (sym (add-zero s.ref_ptr.1))
-
-pub each_more : {X : Type 0} (P : X → Type 0) (x : X) (xs : List X) → P x → All P xs → All P (x ∷ xs)
-each_more P x xs p ps zero d h = p
-each_more P x xs p ps (suc k) d h = ps k d (omega arith)
+use Rattle.std.proofs.lemmas.List.Elements.{All-cons}
+use Rattle.part.proofs.Slice.{part_after, after_after, after_zero}
+use Rattle.refactor.proofs.Again.{n_of, here, fits, first_here, length_name, listed_here}
 
 pub listed_none : (s : Bor (List ℕ)) → listed s 0 ≡ []
 unfolding listed
@@ -52,7 +42,7 @@ each_from s k left h (Ok p) e from =
     let q = after s k in
     let t = fits q p e in
     let l = length-drop k s.now in
-    rw (listed_here q left t) (each_more (IsInside s) (here q).0 (listed (here q).1 left) (one s k h t) (rw (after_after s k (n_of q + 7)) (from (k + (n_of q + 7)) (omega arith))))
+    rw (listed_here q left t) (All-cons (IsInside s) (here q).0 (listed (here q).1 left) (one s k h t) (rw (after_after s k (n_of q + 7)) (from (k + (n_of q + 7)) (omega arith))))
 
 from_here : (left : ℕ) (s : Bor (List ℕ)) (k : ℕ) → k ≤ length s.now → All (IsInside s) (listed (after s k) left)
 from_here zero s k h = rw (listed_none (after s k)) (λ j d l. absurd (omega arith))

@@ -17,7 +17,8 @@ use Rattle.refusal.specs.declared.Refusal.{Refusal}
 use Rattle.refusal.specs.declared.Refusal.TheVariants.{TooLarge, EndByte}
 use Rattle.refusal.proofs.EndsMeant.{first_refused}
 use Rattle.writing.specs.Checks.{count_checked}
-use Rattle.writing.proofs.Entry.{both_passed, count_passed, entry_passed}
+use Rattle.part.proofs.Outcome.{both_passed}
+use Rattle.writing.proofs.Entry.{count_passed, entry_passed}
 use Rattle.refactor.specs.declared.AdsRefactorInfo.{AdsRefactorInfo}
 use Rattle.refactor.specs.declared.RefactorInfos.{RefactorInfos}
 use Rattle.refactor.specs.Refactor.{first_of, alone, chain_alone, infos_of, chain_of, ends, listed}

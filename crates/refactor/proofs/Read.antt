@@ -20,9 +20,9 @@ use Rattle.refactor.specs.Refactor.{first_of, alone, listed, chained, chain_of, 
 use Rattle.refactor.specs.Laid.{size, name_end, byte, followed, parts, Stands, here, behind}
 use Rattle.refactor.specs.Read.{First, first_short, first_cut, first_whole, Alone, too_large, short, cut, name_refused, accepted, Chain, chain_short, chain_cut, chain_whole, AllEnded, Ended, EndsRead, all_zero, at_name, ChainAlone, chain_large, chain_present, chain_refused, chain_ended, RefactorsRead}
 use Rattle.refactor.proofs.Again as again
-use Rattle.refactor.proofs.Again.{n_of, first_here, length_name, listed_here, after_after}
+use Rattle.part.proofs.Slice.{after_after, after_zero}
+use Rattle.refactor.proofs.Again.{n_of, first_here, length_name, listed_here}
 use Rattle.refactor.proofs.Chains.{end_passes}
-use Rattle.refactor.proofs.Inside.{after_zero}
 use Rattle.refactor.proofs.Turn.{ends_refused, nothing_ended}
 
 module _ (s : Bor (List ℕ)) where

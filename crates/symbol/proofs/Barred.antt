@@ -11,7 +11,8 @@ use Rattle.refusal.specs.declared.Refusal.TheVariants.{TooLong, SectionsDisagree
 use Rattle.attribute.specs.Block as attribute
 use Rattle.refactor.specs.Block as refactor
 use Rattle.writing.specs.Checks.{count_checked, strings_checked, size_checked, entry_checked, IsShort}
-use Rattle.writing.proofs.Entry.{both_passed, count_passed, strings_passed}
+use Rattle.part.proofs.Outcome.{both_passed}
+use Rattle.writing.proofs.Entry.{count_passed, strings_passed}
 use Rattle.symbol.specs.declared.writer.NewSymbol.{NewSymbol}
 use Rattle.symbol.specs.Symbol.{type_guid_flag, attributes_flag, extended_flags_flag, refactor_info_flag}
 use Rattle.symbol.specs.Told.{IsTyped}

@@ -5,7 +5,6 @@ pub mod Lies
 pub mod Ends
 pub mod Modes
 pub mod Shown
-pub mod HeadLaws
 pub mod Sizes
 pub mod Sections
 pub mod Accepted

@@ -3,7 +3,6 @@ pub mod Laws
 pub mod Inside
 pub mod Modes
 pub mod Shown
-pub mod Head
 pub mod Kind
 pub mod Writing
 pub mod Told

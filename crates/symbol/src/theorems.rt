@@ -3,7 +3,6 @@ ghost use Rattle.symbol.specs.Laws.{SymbolsWhole};
 ghost use Rattle.symbol.specs.Inside.{SymbolsInside};
 ghost use Rattle.symbol.specs.Modes.{SymbolsModes};
 ghost use Rattle.symbol.specs.Shown.{SymbolsShown, SymbolsNamed};
-ghost use Rattle.symbol.specs.Head.{HeadsRead};
 ghost use Rattle.symbol.specs.Told.{IsTyped, SymbolsAnywhere};
 ghost use Rattle.symbol.specs.Writable.{HoldsBytes, SymbolsWritten};
 ghost use Rattle.symbol.specs.Barred.{SymbolsBarred};
@@ -21,11 +20,6 @@ pub fn symbols_whole()
 /// its end byte.
 pub fn symbols_inside()
     ensures { SymbolsInside }
-{}
-
-/// A head is read exactly where its symbol is, with the same length and name, and refused alike.
-pub fn heads_read()
-    ensures { HeadsRead }
 {}
 
 /// The checked mode accepts what the present mode accepts where 0 follows every string that is met, and reads it alike; what

@@ -1,9 +1,9 @@
 -- What the slots of a symbol and of a field say of the bytes of its entry.
 use Rattle.std.proofs.Common.{ℕ, ◌+◌, ◌-◌, ◌≤◌, ◌≡◌, refl, sym, ap, ◌∙◌, subst, List, [], ◌++◌, length, drop, Ok, arith, Bor, length-drop}
 use Rattle.std.specs.Prelude.{Option, Some, None, is_some, get_or}
-use lib.Seq.{length-take-le}
 use Rattle.le.specs.Le.{le2, le4}
 use Rattle.part.specs.Slice.{part, after}
+use Rattle.part.proofs.Slice.{length_part}
 use Rattle.refusal.specs.declared.Mode.{Mode}
 use Rattle.flags.specs.declared.symbol_flags.AdsSymbol2Flags.{AdsSymbol2Flags}
 use Rattle.symbol.specs.declared.AdsSymbolInfo.{AdsSymbolInfo}
@@ -38,9 +38,6 @@ record Numbers (e : List ℕ) (r : AdsSymbolInfo) : Type 0 where
   type_name : length r.type_name.now ≡ le2 e 26
   comment : length r.comment.now ≡ le2 e 28
 
-part_long : (e : Bor (List ℕ)) (at n : ℕ) → at + n ≤ length e.now → length (part e at n).now ≡ n
-part_long e at n h = length-take-le n (drop at e.now) (simp length-drop (omega arith))
-
 numbers : (mode : Mode) (e : Bor (List ℕ)) (r : AdsSymbolInfo) → symbol_of mode e ≡ Ok r → Numbers e.now r
 unfolding symbol_of ended_symbol with_strings
 numbers mode e r h =
@@ -56,9 +53,9 @@ numbers mode e r h =
       data_type_id = refl;
       flags = refl;
       high = refl;
-      name = part_long e 30 n (omega arith);
-      type_name = part_long e (31 + n) t (omega arith);
-      comment = part_long e (32 + n + t) k (omega arith);
+      name = length_part e 30 n (omega arith);
+      type_name = length_part e (31 + n) t (omega arith);
+      comment = length_part e (32 + n + t) k (omega arith);
     })
 
 pub symbols_told : SymbolsTold
@@ -153,18 +150,10 @@ module _ (mode : Mode) (e : Bor (List ℕ)) (r : AdsFieldInfo) (h : field_of mod
         offset = offset;
         type_id = type_id;
         flags = flags;
-        name = ap (λ (t : Bor (List ℕ)). length t.now) s.0 ∙ part_long e 42 (le2 e.now 32) (omega arith);
-        type_name = ap (λ (t : Bor (List ℕ)). length t.now) s.1 ∙ part_long e (43 + le2 e.now 32) (le2 e.now 34) (omega arith);
-        comment = ap (λ (t : Bor (List ℕ)). length t.now) s.2 ∙ part_long e (44 + le2 e.now 32 + le2 e.now 34) (le2 e.now 36) (omega arith);
+        name = ap (λ (t : Bor (List ℕ)). length t.now) s.0 ∙ length_part e 42 (le2 e.now 32) (omega arith);
+        type_name = ap (λ (t : Bor (List ℕ)). length t.now) s.1 ∙ length_part e (43 + le2 e.now 32) (le2 e.now 34) (omega arith);
+        comment = ap (λ (t : Bor (List ℕ)). length t.now) s.2 ∙ length_part e (44 + le2 e.now 32 + le2 e.now 34) (le2 e.now 36) (omega arith);
       }
-
-  -- the list lies where so many bytes are left as it has
-  list_told : after e (length e.now - length r.attributes.bytes.now) ≡ r.attributes.bytes
-  list_told =
-      let l = list_place mode e r h in
-      let long : length r.attributes.bytes.now ≡ length e.now - l.at = ap (λ (s : Bor (List ℕ)). length s.now) l.is ∙ length-drop l.at e.now in
-      let at : length e.now - length r.attributes.bytes.now ≡ l.at = omega (arith, l.fits) in
-      ap (after e) at ∙ sym l.is
 
 -- whatever slots follow those of a field
 pub field_told : (more : List ℕ) (mode : Mode) (e : Bor (List ℕ)) (r : AdsFieldInfo) → field_of mode e ≡ Ok r → FieldTold e r (λ k. get_or (field_slots r ++ more) k 0) (guid_bytes r.guid)
@@ -188,7 +177,7 @@ field_told more mode e r h =
       type_name_len = n.type_name;
       comment_len = n.comment;
       guid_told = guid_told r.guid;
-      attributes = ap (λ (l : ℕ). after e (l - length r.attributes.bytes.now)) w.long ∙ list_told mode e r h;
+      attributes = ap (λ (l : ℕ). after e (l - length r.attributes.bytes.now)) w.long ∙ sym (list_place mode e r h).is;
       attribute_count = refl;
     }
 
