@@ -1,3 +1,4 @@
+pub mod Ends
 pub mod Attributes
 pub mod Refactors
 pub mod Direct

@@ -3,7 +3,9 @@ ghost use Rattle.std.specs.Prelude.{◌≡◌, ◌≤◌, length};
 ghost use Rattle.part.specs.Slice.{after};
 ghost use Rattle.places.specs.Alone.{attribute_alone, refactor_alone, chain_read, chain_record};
 
-use crate::{AttributePlaces, RefactorPlaces, attribute_before, refactor_before, refactor_numbered};
+use crate::{
+    AttributePlaces, RefactorPlaces, attribute_before, refactor_before, refactor_numbered,
+};
 use attribute::AdsAttribute;
 use refactor::{AdsRefactorInfo, RefactorInfos};
 use refusal::{Mode, Refusal};
