@@ -2,7 +2,7 @@
 use Rattle.std.proofs.Common.{ℕ, subst, zero, suc, ◌+◌, ◌-◌, ◌<◌, ◌≤◌, ◌≡◌, refl, sym, ap, ap₂, ◌∙◌, Bool, true, false, List, [], ◌∷◌, ◌++◌, map, length, get_or, min, Ok, Err, Result, arith, length-drop, Bor}
 use Rattle.std.specs.Prelude.{eqb, leb, ltb, if◌then◌else◌}
 use Rattle.std.specs.List.{All}
-use Rattle.std.proofs.lemmas.List.Elements.{All-nil, All-cons, All-head, All-tail}
+use Rattle.std.proofs.lemmas.List.Elements.{All-nil, All-cons}
 use borrow.Author.Tests.{ltb-false, leb-true}
 use Rattle.std.proofs.lemmas.List.{get_or-drop}
 use Rattle.le.specs.Le.{le2, le4, has}
@@ -13,13 +13,14 @@ use Rattle.refusal.specs.declared.Mode.{Mode}
 use Rattle.refusal.specs.declared.Mode.TheVariants.{Present, Checked}
 use Rattle.refusal.specs.declared.Refusal.{Refusal}
 use Rattle.attribute.specs.declared.AdsAttribute.{AdsAttribute}
-use Rattle.attribute.specs.Attribute.{first_of, listed, ends}
+use Rattle.attribute.specs.Attribute.{first_of, listed, ends, after_listed}
 use Rattle.attribute.proofs.Again.{n_of, v_of, here, fits, first_here, ends_here, length_name, length_value}
 use Rattle.attribute.proofs.Laws.{listed_more, listed_stop, listed_none, listed_again}
 use Rattle.field.specs.declared.AdsFieldInfo.{AdsFieldInfo}
 use Rattle.field.specs.Front.{with_strings, string_ends, front_of, HasStrings}
 use Rattle.field.specs.Field.{field_of}
-use Rattle.field.specs.Within.{IsAttributeIn, shown}
+use Rattle.attribute.specs.Inside.{AttributesLie}
+use Rattle.field.specs.Within.{shown}
 use Rattle.field.specs.Placed.{attributes_at, attributes_there}
 use Rattle.field.specs.Ended.{end_in, attribute_strings}
 use Rattle.field.specs.Modes.{strings_met, strings_of, IsOfModes, FieldsModes}
@@ -89,15 +90,15 @@ ends_are {e} s (suc left) i = by_first (λ q j. ends_are q left j) (first_of s) 
 abbrev EndsThere : Bor (List ℕ) → Bor (List ℕ) → Type 0
 EndsThere e s = end_in e s < length e.now
 
-attribute_there : (e : Bor (List ℕ)) (all : List AdsAttribute) → All (IsAttributeIn e) all → All (EndsThere e) (attribute_strings all)
-attribute_there e [] i = rw no_strings (All-nil (EndsThere e))
-attribute_there e (a ∷ all) i =
-    let h = All-head (IsAttributeIn e) a all i in
-    let x : a.name.ref_ptr.1 ≡ e.ref_ptr.1 + h.at = ap (λ (s : Bor (List ℕ)). s.ref_ptr.1) h.name in
-    let y : a.value.ref_ptr.1 ≡ e.ref_ptr.1 + (h.at + length a.name.now + 1) = ap (λ (s : Bor (List ℕ)). s.ref_ptr.1) h.value in
-    let name : EndsThere e a.name = omega (arith, x, h.room) in
-    let value : EndsThere e a.value = omega (arith, y, h.room) in
-    rw (two_strings a all) (All-cons (EndsThere e) a.name (a.value ∷ attribute_strings all) name (All-cons (EndsThere e) a.value (attribute_strings all) value (attribute_there e all (All-tail (IsAttributeIn e) a all i))))
+attribute_there : (e : Bor (List ℕ)) (at : ℕ) (all : List AdsAttribute) (to : ℕ) → AttributesLie e at all to → All (EndsThere e) (attribute_strings all)
+attribute_there e at [] to i = rw no_strings (All-nil (EndsThere e))
+attribute_there e at (a ∷ all) to i =
+    let x : a.name.ref_ptr.1 ≡ e.ref_ptr.1 + (at + 2) = ap (λ (s : Bor (List ℕ)). s.ref_ptr.1) i.0.is in
+    let y : a.value.ref_ptr.1 ≡ e.ref_ptr.1 + (at + 2 + length a.name.now + 1) = ap (λ (s : Bor (List ℕ)). s.ref_ptr.1) i.1.is in
+    let name : EndsThere e a.name = omega (arith, x, i.0.within) in
+    let value : EndsThere e a.value = omega (arith, y, i.1.within) in
+    rw (two_strings a all) (All-cons (EndsThere e) a.name (a.value ∷ attribute_strings all) name
+    (All-cons (EndsThere e) a.value (attribute_strings all) value (attribute_there e (at + 2 + length a.name.now + 1 + length a.value.now + 1) all to i.2)))
 
 -- one test after another
 either : {B : Type 0} (x y : Result Unit Refusal) (z : Result B Refusal) → and_then x (λ _. and_then y (λ _. z)) ≡ and_then (and_then x (λ _. y)) (λ _. z)
@@ -152,7 +153,7 @@ module _ (e : Bor (List ℕ)) (h : HasStrings e) where
       let name : EndsThere e r.name = omega (arith, x, h.strings) in
       let type : EndsThere e r.type_name = omega (arith, y, h.strings) in
       let comment : EndsThere e r.comment = omega (arith, z, h.strings) in
-      let attributes = attribute_there e (shown r) (within e h).attributes in
+      let attributes = attribute_there e (rest_at e r.attributes.bytes) (shown r) (rest_at e (after_listed r.attributes.bytes r.attributes.count)) (within e h).attributes in
       subst (λ (l : List (Bor (List ℕ))). All (EndsThere e) l) (sym strings_are)
       (All-cons (EndsThere e) r.name (r.type_name ∷ r.comment ∷ attribute_strings (shown r)) name
       (All-cons (EndsThere e) r.type_name (r.comment ∷ attribute_strings (shown r)) type (All-cons (EndsThere e) r.comment (attribute_strings (shown r)) comment attributes)))

@@ -1,8 +1,6 @@
 -- What a field tells lies in its entry: proved.
 use Rattle.std.proofs.Common.{ℕ, subst, zero, suc, ◌+◌, ◌*◌, ◌≤◌, ◌≡◌, refl, sym, ap, ap₂, ◌∙◌, Bool, true, false, List, length, Ok, Err, Result, min, arith, Bor}
 use Rattle.std.specs.Prelude.{ltb, leb, if◌then◌else◌}
-use Rattle.std.specs.List.{All}
-use Rattle.std.proofs.lemmas.List.Elements.{All-nil, All-cons}
 use borrow.Author.Tests.{ltb-false, leb-true}
 use Rattle.le.specs.Le.{le2, le4, has}
 use Rattle.part.specs.Slice.{part, after}
@@ -16,8 +14,8 @@ use Rattle.attribute.specs.declared.AdsAttribute.{AdsAttribute}
 use Rattle.attribute.specs.declared.Attributes.{Attributes}
 use Rattle.attribute.specs.Attribute.{first_of, listed}
 use Rattle.part.proofs.Slice.{length_part, end_self, end_after, part_of_end}
-use Rattle.attribute.proofs.Again.{n_of, v_of, here, fits, is_here, length_name, length_value}
-use Rattle.attribute.proofs.Laws.{listed_more, listed_stop, listed_none, listed_again}
+use Rattle.attribute.proofs.Inside.{attributes_inside}
+use Rattle.attribute.proofs.Laws.{listed_none, listed_again}
 use Rattle.part.proofs.Outcome.{both_passed}
 use Rattle.field.specs.declared.AdsFieldInfo.{AdsFieldInfo}
 use Rattle.field.specs.declared.front.Front.{Front}
@@ -26,7 +24,7 @@ use Rattle.field.specs.Skip.{ahead, after_items}
 use Rattle.field.specs.Front.{with_strings, string_ends, front_of, front_by_header, HasStrings}
 use Rattle.field.specs.Tail.{type_guid_flag, copy_mask_flag, method_infos_flag, attributes_flag, guid_of, after_mask, after_methods, attributes_of, sections_of, complete, attribute_ends, tail_of}
 use Rattle.field.specs.Field.{joined, behind_items, field_of}
-use Rattle.field.specs.Within.{IsAttributeIn, IsWithin, FieldsWithin}
+use Rattle.field.specs.Within.{IsWithin, FieldsWithin}
 
 pub end_ahead : {e s : Bor (List ℕ)} (n : ℕ) → IsEnd e s → IsEnd e (ahead s n)
 end_ahead {e} {s} n i = end_after (min n (length s.now)) (omega arith) i
@@ -79,31 +77,6 @@ is_list {e} {s} true i = turn (leb 2 (length s.now)) refl
     turn : (b : Bool) → leb 2 (length s.now) ≡ b → IsList e (attributes_of s true).0
     turn true h = simp h (record { place = end_after 2 (leb-true 2 (length s.now) h) i; counted = ap (λ l. length l) (listed_again (after s 2) (le2 s.now 0)) })
     turn false h = simp h (record { place = i; counted = none_counted s })
-
--- the first attribute of the end of an entry
-here_in : {e s : Bor (List ℕ)} → IsEnd e s → n_of s + v_of s + 4 ≤ length s.now → IsAttributeIn e (here s).0
-here_in {e} {s} i h =
-    let n = length_name s h in
-    let v = length_value s h in
-    record {
-      at = rest_at e s + 2;
-      name = simp n (part_of_end i 2 (n_of s));
-      value = simp (n, v) (part_of_end i (n_of s + 3) (v_of s) ∙ ap (λ (k : ℕ). part e k (v_of s)) (omega arith));
-      room = simp (n, v) (omega (arith, h, i.within));
-    }
-
-all_in : {e : Bor (List ℕ)} (s : Bor (List ℕ)) (count : ℕ) → IsEnd e s → All (IsAttributeIn e) (listed s count)
-all_in {e} s zero i = rw (listed_none s) (All-nil (IsAttributeIn e))
-all_in {e} s (suc left) i = by_first (λ q j. all_in q left j) (first_of s) refl
-  where
-    by_first : ((q : Bor (List ℕ)) → IsEnd e q → All (IsAttributeIn e) (listed q left)) → (w : Result (AdsAttribute × Bor (List ℕ)) Refusal) → first_of s ≡ w → All (IsAttributeIn e) (listed s (suc left))
-    by_first on (Err why) f = rw (listed_stop s left why f) (All-nil (IsAttributeIn e))
-    by_first on (Ok p) f =
-        let t = fits s p f in
-        let same = is_here s p f in
-        let next : IsEnd e p.1 = subst (λ q. IsEnd e q.1) same (end_after (n_of s + v_of s + 4) t i) in
-        let this : IsAttributeIn e p.0 = subst (λ q. IsAttributeIn e q.0) same (here_in i t) in
-        rw (listed_more s left p f) (All-cons (IsAttributeIn e) p.0 (listed p.1 left) this (on p.1 next))
 
 -- the bytes behind the strings of a front, and behind its items
 pub end_behind : (e : Bor (List ℕ)) (n t k : ℕ) → 45 + n + t + k ≤ length e.now → IsEnd e (behind_items (with_strings e n t k))
@@ -218,7 +191,8 @@ module _ (e : Bor (List ℕ)) (h : HasStrings e) where
         type_name = ap₂ (λ (m u : ℕ). part e (43 + m) u) (sym x) (sym y);
         comment = ap₂ (λ (m u : ℕ). part e (44 + m + u) k) (sym x) (sym y) ∙ ap (λ (u : ℕ). part e (44 + length record_is.name.now + length record_is.type_name.now) u) (sym z);
         room = omega (arith, x, y, z, h.strings);
-        attributes = all_in record_is.attributes.bytes record_is.attributes.count list_is.place;
+        attribute_bytes = list_is.place;
+        attributes = (attributes_inside e record_is.attributes.bytes record_is.attributes.count list_is.place).lie;
         counted = list_is.counted;
       }
 
@@ -229,6 +203,4 @@ fields_within mode e r h =
 
 -- the bytes of its attributes are the end of its entry
 pub list_place : (mode : Mode) (e : Bor (List ℕ)) (r : AdsFieldInfo) → field_of mode e ≡ Ok r → IsEnd e r.attributes.bytes
-list_place mode e r h =
-    let a = accepted_is mode e r h in
-    subst (λ (x : AdsFieldInfo). IsEnd e x.attributes.bytes) a.is (list_is e a.strings).place
+list_place mode e r h = (fields_within mode e r h).attribute_bytes

@@ -1,9 +1,9 @@
 -- Laws of parts of parts, and of bytes that are the end of others.
-use Rattle.std.proofs.Common.{ℕ, ◌+◌, ◌≤◌, ◌≡◌, List, length, take, refl, sym, ap, ap₂, ◌∙◌, arith, length-drop, drop-drop, Bor}
+use Rattle.std.proofs.Common.{ℕ, ◌+◌, ◌<◌, ◌≤◌, ◌≡◌, List, length, take, refl, sym, ap, ap₂, ◌∙◌, arith, length-drop, drop-drop, subst, Bor}
 use native.Mathlib.Nat.{add_assoc, add-zero}
 use lib.Seq.{length-take-le}
 use Rattle.part.specs.Slice.{part, after}
-use Rattle.part.specs.End.{rest_at, IsEnd}
+use Rattle.part.specs.End.{rest_at, IsEnd, IsString}
 
 pub after_after : (s : Bor (List ℕ)) (k m : ℕ) → after (after s k) m ≡ after s (k + m)
 after_after s k m = ap₂ (λ (x : ℕ) (y : List ℕ). record { ref_ptr = (s.ref_ptr.0, x); now = y }) (add_assoc s.ref_ptr.1 k m) (drop-drop m k s.now)
@@ -47,3 +47,14 @@ end_memory a = omega (arith, ap (λ (q : Bor (List ℕ)). q.ref_ptr.1) a.is, a.w
 -- a part of an end is a part of the whole
 pub part_of_end : {e s : Bor (List ℕ)} → IsEnd e s → (at n : ℕ) → part s at n ≡ part e (rest_at e s + at) n
 part_of_end {e} {s} a at n = ap (λ (q : Bor (List ℕ)). part q at n) a.is ∙ part_after e (rest_at e s) at n
+
+-- a string of an end is a string of the whole
+pub string_in : (e s q : Bor (List ℕ)) (k : ℕ) → IsEnd e s → q ≡ part s k (length q.now) → k + length q.now < length s.now → IsString e (rest_at e s + k) q
+string_in e s q k a h l = record {
+  is = h ∙ part_of_end a k (length q.now);
+  within = omega (arith, l, a.within);
+}
+
+-- the same place, counted otherwise
+pub string_at : (e q : Bor (List ℕ)) (at to : ℕ) → at ≡ to → IsString e at q → IsString e to q
+string_at e q at to h s = subst (λ k. IsString e k q) h s

@@ -1,7 +1,7 @@
--- docs/FORMAT.md, "Numbers": the rest of some bytes, from a place on to their end, in their memory.
-use Rattle.std.specs.Prelude.{ℕ, ◌-◌, ◌≤◌, ◌≡◌, List, length}
+-- docs/FORMAT.md, "Numbers": the rest of some bytes, from a place on to their end, and a string in them, in their memory.
+use Rattle.std.specs.Prelude.{ℕ, ◌+◌, ◌-◌, ◌<◌, ◌≤◌, ◌≡◌, List, length}
 use Rattle.std.specs.Borrow.{Bor}
-use Rattle.part.specs.Slice.{after}
+use Rattle.part.specs.Slice.{part, after}
 
 -- where the rest of some bytes begins in them
 abbrev pub rest_at : Bor (List ℕ) → Bor (List ℕ) → ℕ
@@ -11,3 +11,8 @@ rest_at whole rest = length whole.now - length rest.now
 pub record IsEnd (whole rest : Bor (List ℕ)) : Type 0 where
   pub is : rest ≡ after whole (rest_at whole rest)
   pub within : length rest.now ≤ length whole.now
+
+-- a string of some bytes from a place on, in their memory, with an end byte behind it
+pub record IsString (whole : Bor (List ℕ)) (at : ℕ) (s : Bor (List ℕ)) : Type 0 where
+  pub is : s ≡ part whole at (length s.now)
+  pub within : at + length s.now < length whole.now

@@ -22,11 +22,10 @@ use Rattle.refactor.specs.Read.{First, first_short, first_cut, first_whole, Alon
 use Rattle.refactor.proofs.Again as again
 use Rattle.part.proofs.Slice.{after_after, after_zero}
 use Rattle.refactor.proofs.Again.{n_of, first_here, length_name, listed_here}
-use Rattle.refactor.proofs.Chains.{end_passes}
-use Rattle.refactor.proofs.Turn.{ends_refused, nothing_ended}
+use Rattle.refactor.proofs.Turn.{end_passes, ends_refused, nothing_ended}
 
 module _ (s : Bor (List ℕ)) where
-  read_whole : size s.now ≤ length s.now → first_of s ≡ Ok (parts s, after s (size s.now))
+  pub read_whole : size s.now ≤ length s.now → first_of s ≡ Ok (parts s, after s (size s.now))
   read_whole h = first_here s (omega arith) ∙ ap (λ (k : ℕ). Ok (parts s, after s k)) (omega arith)
 
   first_by : (t : Bool) → ltb (length s.now) 7 ≡ t → (u : Bool) → ltb (length s.now) (n_of s + 7) ≡ u → First s

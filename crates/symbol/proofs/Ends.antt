@@ -10,16 +10,17 @@ use Rattle.refusal.specs.declared.Refusal.TheVariants.{EndByte}
 use Rattle.attribute.specs.declared.AdsAttribute.{AdsAttribute}
 use Rattle.attribute.specs.Attribute as attribute
 use Rattle.attribute.proofs.Again as attributes
+use Rattle.attribute.proofs.Inside.{attribute_name, attribute_value, attribute_next, attribute_rest}
 use Rattle.attribute.proofs.Laws.{listed_more, listed_stop, listed_none}
 use Rattle.refactor.specs.declared.AdsRefactorInfo.{AdsRefactorInfo}
 use Rattle.refactor.specs.Refactor as refactor
 use Rattle.refactor.proofs.Again as refactors
+use Rattle.refactor.proofs.Inside.{refactor_name, refactor_next, refactor_rest}
 use Rattle.symbol.specs.declared.AdsSymbolInfo.{AdsSymbolInfo}
 use Rattle.symbol.specs.Symbol.{extended_word, refactor_info_flag, string_ends, attribute_ends, refactor_ends, symbol_ended}
-use Rattle.part.specs.End.{IsEnd, rest_at}
-use Rattle.symbol.specs.Inside.{IsString, IsInside}
+use Rattle.part.specs.End.{IsEnd, IsString, rest_at}
+use Rattle.symbol.specs.Inside.{IsInside}
 use Rattle.symbol.specs.Modes.{end_in, attribute_strings, met, met_names, strings_of}
-use Rattle.symbol.proofs.Lies.{attribute_name, attribute_value, attribute_next, attribute_rest, refactor_name, refactor_next, refactor_rest}
 
 -- the place behind a string, and the byte there
 abbrev pub end_of : Bor (List ℕ) → Bor (List ℕ) → ℕ × ℕ

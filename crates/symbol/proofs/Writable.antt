@@ -33,7 +33,8 @@ use Rattle.symbol.specs.declared.writer.NewSymbol.{NewSymbol}
 use Rattle.symbol.specs.Symbol.{type_guid_flag, attributes_flag, extended_flags_flag, refactor_info_flag}
 use Rattle.symbol.specs.Told.{IsSixteen, IsTyped}
 use Rattle.symbol.specs.Writing.{flagged, guid_bytes, symbol_bytes, sections_checked, symbol_checked, symbol_written}
-use Rattle.symbol.specs.Writable.{AreAttributes, AreRecords, size_of, IsWritable, AreBytes, SymbolsWritten}
+use Rattle.symbol.specs.Barred.{size_of}
+use Rattle.symbol.specs.Writable.{AreAttributes, AreRecords, IsWritable, AreBytes, SymbolsWritten}
 use Rattle.symbol.proofs.Accepted.{Accepted, accepted_is}
 use Rattle.symbol.proofs.Sections.{same_test}
 use Rattle.symbol.proofs.Sizes.{length_parts, length_sections}

@@ -1,33 +1,15 @@
 -- docs/FORMAT.md, "Symbol entries": every number of a symbol stands at its place, and every part lies in its entry, in layout order.
-use Rattle.std.specs.Prelude.{ℕ, ◌+◌, ◌-◌, ◌<◌, ◌≡◌, Bool, false, List, [], ◌∷◌, Some, None, Ok, is_some, leb, length, take, drop, if◌then◌else◌}
+use Rattle.std.specs.Prelude.{ℕ, ◌+◌, ◌-◌, ◌<◌, ◌≡◌, Bool, false, List, Some, None, Ok, is_some, leb, length, take, drop, if◌then◌else◌}
 use Rattle.std.specs.Borrow.{Bor}
 use Rattle.le.specs.Le.{le2, le4, has}
-use Rattle.part.specs.Slice.{part}
-use Rattle.part.specs.End.{IsEnd, rest_at}
+use Rattle.part.specs.End.{IsEnd, IsString, rest_at}
 use Rattle.refusal.specs.declared.Mode.{Mode}
-use Rattle.attribute.specs.declared.AdsAttribute.{AdsAttribute}
 use Rattle.attribute.specs.Attribute as attribute
-use Rattle.refactor.specs.declared.AdsRefactorInfo.{AdsRefactorInfo}
+use Rattle.attribute.specs.Inside.{AttributesLie}
 use Rattle.refactor.specs.Refactor as refactor
+use Rattle.refactor.specs.Inside.{RefactorsLie}
 use Rattle.symbol.specs.declared.AdsSymbolInfo.{AdsSymbolInfo}
 use Rattle.symbol.specs.Symbol.{symbol_of}
-
--- the bytes of an entry from a place on, in its memory, with an end byte behind them
-pub record IsString (e : Bor (List ℕ)) (at : ℕ) (s : Bor (List ℕ)) : Type 0 where
-  pub is : s ≡ part e at (length s.now)
-  pub within : at + length s.now < length e.now
-
--- attributes, and refactor records, one after another from a place on up to another
-abbrev pub AttributesLie : Bor (List ℕ) → ℕ → List AdsAttribute → ℕ → Type 0
-AttributesLie e at [] to = at ≡ to
-AttributesLie e at (a ∷ more) to =
-    IsString e (at + 2) a.name
-    × IsString e (at + 2 + length a.name.now + 1) a.value
-    × AttributesLie e (at + 2 + length a.name.now + 1 + length a.value.now + 1) more to
-
-abbrev pub RefactorsLie : Bor (List ℕ) → ℕ → List AdsRefactorInfo → ℕ → Type 0
-RefactorsLie e at [] to = at ≡ to
-RefactorsLie e at (r ∷ more) to = IsString e (at + 6) r.name × RefactorsLie e (at + 6 + length r.name.now + 1) more to
 
 -- where what follows the strings begins, the GUID, and the attributes that are shown
 abbrev pub behind_strings : AdsSymbolInfo → ℕ

@@ -81,7 +81,8 @@ fn read_attributes(rest: &[u8], flagged: bool) -> (Attributes<'_>, &[u8])
         };
         return (none, rest);
     }
-    attribute::list(&rest[2..], le::u16_at(rest, 0) as usize)
+    let found = attribute::list(&rest[2..], le::u16_at(rest, 0) as usize);
+    (found.attributes, found.rest)
 }
 
 #[inline(always)]
