@@ -1,11 +1,11 @@
 -- What stands in a block is read wherever the block stands, whatever follows it.
 use Rattle.std.proofs.Common.{◌≡◌, ℕ, zero, suc, ◌+◌, ◌-◌, ◌<◌, ◌≤◌, Bool, true, false, List, [], ◌∷◌, ◌++◌, length, take, drop, get_or, Ok, Err, Result, refl, sym, ap, ap₂, ◌∙◌, arith, length-append, length-drop, Bor}
 use Rattle.std.specs.Prelude.{None, Option, eqb, if◌then◌else◌}
-use native.Mathlib.Nat.{add_assoc, add-zero}
-use lib.Seq.{drop-drop, length-take-le, take-append-le, drop-append-le}
+use lib.Seq.{length-take-le, take-append-le, drop-append-le}
 use lib.ListN.{get_or-append}
 use borrow.Author.Tests.{le-ltb}
 use Rattle.part.specs.Slice.{part, after}
+use Rattle.part.proofs.Slice.{after_after, after_zero}
 use Rattle.part.specs.Outcome.{outcome, and_then}
 use Rattle.refusal.specs.EndBytes.{ended}
 use Rattle.refusal.specs.declared.Refusal.{Refusal}
@@ -111,9 +111,6 @@ module _ (s b : Bor (List ℕ)) (more : List ℕ) (e : s.now ≡ b.now ++ more) 
     pub same_rest : (here s).1.now ≡ (here b).1.now ++ more
     same_rest = rw (same_n, same_v) (rest_now (n_of b + v_of b + 4) there)
 
-pub after_after : (s : Bor (List ℕ)) (k m : ℕ) → after (after s k) m ≡ after s (k + m)
-after_after s k m = ap₂ (λ (x : ℕ) (y : List ℕ). record { ref_ptr = (s.ref_ptr.0, x); now = y }) (add_assoc s.ref_ptr.1 k m) (drop-drop m k s.now)
-
 either_none : (b : Bool) (x : Option Refusal) → x ≡ None → (if b then None else x) ≡ None
 either_none true x h = refl
 either_none false x h = h
@@ -140,9 +137,6 @@ read_more s b more left e g r =
       whole = stopped_here s left t r.whole;
       ended = λ at. ap ended (ends_here s at left t) ∙ two_zero _ _ _ n v ∙ r.ended (at + (2 + n_of s + 1 + v_of s) + 1);
     }
-
-pub after_zero : (s : Bor (List ℕ)) → s ≡ after s 0
-after_zero s = ap (λ (x : ℕ). record { ref_ptr = (s.ref_ptr.0, x); now = s.now }) (sym (add-zero s.ref_ptr.1))
 
 read_none : (s b : Bor (List ℕ)) → length b.now ≡ 0 → IsRead 0 b s
 unfolding stopped ends ended

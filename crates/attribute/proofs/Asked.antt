@@ -1,29 +1,21 @@
 -- What an answer to a number or a name means: proved.
 use Rattle.std.proofs.Common.{◌≡◌, ℕ, suc, Bool, true, false, List, [], ◌∷◌, ◌++◌, length, Ok, Result, refl, sym, ap, ap₂, ◌∙◌, subst, arith}
-use Rattle.std.specs.Prelude.{nat_eq, slice_get, find, ok_or, Option, Some, if◌then◌else◌}
+use Rattle.std.specs.Prelude.{nat_eq, find, ok_or, Some, if◌then◌else◌}
 use Rattle.std.specs.Cmp.Lexicographic.{pointwise, same_text, other_text}
-use Rattle.std.proofs.lemmas.Option.{slice_get_past}
 use Rattle.refusal.specs.declared.Refusal.{Refusal}
-use Rattle.refusal.specs.declared.Refusal.TheVariants.{NameNotFound, NoSuchNumber}
+use Rattle.refusal.specs.declared.Refusal.TheVariants.{NameNotFound}
+use Rattle.refusal.proofs.ByNumber.{numbers_meant}
 use Rattle.attribute.specs.declared.AdsAttribute.{AdsAttribute}
 use Rattle.attribute.specs.Attribute.{named}
 use Rattle.attribute.specs.Asked.{AttributesShown, NoneNamed, FirstNamed, found, nowhere, AttributesNamed, OneNamed}
-use Rattle.attribute.proofs.Inside.{each_more}
-
-at_number : (before behind : List AdsAttribute) (a : AdsAttribute) → slice_get (before ++ (a ∷ behind)) (length before) ≡ Some a
-at_number [] behind a = refl
-at_number (x ∷ before) behind a = at_number before behind a
+use Rattle.std.proofs.lemmas.List.Elements.{All-cons}
 
 pub attributes_shown : AttributesShown
-attributes_shown all number = record {
-  shown = λ before behind a e l. ap₂ (λ (x : List AdsAttribute) (n : ℕ). ok_or (slice_get x n) (NoSuchNumber (length all) number)) e (sym l)
-      ∙ ap (λ (x : Option AdsAttribute). ok_or x (NoSuchNumber (length all) number)) (at_number before behind a);
-  past = λ h. ap (λ (x : Option AdsAttribute). ok_or x (NoSuchNumber (length all) number)) (slice_get_past all number h);
-}
+attributes_shown all number = numbers_meant all number
 
 -- the first of some has the name, or the answer is that of the others
 none_later : (name : List ℕ) (a : AdsAttribute) (all : List AdsAttribute) → (a.name.now ≡ name → ⊥) → NoneNamed name all → NoneNamed name (a ∷ all)
-none_later name a all = each_more (λ b. b.name.now ≡ name → ⊥) a all
+none_later name a all = All-cons (λ b. b.name.now ≡ name → ⊥) a all
 
 later : (name : List ℕ) (a : AdsAttribute) (all : List AdsAttribute) (t : Result AdsAttribute Refusal) → (a.name.now ≡ name → ⊥) → FirstNamed all name t → FirstNamed (a ∷ all) name t
 later name a all t not (found before behind b e is has none) = found (a ∷ before) behind b (ap (λ l. a ∷ l) e) is has (none_later name a before not none)

@@ -12,7 +12,8 @@ use Rattle.attribute.specs.Writing.{attribute_bytes, lengths_checked}
 use Rattle.attribute.specs.Laid.{size, byte}
 use Rattle.attribute.specs.BlockMeant.{IsGood, Good, none, one_more, BlockMeant, passes, longer, fewer, IsLaid, Written, name_too_long, value_too_long, written, AttributesRefused}
 use Rattle.attribute.proofs.Again as again
-use Rattle.attribute.proofs.Again.{n_of, v_of, here, good_here, after_after, after_zero}
+use Rattle.part.proofs.Slice.{after_after, after_zero}
+use Rattle.attribute.proofs.Again.{n_of, v_of, here, good_here}
 use Rattle.attribute.proofs.Fit.{is_written, exact_turn, good_turn}
 use Rattle.attribute.proofs.Written as writes
 

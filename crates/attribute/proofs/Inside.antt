@@ -1,81 +1,53 @@
--- The parts of listed attributes lie inside: proved.
-use Rattle.std.proofs.Common.{◌≡◌, ℕ, zero, suc, ◌+◌, ◌≤◌, List, ◌∷◌, length, take, Ok, Err, Result, refl, sym, ap, ap₂, ◌∙◌, subst, arith, length-drop, Bor}
-use native.Mathlib.Nat.{add_assoc}
-use lib.Seq.{drop-drop}
-use Rattle.std.specs.List.{All}
-use Rattle.part.specs.Slice.{part, after}
+-- Where listed attributes lie: proved.
+use Rattle.std.proofs.Common.{◌≡◌, ℕ, zero, suc, ◌+◌, ◌≤◌, List, length, Ok, Err, Result, refl, sym, ap, subst, arith, length-drop, Bor}
+use Rattle.part.specs.Slice.{part}
+use Rattle.part.specs.End.{IsEnd, IsString, rest_at}
+use Rattle.part.proofs.Slice.{end_after, string_in, string_at}
 use Rattle.refusal.specs.declared.Refusal.{Refusal}
 use Rattle.attribute.specs.declared.AdsAttribute.{AdsAttribute}
 use Rattle.attribute.specs.Attribute.{first_of, listed, after_listed}
-use Rattle.attribute.specs.Inside.{IsInside, AttributesInside}
-use Rattle.attribute.proofs.Again.{n_of, v_of, here, fits, first_here, length_name, length_value, after_after, after_zero}
+use Rattle.attribute.specs.Inside.{AttributesLie, AreInside, AttributesInside}
+use Rattle.attribute.proofs.Again.{n_of, v_of, here, fits, first_here, length_name, length_value}
 use Rattle.attribute.proofs.Laws.{listed_more, listed_none, listed_stop, after_more, after_none, after_stop}
 
-part_after : (s : Bor (List ℕ)) (k at n : ℕ) → part (after s k) at n ≡ part s (k + at) n
-part_after s k at n = ap₂ (λ (x : ℕ) (y : List ℕ). record { ref_ptr = (s.ref_ptr.0, x); now = take n y }) (add_assoc s.ref_ptr.1 k at) (drop-drop at k s.now)
+-- the attribute at the start of an entry's last bytes, and those after it
+module _ (e s : Bor (List ℕ)) (a : IsEnd e s) (there : n_of s + v_of s + 4 ≤ length s.now) where
+  pub attribute_name : IsString e (rest_at e s + 2) (here s).0.name
+  attribute_name =
+      let n = length_name s there in
+      string_in e s (here s).0.name 2 a (ap (part s 2) (sym n)) (omega (arith, n, there))
 
--- of the bytes from a place on
-module _ (s : Bor (List ℕ)) (k : ℕ) (inside : k ≤ length s.now) where
-  abbrev rest : Bor (List ℕ)
-  rest = after s k
+  pub attribute_value : IsString e (rest_at e s + 2 + length (here s).0.name.now + 1) (here s).0.value
+  attribute_value =
+      let n = length_name s there in
+      let v = length_value s there in
+      string_at e (here s).0.value (rest_at e s + (n_of s + 3)) (rest_at e s + 2 + length (here s).0.name.now + 1) (omega (arith, n))
+      (string_in e s (here s).0.value (n_of s + 3) a (ap (part s (n_of s + 3)) (sym v)) (omega (arith, v, there)))
 
-  record FromHere (left : ℕ) : Type 0 where
-    each : All (IsInside s) (listed rest left)
-    end : ℕ
-    stop : after_listed rest left ≡ after s end
-    whole : end ≤ length s.now
+  pub attribute_next : rest_at e (here s).1 ≡ rest_at e s + 2 + length (here s).0.name.now + 1 + length (here s).0.value.now + 1
+  attribute_next =
+      let n = length_name s there in
+      let v = length_value s there in
+      omega (arith, n, v, there, a.within, length-drop (n_of s + v_of s + 4) s.now)
 
-  one : n_of rest + v_of rest + 4 ≤ length rest.now → IsInside s (here rest).0
-  one t =
-      let l = length-drop k s.now in
+  pub attribute_rest : IsEnd e (here s).1
+  attribute_rest = end_after (n_of s + v_of s + 4) there a
+
+  more_inside : (left : ℕ) → AreInside e (here s).1 left → AreInside e s (suc left)
+  more_inside left i =
+      let q : Bor (List ℕ) = (here s).1 in
+      let f = first_here s there in
+      let next = subst (λ k. AttributesLie e k (listed q left) (rest_at e (after_listed q left))) attribute_next i.lie in
       record {
-        name_at = k + 2;
-        value_at = k + (n_of rest + 3);
-        next = k + (n_of rest + v_of rest + 4);
-        name = rw (length_name rest t) (part_after s k 2 (n_of rest));
-        value = rw (length_value rest t) (part_after s k (n_of rest + 3) (v_of rest));
-        name_ended = rw (length_name rest t) (omega arith);
-        value_ended = rw (length_value rest t) (omega arith);
-        whole = omega arith;
+        lie = rw (listed_more s left (here s) f, after_more s left (here s) f) (attribute_name, attribute_value, next);
+        rest = rw (after_more s left (here s) f) i.rest;
       }
 
-pub each_more : {X : Type 0} (P : X → Type 0) (x : X) (xs : List X) → P x → All P xs → All P (x ∷ xs)
-each_more P x xs p ps zero d h = p
-each_more P x xs p ps (suc k) d h = ps k d (omega arith)
-
-none_here : (s : Bor (List ℕ)) (k : ℕ) (h : k ≤ length s.now) → FromHere s k h 0
-none_here s k h = record { each = rw (listed_none (after s k)) (λ j d l. absurd (omega arith)); end = k; stop = after_none (after s k); whole = h }
-
-stop_here : (s : Bor (List ℕ)) (k : ℕ) (h : k ≤ length s.now) (left : ℕ) (why : Refusal) → first_of (after s k) ≡ Err why → FromHere s k h (suc left)
-stop_here s k h left why e = record { each = rw (listed_stop (after s k) left why e) (λ j d l. absurd (omega arith)); end = k; stop = after_stop (after s k) left why e; whole = h }
-
-more_here : (s : Bor (List ℕ)) (k : ℕ) (h : k ≤ length s.now) (left : ℕ) → n_of (after s k) + v_of (after s k) + 4 ≤ length (after s k).now
-    → ((m : ℕ) (g : m ≤ length s.now) → FromHere s m g left) → FromHere s k h (suc left)
-more_here s k h left t from =
-    let q = after s k in
-    let l = length-drop k s.now in
-    let m : ℕ = k + (n_of q + v_of q + 4) in
-    let f = first_here q t in
-    let a : (here q).1 ≡ after s m = after_after s k (n_of q + v_of q + 4) in
-    let r = from m (omega arith) in
-    record {
-      each = rw (listed_more q left (here q) f) (each_more (IsInside s) (here q).0 (listed (here q).1 left) (one s k h t) (rw a r.each));
-      end = r.end;
-      stop = after_more q left (here q) f ∙ ap (λ x. after_listed x left) a ∙ r.stop;
-      whole = r.whole;
-    }
-
-turn : (s : Bor (List ℕ)) (k : ℕ) (h : k ≤ length s.now) (left : ℕ) (w : Result (AdsAttribute × Bor (List ℕ)) Refusal) → first_of (after s k) ≡ w
-    → ((m : ℕ) (g : m ≤ length s.now) → FromHere s m g left) → FromHere s k h (suc left)
-turn s k h left (Ok p) e from = more_here s k h left (fits (after s k) p e) from
-turn s k h left (Err why) e from = stop_here s k h left why e
-
-from_here : (left : ℕ) (s : Bor (List ℕ)) (k : ℕ) (h : k ≤ length s.now) → FromHere s k h left
-from_here zero s k h = none_here s k h
-from_here (suc left) s k h = turn s k h left (first_of (after s k)) refl (λ m g. from_here left s m g)
+inside_by : (e s : Bor (List ℕ)) (left : ℕ) → IsEnd e s → (w : Result (AdsAttribute × Bor (List ℕ)) Refusal) → first_of s ≡ w
+    → ((q : Bor (List ℕ)) → IsEnd e q → AreInside e q left) → AreInside e s (suc left)
+inside_by e s left a (Err why) h ih = record { lie = rw (listed_stop s left why h, after_stop s left why h) refl; rest = rw (after_stop s left why h) a }
+inside_by e s left a (Ok p) h ih = let t = fits s p h in more_inside e s a t left (ih (here s).1 (attribute_rest e s a t))
 
 pub attributes_inside : AttributesInside
-attributes_inside s count =
-    let r = from_here count s 0 (omega arith) in
-    let z = after_zero s in
-    record { each = subst (λ x. All (IsInside s) (listed x count)) (sym z) r.each; end = r.end; rest = ap (λ x. after_listed x count) z ∙ r.stop; whole = r.whole }
+attributes_inside e s zero a = record { lie = rw (listed_none s, after_none s) refl; rest = rw (after_none s) a }
+attributes_inside e s (suc left) a = inside_by e s left a (first_of s) refl (λ q b. attributes_inside e q left b)

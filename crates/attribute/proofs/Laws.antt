@@ -51,6 +51,24 @@ pub listed_again : (s : Bor (List ℕ)) (n : ℕ) → listed s (length (listed s
 listed_again s zero = rw (listed_none s, listed_none s) refl
 listed_again s (suc n) = again_by s n (first_of s) refl (λ q. listed_again q n)
 
+after_again_by : (s : Bor (List ℕ)) (n : ℕ) (w : Result (AdsAttribute × Bor (List ℕ)) Refusal) → first_of s ≡ w
+    → ((q : Bor (List ℕ)) → after_listed q (length (listed q n)) ≡ after_listed q n) → after_listed s (length (listed s (suc n))) ≡ after_listed s (suc n)
+after_again_by s n (Ok p) h ih = rw (listed_more s n p h, after_more s (length (listed p.1 n)) p h, after_more s n p h) (ih p.1)
+after_again_by s n (Err why) h ih = rw (listed_stop s n why h, after_stop s n why h) (after_none s)
+
+pub after_again : (s : Bor (List ℕ)) (n : ℕ) → after_listed s (length (listed s n)) ≡ after_listed s n
+after_again s zero = rw (listed_none s) refl
+after_again s (suc n) = after_again_by s n (first_of s) refl (λ q. after_again q n)
+
+-- so many at most
+most_by : (s : Bor (List ℕ)) (n : ℕ) (w : Result (AdsAttribute × Bor (List ℕ)) Refusal) → first_of s ≡ w → ((q : Bor (List ℕ)) → length (listed q n) ≤ n) → length (listed s (suc n)) ≤ suc n
+most_by s n (Ok p) h ih = rw (listed_more s n p h) (let l = ih p.1 in omega arith)
+most_by s n (Err why) h ih = rw (listed_stop s n why h) (omega arith)
+
+pub listed_most : (s : Bor (List ℕ)) (n : ℕ) → length (listed s n) ≤ n
+listed_most s zero = rw (listed_none s) (omega arith)
+listed_most s (suc n) = most_by s n (first_of s) refl (λ q. listed_most q n)
+
 -- where there are no bytes, there is none
 pub nothing_first : (s : Bor (List ℕ)) → length s.now ≡ 0 → first_of s ≡ Err (TooShort 4 0)
 unfolding first_of

@@ -29,16 +29,3 @@ goes_on a p e n = (listed_step a.bytes a.count p e (omega arith), simp (ne_eqb a
 
 pub all_given : (a : Attributes) → YieldsList NextGives (λ x. x) a (left a)
 all_given = YieldsList-from_shown NextGives (λ x. x) left (λ s t h. ap length h.0.0) (λ s x t h. h.0)
-
--- after so many were given, the next is the one with that number; where none is given, there are so many
-module _ (a t u : Attributes) (xs : List AdsAttribute) (number : ℕ) (given : Yields NextGives a xs t) where
-  abbrev answer : Option AdsAttribute → Result AdsAttribute Refusal
-  answer o = ok_or o (NoSuchNumber (length (left a)) number)
-
-  pub next_is : (x : AdsAttribute) → NextGives t (Some x) u → length xs ≡ number → Ok x ≡ numbered (left a) (length (left a)) number
-  next_is x gives at = ap answer (nth_from_yields_List (Some x) u number (xs, (t, given, gives), at) (all_given a))
-
-  pub none_is : NextGives t None u → length xs ≤ number → Err (NoSuchNumber (length xs) number) ≡ numbered (left a) (length (left a)) number
-  none_is gives past =
-      let long = YieldsList-end (all_given a) xs t given None u refl gives in
-      ap (λ n. Err (NoSuchNumber n number)) long.1 ∙ ap answer (nth_from_yields_List None u number (xs, (t, given, gives), past) (all_given a))

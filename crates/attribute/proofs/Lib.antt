@@ -11,3 +11,4 @@ pub mod Left
 pub mod Stopped
 pub mod Read
 pub mod BlockMeant
+pub mod Anywhere

@@ -18,7 +18,8 @@ use Rattle.attribute.specs.Attribute.{first_of, listed, after_listed, ends}
 use Rattle.attribute.specs.Laid.{size, name_end, value_end, byte, parts, Stands, here, behind}
 use Rattle.attribute.specs.Read.{First, first_short, first_cut, first_whole, Alone, too_large, short, cut, name_refused, value_refused, accepted, Ended, EndsRead, all_zero, at_name, at_value, IsListed, AttributesRead}
 use Rattle.attribute.proofs.Laws.{listed_more, listed_stop, listed_none, after_more, after_stop, after_none}
-use Rattle.attribute.proofs.Again.{n_of, v_of, first_here, ends_here, two_zero, after_after, after_zero}
+use Rattle.part.proofs.Slice.{after_after, after_zero}
+use Rattle.attribute.proofs.Again.{n_of, v_of, first_here, ends_here, two_zero}
 
 module _ (s : Bor (List ℕ)) where
   read_whole : size s.now ≤ length s.now → first_of s ≡ Ok (parts s, after s (size s.now))

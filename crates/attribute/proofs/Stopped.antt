@@ -6,7 +6,7 @@ use Rattle.refusal.specs.declared.Refusal.{Refusal}
 use Rattle.attribute.specs.declared.AdsAttribute.{AdsAttribute}
 use Rattle.attribute.specs.Attribute.{first_of, listed, after_listed, stopped}
 use Rattle.attribute.specs.Stopped.{WhyItEnds, all, at_end, refused, AttributesStopped}
-use Rattle.attribute.proofs.Laws.{listed_more, listed_stop, listed_none, after_more, after_stop, after_none, nothing_after, some_left}
+use Rattle.attribute.proofs.Laws.{listed_more, listed_stop, listed_none, after_more, after_stop, after_none, nothing_listed, nothing_after, some_left}
 
 stopped_none : (s : Bor (List ℕ)) → stopped s 0 ≡ None
 unfolding stopped
@@ -39,7 +39,7 @@ module _ (s : Bor (List ℕ)) (n : ℕ) (p : AdsAttribute × Bor (List ℕ)) (e 
 
   behind : eqb (length p.1.now) 0 ≡ false → WhyItEnds p.1 n → WhyItEnds s (suc n)
   behind b (all l t) = all (long ∙ ap suc l) (stopped_on s n p e false b ∙ t)
-  behind b (at_end l z t) = at_end (let k = long in omega (arith, k)) (left ∙ z) (stopped_on s n p e false b ∙ t)
+  behind b (at_end l m z t) = at_end (let k = long in omega (arith, k)) (let k = long in omega (arith, k)) (left ∙ z) (stopped_on s n p e false b ∙ t)
   behind b (refused why l o f t) =
       refused why (let k = long in omega (arith, k)) (inr (more_behind o (some_left (length p.1.now) b))) (ap first_of (after_more s n p e) ∙ f) (stopped_on s n p e false b ∙ t)
 
@@ -47,7 +47,13 @@ module _ (s : Bor (List ℕ)) (n : ℕ) (p : AdsAttribute × Bor (List ℕ)) (e 
   by_left false b on = behind b on
   by_left true b on =
       let z = eqb-true (length p.1.now) 0 b in
-      at_end (let k = long in omega (arith, k)) (left ∙ ap (λ (x : Bor (List ℕ)). length x.now) (nothing_after p.1 n z) ∙ z) (stopped_on s n p e true b)
+      let one : length (listed s (suc n)) ≡ 1 = long ∙ ap (λ (x : List AdsAttribute). suc (length x)) (nothing_listed p.1 n z) in
+      let none = left ∙ ap (λ (x : Bor (List ℕ)). length x.now) (nothing_after p.1 n z) ∙ z in
+      by_count n one none (stopped_on s n p e true b)
+    where
+      by_count : (m : ℕ) → length (listed s (suc m)) ≡ 1 → length (after_listed s (suc m)).now ≡ 0 → stopped s (suc m) ≡ None → WhyItEnds s (suc m)
+      by_count zero one none t = all one t
+      by_count (suc m) one none t = at_end (omega (arith, one)) (omega (arith, one)) none t
 
 by_first : (s : Bor (List ℕ)) (n : ℕ) (w : Result (AdsAttribute × Bor (List ℕ)) Refusal) → first_of s ≡ w → ((q : Bor (List ℕ)) → WhyItEnds q n) → WhyItEnds s (suc n)
 by_first s n (Ok p) e on = by_left s n p e (eqb (length p.1.now) 0) refl (on p.1)

@@ -1,16 +1,13 @@
 -- docs/FORMAT.md, "Attributes" and "Refusals": what an answer to a number means, and one to a name.
-use Rattle.std.specs.Prelude.{ℕ, ◌≤◌, ◌≡◌, List, ◌∷◌, ◌++◌, Result, Ok, Err, length}
+use Rattle.std.specs.Prelude.{ℕ, ◌≡◌, List, ◌∷◌, ◌++◌, Result, Ok, Err, length}
 use Rattle.std.specs.List.{All}
 use Rattle.refusal.specs.declared.Refusal.{Refusal}
-use Rattle.refusal.specs.declared.Refusal.TheVariants.{NameNotFound, NoSuchNumber}
+use Rattle.refusal.specs.declared.Refusal.TheVariants.{NameNotFound}
+use Rattle.refusal.specs.ByNumber.{IsNumbered}
 use Rattle.attribute.specs.declared.AdsAttribute.{AdsAttribute}
 use Rattle.attribute.specs.Attribute.{numbered, named}
 
--- by number: the attribute before which so many stand; past the last 14, with how many there are and the number
-pub record IsNumbered (all : List AdsAttribute) (number : ℕ) (answer : Result AdsAttribute Refusal) : Type 0 where
-  pub shown : (before behind : List AdsAttribute) (a : AdsAttribute) → all ≡ before ++ (a ∷ behind) → length before ≡ number → answer ≡ Ok a
-  pub past : length all ≤ number → answer ≡ Err (NoSuchNumber (length all) number)
-
+-- by number
 abbrev pub AttributesShown : Type 0
 AttributesShown = (all : List AdsAttribute) (number : ℕ) → IsNumbered all number (numbered all (length all) number)
 

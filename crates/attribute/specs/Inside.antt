@@ -1,28 +1,22 @@
--- docs/FORMAT.md, "Attributes": where the parts of the attributes that are listed lie.
-use Rattle.std.specs.Prelude.{ℕ, ◌+◌, ◌<◌, ◌≤◌, ◌≡◌, List, length}
-use Rattle.std.specs.List.{All}
+-- docs/FORMAT.md, "Attributes": where attributes lie in an entry that are read of its last bytes.
+use Rattle.std.specs.Prelude.{ℕ, ◌+◌, ◌≡◌, List, [], ◌∷◌, length}
 use Rattle.std.specs.Borrow.{Bor}
-use Rattle.part.specs.Slice.{part, after}
+use Rattle.part.specs.End.{IsEnd, IsString, rest_at}
 use Rattle.attribute.specs.declared.AdsAttribute.{AdsAttribute}
 use Rattle.attribute.specs.Attribute.{listed, after_listed}
 
--- one inside these bytes, by place: the name with its end byte, then the value with its own, then the next place
-pub record IsInside (s : Bor (List ℕ)) (a : AdsAttribute) : Type 0 where
-  pub name_at : ℕ
-  pub value_at : ℕ
-  pub next : ℕ
-  pub name : a.name ≡ part s name_at (length a.name.now)
-  pub value : a.value ≡ part s value_at (length a.value.now)
-  pub name_ended : name_at + length a.name.now < value_at
-  pub value_ended : value_at + length a.value.now < next
-  pub whole : next ≤ length s.now
+-- attributes one after another from a place of an entry on up to another: two lengths, the name with its end byte, the value with its own
+abbrev pub AttributesLie : Bor (List ℕ) → ℕ → List AdsAttribute → ℕ → Type 0
+AttributesLie e at [] to = at ≡ to
+AttributesLie e at (a ∷ more) to =
+    IsString e (at + 2) a.name
+    × IsString e (at + 2 + length a.name.now + 1) a.value
+    × AttributesLie e (at + 2 + length a.name.now + 1 + length a.value.now + 1) more to
 
--- each of a list is, and the bytes after the list are those from a place inside on
-pub record AreInside (s : Bor (List ℕ)) (count : ℕ) : Type 0 where
-  pub each : All (IsInside s) (listed s count)
-  pub end : ℕ
-  pub rest : after_listed s count ≡ after s end
-  pub whole : end ≤ length s.now
+-- those that are listed lie so from where these bytes begin on, and the bytes after them are the entry's last, from where they end on
+pub record AreInside (e s : Bor (List ℕ)) (count : ℕ) : Type 0 where
+  pub lie : AttributesLie e (rest_at e s) (listed s count) (rest_at e (after_listed s count))
+  pub rest : IsEnd e (after_listed s count)
 
 abbrev pub AttributesInside : Type 0
-AttributesInside = (s : Bor (List ℕ)) (count : ℕ) → AreInside s count
+AttributesInside = (e s : Bor (List ℕ)) (count : ℕ) → IsEnd e s → AreInside e s count

@@ -120,25 +120,6 @@ impl<'a> Iterator for Attributes<'a> {
     }
 }
 
-/// At most so many attributes, up to one that is refused, and the bytes after them.
-#[tactic(auto, unfolding(crate::specs::Attribute::listed, crate::specs::Attribute::after_listed))]
-pub fn list(bytes: &[u8], most: usize) -> (Attributes<'_>, &[u8])
-    ensures attributes { result.0 ≡ record { bytes = bytes.entry; count = length (listed bytes.entry most) } }
-    ensures rest { result.1 ≡ after_listed bytes.entry most }
-{
-    let mut rest = Attributes { bytes, count: most };
-    let mut count = 0;
-    while rest.count > 0 {
-        let Ok((_, next)) = first(rest.bytes) else {
-            break
-        };
-        rest.bytes = next;
-        rest.count -= 1;
-        count += 1;
-    }
-    (Attributes { bytes, count }, rest.bytes)
-}
-
 /// Attributes, the bytes after them, and why there are no more, if one was refused.
 #[derive(Clone, Copy, Debug)]
 pub struct Listed<'a> {
@@ -150,58 +131,51 @@ pub struct Listed<'a> {
     pub stopped: Option<Refusal>,
 }
 
-/// At most so many attributes, up to one that is refused, with its refusal. Where the bytes end after an attribute,
-/// none is missed.
+/// At most so many attributes, up to one that is refused, with its refusal. Where the bytes end after an attribute, none is
+/// refused: as many are owed as are not listed.
 #[tactic(auto, using(crate::proofs::Laws::nothing_listed, crate::proofs::Laws::nothing_after), unfolding(crate::specs::Attribute::listed, crate::specs::Attribute::after_listed, crate::specs::Attribute::stopped))]
-pub fn list_with_reason(bytes: &[u8], most: usize) -> Listed<'_>
+pub fn list(bytes: &[u8], most: usize) -> Listed<'_>
     ensures attributes { result.attributes ≡ record { bytes = bytes.entry; count = length (listed bytes.entry most) } }
     ensures rest { result.rest ≡ after_listed bytes.entry most }
     ensures stopped { result.stopped ≡ stopped bytes.entry most }
 {
-    let mut rest = Attributes { bytes, count: most };
-    let mut count = 0;
-    while rest.count > 0 {
-        match first(rest.bytes) {
-            Ok((_, next)) => {
-                rest.bytes = next;
-                rest.count -= 1;
-                count += 1;
-                if next.is_empty() {
+    let mut listed = Listed {
+        attributes: Attributes { bytes, count: 0 },
+        rest: bytes,
+        stopped: None,
+    };
+    while listed.attributes.count < most {
+        match first(listed.rest) {
+            Ok((_, rest)) => {
+                listed.rest = rest;
+                listed.attributes.count += 1;
+                if rest.is_empty() {
                     break;
                 }
             }
             Err(why) => {
-                return Listed {
-                    attributes: Attributes { bytes, count },
-                    rest: rest.bytes,
-                    stopped: Some(why),
-                };
+                listed.stopped = Some(why);
+                break;
             }
         }
     }
-    Listed {
-        attributes: Attributes { bytes, count },
-        rest: rest.bytes,
-        stopped: None,
-    }
+    listed
 }
 
 impl<'a> Attributes<'a> {
     /// The attribute with a number, counted from 0; past the last 14, with how many there are.
-    pub fn get(self, number: usize) -> Result<AdsAttribute<'a>, Refusal>
+    #[tactic(auto, using(crate::proofs::Laws::listed_most))]
+    pub fn get(mut self, number: usize) -> Result<AdsAttribute<'a>, Refusal>
         ensures { let all = left self.entry in result ≡ numbered all (length all) number }
     {
-        let mut count = 0;
-        for attribute in self {
-            if count == number {
-                return Ok(attribute);
-            }
-            count += 1;
+        let all = self;
+        match self.nth(number) {
+            Some(attribute) => Ok(attribute),
+            None => Err(Refusal::NoSuchNumber {
+                count: all.count(),
+                asked: number,
+            }),
         }
-        Err(Refusal::NoSuchNumber {
-            count,
-            asked: number,
-        })
     }
 
     /// The first attribute with a name.

@@ -39,8 +39,8 @@ pub fn attributes_modes()
     ensures { AttributesModes }
 {}
 
-/// Both strings of an attribute that is listed lie inside the bytes that it was listed from, each with its end byte, and so
-/// do the bytes after the list.
+/// Attributes that are listed of an entry's last bytes lie in the entry one after another, each string at its place with its end
+/// byte, and the bytes after the list begin where they end.
 pub fn attributes_inside()
     ensures { AttributesInside }
 {}

@@ -19,7 +19,8 @@ use Rattle.data_type.specs.declared.members.Position.{Position}
 use Rattle.data_type.specs.Members.{below}
 use Rattle.data_type.specs.Layout.{strings_end, string_bytes, HasStrings, front, record_of}
 use Rattle.data_type.specs.Stand.{under}
-use Rattle.data_type.proofs.Parts.{bor, after_after}
+use Rattle.part.proofs.Slice.{after_after}
+use Rattle.data_type.proofs.Parts.{bor}
 
 pub front_there : (mode : Mode) (e : Bor (List ℕ)) → HasStrings mode e → front_of mode e ≡ Ok (front e)
 unfolding front_of

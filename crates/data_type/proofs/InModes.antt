@@ -19,17 +19,18 @@ use Rattle.field.specs.Tail.{tail_of}
 use Rattle.field.proofs.Modes.{both}
 use Rattle.data_type.specs.declared.AdsDataTypeInfo.{AdsDataTypeInfo}
 use Rattle.data_type.specs.declared.array.ArrayInfos.{ArrayInfos}
-use Rattle.data_type.specs.declared.reader.Items.{Items}
-use Rattle.data_type.specs.Accepted.{and_then_ok}
+use Rattle.part.proofs.Outcome.{both_passed}
+use Rattle.data_type.specs.declared.reader.ReadSubItems.{ReadSubItems}
 use Rattle.field.specs.Field.{joined}
 use Rattle.data_type.specs.DataType.{ItemReader, sub_items_of, taken, items_from, arrays_of, type_with, too_deep, item_by, type_at, type_of}
 use Rattle.data_type.specs.Layout.{strings_end, arrays_end, string_bytes, HasStrings, front}
 use Rattle.data_type.specs.Ends.{tail_met, items_met, met_with, item_met, met_at, end_bytes, IsOfModes, TypesChecked}
-use Rattle.data_type.proofs.Parts.{after_after}
+use Rattle.part.specs.End.{IsEnd}
+use Rattle.part.proofs.Slice.{after_after, is_end, end_after}
 use Rattle.data_type.proofs.Numbers.{heads, fills}
 use Rattle.data_type.proofs.Fronts.{front_there, front_was}
 use Rattle.data_type.proofs.Stands.{took}
-use Rattle.data_type.proofs.Behind.{IsEnd, end_after, end_rest, tail_bytes}
+use Rattle.data_type.proofs.Behind.{end_rest, tail_bytes}
 
 -- an answer of the checked mode is that of the present mode after a look at these end bytes
 abbrev Met : {A : Type 0} → Result A Refusal → List (ℕ × ℕ) → Result A Refusal → Type 0
@@ -98,7 +99,7 @@ end_first : (e : Bor (List ℕ)) (f : Front) (a : ArrayInfos × Bor (List ℕ)) 
 end_first e f a w g h =
     let d = heads Present e f g in
     let k = fills f a h in
-    let r : IsEnd e f.rest = record { from = strings_end e.now; room = d.room; is = d.rest } in
+    let r : IsEnd e f.rest = is_end e f.rest (strings_end e.now) d.room d.rest in
     subst (IsEnd e) (sym k.first) (end_after (8 * f.array_count) k.room r)
 
 module _ (met : Bor (List ℕ) → List (ℕ × ℕ)) (checked present : ItemReader) (each : (s : Bor (List ℕ)) → Met (checked s) (met s) (present s))
@@ -125,7 +126,7 @@ module _ (met : Bor (List ℕ) → List (ℕ × ℕ)) (checked present : ItemRea
         (λ f g. then_free (arrays_of f) _ _ (λ a. behind_arrays a.1 f.sub_item_count)
         (λ a b.
         let w = front_was Present e f g in
-        let t : (items : Items) → items_from present a.1 f.sub_item_count ≡ Ok items → Met (tail_of Checked f items.rest) (tail_met e items.rest) (tail_of Present f items.rest) =
+        let t : (items : ReadSubItems) → items_from present a.1 f.sub_item_count ≡ Ok items → Met (tail_of Checked f items.rest) (tail_met e items.rest) (tail_of Present f items.rest) =
         λ items k. subst (λ (x : Front). Met (tail_of Checked x items.rest) (tail_met e items.rest) (tail_of Present x items.rest)) w.1 (tail_is_met e items.rest (end_rest present (leaves e) f.sub_item_count a.1 items k (end_first e f a w g b))) in
         then_met (items_from checked a.1 f.sub_item_count) (items_from present a.1 f.sub_item_count) (items_met met present a.1 f.sub_item_count) _ _ (λ items. tail_met e items.rest) (items_are_met f.sub_item_count a.1)
         (λ items k. mapped (tail_of Checked f items.rest) (tail_of Present f items.rest) (tail_met e items.rest) (λ t. record { field = joined f t; arrays = a.0; sub_items = sub_items_of f a.1; member_count = items.members }) (t items k))))
@@ -168,8 +169,8 @@ by_met met checked present each s = then_free (taken s) _ _ (λ p. met p.0) (λ 
 -- a sub-item that is read leaves an end of the entry
 by_leaves : (present : Bor (List ℕ) → Result AdsDataTypeInfo Refusal) (e s : Bor (List ℕ)) (p : AdsDataTypeInfo × Bor (List ℕ)) → item_by present s ≡ Ok p → IsEnd e s → IsEnd e p.1
 by_leaves present e s p h i =
-    let t = and_then_ok (taken s) _ p h in
-    let r = and_then_ok (present t.0.0) _ p t.1.1 in
+    let t = both_passed (taken s) h in
+    let r = both_passed (present t.0.0) t.1.1 in
     let k = took s t.0.0 t.0.1 t.1.0 in
     let w : (r.0, t.0.1) ≡ p = cc r.1.1 in
     let z : t.0.1 ≡ p.1 = ap (λ (x : AdsDataTypeInfo × Bor (List ℕ)). x.1) w in

@@ -13,11 +13,12 @@ use Rattle.data_type.specs.declared.AdsDataTypeInfo.{AdsDataTypeInfo}
 use Rattle.data_type.specs.declared.array.ArrayInfos.{ArrayInfos}
 use Rattle.data_type.specs.declared.members.Member.{Member}
 use Rattle.data_type.specs.declared.members.Position.{Position}
-use Rattle.data_type.specs.declared.reader.Items.{Items}
+use Rattle.data_type.specs.declared.reader.ReadSubItems.{ReadSubItems}
 use Rattle.data_type.specs.DataType.{items_from, item_at, type_at, type_of}
 use Rattle.data_type.specs.Members.{place_of}
 use Rattle.data_type.specs.Meaning.{among, IsAt, IsMember, Between}
-use Rattle.data_type.proofs.Parts.{bor, part_in, after_is, after_after, length_in}
+use Rattle.part.proofs.Slice.{after_after, length_part}
+use Rattle.data_type.proofs.Parts.{bor, part_in, after_is}
 use Rattle.data_type.proofs.Inside.{Turn, here, accepted_at}
 use Rattle.data_type.proofs.More.{deeper}
 use Rattle.data_type.proofs.Numbers.{le4_part, le4_drop, heads, fills}
@@ -62,7 +63,7 @@ module _ (mode : Mode) (s : Bor (List ℕ)) (small : length s.now ≤ limit) (wh
 
   pub within_own : (place size from : ℕ) (own bytes : Bor (List ℕ)) → own ≡ part s place size → place + size ≤ le4 s.now 0 → from ≤ size → bytes ≡ after own from → Within bytes (place + size) × (length bytes.now ≡ size - from)
   within_own place size from own bytes o r f b =
-      let n : length own.now ≡ size = ap (λ (x : Bor (List ℕ)). length x.now) o ∙ length_in s place size (omega arith) in
+      let n : length own.now ≡ size = ap (λ (x : Bor (List ℕ)). length x.now) o ∙ length_part s place size (omega arith) in
       let l : length bytes.now ≡ size - from = ap (λ (x : Bor (List ℕ)). length x.now) b ∙ length-drop from own.now ∙ ap (λ (k : ℕ). k - from) n in
       let k : place + size - length bytes.now ≡ place + from = omega arith in (
         record {
@@ -79,7 +80,7 @@ module _ (mode : Mode) (s : Bor (List ℕ)) (small : length s.now ≤ limit) (wh
     pub order : Between (end - length c.now) end ms
     pub counts : among (above.depth + 1) ms ≡ n
 
-  abbrev pub LaidIn : Position → ℕ → Bor (List ℕ) → ℕ → Items → List Member → Type 0
+  abbrev pub LaidIn : Position → ℕ → Bor (List ℕ) → ℕ → ReadSubItems → List Member → Type 0
   LaidIn above end c n i ms = IsAt s.now above → Within c end → Laid above end c n ms
 
   pub laid_none : (above : Position) (end : ℕ) (c : Bor (List ℕ)) → LaidIn above end c 0 (record { rest = c; members = 0 }) []
@@ -90,7 +91,7 @@ module _ (mode : Mode) (s : Bor (List ℕ)) (small : length s.now ≤ limit) (wh
   module _ (left : ℕ) (place size : ℕ) (own : Bor (List ℕ)) (info : AdsDataTypeInfo) (own_is : own ≡ part s place size) (room : place + size ≤ le4 s.now 0) (least : 42 ≤ size) (claims : le4 s.now place ≡ size)
       (fits : left ≤ 15) (entry : type_at mode left own ≡ Ok info) where
     own_long : length own.now ≡ size
-    own_long = ap (λ (x : Bor (List ℕ)). length x.now) own_is ∙ length_in s place size (omega arith)
+    own_long = ap (λ (x : Bor (List ℕ)). length x.now) own_is ∙ length_part s place size (omega arith)
 
     pub offset_is : info.field.offset ≡ le4 s.now (place + 20)
     offset_is = (behind_arrays mode left own info entry).offset ∙ ap (λ (x : Bor (List ℕ)). le4 x.now 20) own_is ∙ le4_part s.now place size 20 (omega arith)
@@ -128,7 +129,7 @@ module _ (mode : Mode) (s : Bor (List ℕ)) (small : length s.now ≤ limit) (wh
           there = ap (λ (k : ℕ). parse_of 42 (type_of mode) (after s k)) e ∙ read_there;
         }
 
-  pub laid_more : (left : ℕ) (c : Bor (List ℕ)) (n : ℕ) (i : Items) (t : Turn mode left c n i) (above : Position) (end : ℕ) (inner : Items) (held rest : List Member)
+  pub laid_more : (left : ℕ) (c : Bor (List ℕ)) (n : ℕ) (i : ReadSubItems) (t : Turn mode left c n i) (above : Position) (end : ℕ) (inner : ReadSubItems) (held rest : List Member)
       → above.depth + left ≡ 16 → inner.members ≡ t.info.member_count → items_from (item_at mode t.deeper) t.info.sub_items.bytes t.info.sub_items.count ≡ Ok inner
       → LaidIn (here mode left c n i t above end) (end - length c.now + length t.own.now) t.info.sub_items.bytes t.info.sub_items.count inner held
       → LaidIn above end t.behind n t.more rest
@@ -147,7 +148,7 @@ module _ (mode : Mode) (s : Bor (List ℕ)) (small : length s.now ≤ limit) (wh
       let claims : le4 s.now place ≡ size = sym (ap (λ (x : Bor (List ℕ)). le4 x.now 0) w.is ∙ le4_part s.now place (length c.now) 0 (omega arith) ∙ ap (le4 s.now) (add-zero place)) in
       let room : place + size ≤ le4 s.now 0 = omega arith in
       let fits : t.deeper ≤ 15 = omega (arith, t.some, a.least) in
-      let long : length t.own.now ≡ size = ap (λ (x : Bor (List ℕ)). length x.now) own_is ∙ length_in s place size (omega arith) in
+      let long : length t.own.now ≡ size = ap (λ (x : Bor (List ℕ)). length x.now) own_is ∙ length_part s place size (omega arith) in
       let off = offset_is t.deeper place size t.own t.info own_is room kl claims fits t.entry in
       let h : Position = here mode left c n i t above end in
       let at = at_below s.now above a deep place t.info.field.offset off in

@@ -21,3 +21,4 @@ pub mod Each
 pub mod Laid
 pub mod Paths
 pub mod Meant
+pub mod Anywhere

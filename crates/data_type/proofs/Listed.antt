@@ -9,7 +9,7 @@ use Rattle.data_type.specs.declared.AdsDataTypeInfo.{AdsDataTypeInfo}
 use Rattle.data_type.specs.DataType.{type_of}
 use Rattle.data_type.specs.Members.{members_of}
 use Rattle.data_type.specs.List.{slots_of}
-use Rattle.data_type.proofs.Parts.{length_in}
+use Rattle.part.proofs.Slice.{length_part}
 use Rattle.data_type.proofs.Parsed.{meets, parsed}
 use Rattle.data_type.proofs.Inside.{counted, few}
 use Rattle.data_type.proofs.Filling.{length_slots}
@@ -23,5 +23,5 @@ module _ (mode : Mode) (s : Bor (List ℕ)) (r : AdsDataTypeInfo) (h : parse_of 
       let p = parsed (type_of mode) s r h in
       let m = meets s.now p.size p.claims in
       let f = few mode 15 (part s 0 p.size) r p.entry in
-      let l = length_in s 0 p.size (omega (arith, m.room)) in
+      let l = length_part s 0 p.size (omega (arith, m.room)) in
       omega (arith, f, l, m.room, m.small)

@@ -9,7 +9,7 @@ use Rattle.data_type.specs.Kind.{at_long}
 use Rattle.data_type.specs.Members.{root, place_of, members_of}
 use Rattle.data_type.specs.List.{slots_of}
 use Rattle.data_type.specs.Meaning.{offsets_at, IsAt, Between, TypesMeant}
-use Rattle.data_type.proofs.Parts.{length_in}
+use Rattle.part.proofs.Slice.{length_part}
 use Rattle.data_type.proofs.Parsed.{meets, parsed}
 use Rattle.data_type.proofs.Inside.{holds, all_of, counted}
 use Rattle.data_type.proofs.Listed.{three_each}
@@ -42,7 +42,7 @@ types_meant mode s r h =
     let ws = w.small in
     let wr = w.room in
     let wc = w.claims in
-    let n : length (part s 0 p.size).now ≡ p.size = length_in s 0 p.size (omega arith) in
+    let n : length (part s 0 p.size).now ≡ p.size = length_part s 0 p.size (omega arith) in
     let long : r.field.length ≡ p.size = at_long mode 15 (part s 0 p.size) r p.entry ∙ n in
     let b = behind_arrays mode 15 (part s 0 p.size) r p.entry in
     let bs = b.some in

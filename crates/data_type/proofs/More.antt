@@ -5,9 +5,10 @@ use Rattle.std.specs.Prelude.{Result, Ok}
 use Rattle.refusal.specs.declared.Mode.{Mode}
 use Rattle.refusal.specs.declared.Refusal.{Refusal}
 use Rattle.data_type.specs.declared.AdsDataTypeInfo.{AdsDataTypeInfo}
-use Rattle.data_type.specs.declared.reader.Items.{Items}
+use Rattle.data_type.specs.declared.reader.ReadSubItems.{ReadSubItems}
 use Rattle.data_type.specs.DataType.{ItemReader, taken, items_from, type_with, too_deep, item_by, type_at}
-use Rattle.data_type.specs.Accepted.{and_then_ok, Accepted, accepted}
+use Rattle.part.proofs.Outcome.{both_passed}
+use Rattle.data_type.specs.Accepted.{Accepted, accepted}
 
 -- what passed is read
 pub build : (mode : Mode) (item : ItemReader) (e : Bor (List ℕ)) (r : AdsDataTypeInfo) → Accepted mode item e r → type_with mode item e ≡ Ok r
@@ -16,12 +17,12 @@ build mode item e r a = simp (a.front_is, a.arrays_are, a.items_are, a.tail_is) 
 
 -- where each sub-item that is read by one reader is read alike by another
 module _ (item other : ItemReader) (each : (s : Bor (List ℕ)) (p : AdsDataTypeInfo × Bor (List ℕ)) → item s ≡ Ok p → other s ≡ Ok p) where
-  pub items_more : (left : ℕ) (s : Bor (List ℕ)) (items : Items) → items_from item s left ≡ Ok items → items_from other s left ≡ Ok items
+  pub items_more : (left : ℕ) (s : Bor (List ℕ)) (items : ReadSubItems) → items_from item s left ≡ Ok items → items_from other s left ≡ Ok items
   unfolding items_from
   items_more zero s items h = h
   items_more (suc left) s items h =
-      let p = and_then_ok (item s) _ items h in
-      let m = and_then_ok (items_from item p.0.1 left) _ items p.1.1 in
+      let p = both_passed (item s) h in
+      let m = both_passed (items_from item p.0.1 left) p.1.1 in
       simp (each s p.0 p.1.0, items_more left p.0.1 m.0 m.1.0) m.1.1
 
   with_more : (mode : Mode) (e : Bor (List ℕ)) (r : AdsDataTypeInfo) → type_with mode item e ≡ Ok r → type_with mode other e ≡ Ok r
@@ -44,8 +45,8 @@ module _ (item other : ItemReader) (each : (s : Bor (List ℕ)) (p : AdsDataType
 by_more : (one other : Bor (List ℕ) → Result AdsDataTypeInfo Refusal) → ((d : Bor (List ℕ)) (i : AdsDataTypeInfo) → one d ≡ Ok i → other d ≡ Ok i)
     → (s : Bor (List ℕ)) (p : AdsDataTypeInfo × Bor (List ℕ)) → item_by one s ≡ Ok p → item_by other s ≡ Ok p
 by_more one other each s p h =
-    let t = and_then_ok (taken s) _ p h in
-    let i = and_then_ok (one t.0.0) _ p t.1.1 in
+    let t = both_passed (taken s) h in
+    let i = both_passed (one t.0.0) t.1.1 in
     simp (t.1.0, each t.0.0 i.0 i.1.0) i.1.1
 
 never_deep : {A : Type 0} (s : Bor (List ℕ)) (p : AdsDataTypeInfo × Bor (List ℕ)) → too_deep s ≡ Ok p → A

@@ -17,7 +17,7 @@ use Rattle.data_type.specs.DataType.{arrays_of, type_of}
 use Rattle.data_type.specs.Layout.{strings_end}
 use Rattle.data_type.specs.Theorems.{array_at, IsArrays, ArraysMeant}
 use Rattle.data_type.proofs.Arrays.{length_all}
-use Rattle.data_type.proofs.Parts.{length_in}
+use Rattle.part.proofs.Slice.{length_part}
 use Rattle.data_type.proofs.Parsed.{meets, parsed}
 use Rattle.data_type.proofs.Inside.{accepted_at}
 
@@ -83,7 +83,7 @@ module _ (mode : Mode) (s : Bor (List ℕ)) (size : ℕ) (f : Front) (within : s
       let d = heads mode e f h in
       let r : f.rest.now ≡ drop (strings_end e.now) e.now = ap (λ (x : Bor (List ℕ)). x.now) d.rest in
       let l : length f.rest.now ≡ length e.now - strings_end e.now = ap length r ∙ length-drop (strings_end e.now) e.now in
-      let n : length e.now ≡ size = length_in s 0 size (omega arith) in
+      let n : length e.now ≡ size = length_part s 0 size (omega arith) in
       let x = d.room in
       let z : 0 + (strings_end e.now + (0 + j)) ≡ strings_end s.now + j = omega (arith, same_end) in
       le4_part f.rest.now 0 (8 * f.array_count) j k ∙ ap (λ (xs : List ℕ). le4 xs (0 + j)) r ∙ le4_drop e.now (strings_end e.now) (0 + j) ∙ le4_part s.now 0 size (strings_end e.now + (0 + j)) (omega arith) ∙ ap (le4 s.now) z
@@ -93,7 +93,7 @@ module _ (mode : Mode) (s : Bor (List ℕ)) (size : ℕ) (f : Front) (within : s
       let d = heads mode e f h in
       let c : f.array_count ≡ le2 s.now 38 = d.arrays ∙ le2_part s.now 0 size 38 (omega arith) in
       let w : r.arrays ≡ record { bytes = part f.rest 0 (8 * f.array_count); count = f.array_count } = p ∙ is in
-      let l : length (part f.rest 0 (8 * f.array_count)).now ≡ 8 * f.array_count = length_in f.rest 0 (8 * f.array_count) (omega arith) in
+      let l : length (part f.rest 0 (8 * f.array_count)).now ≡ 8 * f.array_count = length_part f.rest 0 (8 * f.array_count) (omega arith) in
       record {
         told = λ k x.
             let o : 8 * k + 4 + 4 ≤ 8 * f.array_count = omega (arith, c) in

@@ -7,7 +7,7 @@ use Rattle.refusal.specs.Refusal.{limit}
 use Rattle.refusal.specs.declared.Refusal.{Refusal}
 use Rattle.entry.specs.Entry.{claim_of}
 use Rattle.walk.specs.Step.{parse_of}
-use Rattle.data_type.specs.Accepted.{and_then_ok}
+use Rattle.part.proofs.Outcome.{both_passed}
 
 -- a claim that is met
 pub record Meets (s : List ℕ) (size : ℕ) : Type 0 where
@@ -26,4 +26,4 @@ pub record Parsed {R : Type 0} (read : Bor (List ℕ) → Result R Refusal) (s :
   pub entry : read (part s 0 size) ≡ Ok r
 
 pub parsed : {R : Type 0} (read : Bor (List ℕ) → Result R Refusal) (s : Bor (List ℕ)) (r : R) → parse_of 42 read s ≡ Ok r → Parsed read s r
-parsed read s r h = let p = and_then_ok (claim_of 42 s.now) _ r h in record { size = p.0; claims = p.1.0; entry = p.1.1 }
+parsed read s r h = let p = both_passed (claim_of 42 s.now) h in record { size = p.0; claims = p.1.0; entry = p.1.1 }

@@ -1,5 +1,5 @@
 -- Parts of parts.
-use Rattle.std.proofs.Common.{ℕ, ◌+◌, ◌-◌, ◌≤◌, ◌≡◌, refl, sym, ap, ◌∙◌, min, List, length, arith, Bor, length-take, length-drop, drop-drop}
+use Rattle.std.proofs.Common.{ℕ, ◌+◌, ◌-◌, ◌≤◌, ◌≡◌, refl, sym, ap, ◌∙◌, min, List, length, arith, Bor}
 use native.Mathlib.Nat.{add-zero}
 use Rattle.std.proofs.lemmas.List.{take_rest}
 use Rattle.le.proofs.Laws.{part-part}
@@ -18,9 +18,6 @@ part_in s at n k m h =
 pub after_is : (s : Bor (List ℕ)) (k : ℕ) → after s k ≡ part s k (length s.now - k)
 after_is s k = bor _ _ _ _ refl (sym (take_rest s.now k))
 
-pub length_in : (s : Bor (List ℕ)) (at n : ℕ) → at + n ≤ length s.now → length (part s at n).now ≡ n
-length_in s at n h = simp (length-take, length-drop) (omega arith)
-
 pub cut_inside : (s : Bor (List ℕ)) (at stop : ℕ) → at ≤ stop → stop ≤ length s.now → cut s at stop ≡ part s at (stop - at)
 cut_inside s at stop h k =
     let e : min stop (length s.now) ≡ stop = omega arith in
@@ -30,8 +27,3 @@ cut_inside s at stop h k =
 pub cut_all : (s : Bor (List ℕ)) → cut s 0 (length s.now) ≡ s
 cut_all s =
     cut_inside s 0 (length s.now) (omega arith) (omega arith) ∙ sym (after_is s 0) ∙ bor _ _ _ _ (ap (λ (x : ℕ). (s.ref_ptr.0, x)) (add-zero s.ref_ptr.1)) refl
-
-pub after_after : (s : Bor (List ℕ)) (a b : ℕ) → after (after s a) b ≡ after s (a + b)
-after_after s a b =
-    let p : s.ref_ptr.1 + a + b ≡ s.ref_ptr.1 + (a + b) = omega arith in
-    bor _ _ _ _ (ap (λ (x : ℕ). (s.ref_ptr.0, x)) p) (drop-drop b a s.now)

@@ -6,12 +6,12 @@ use Rattle.refusal.specs.declared.Mode.{Mode}
 use Rattle.le.specs.Le.{le4}
 use Rattle.data_type.specs.declared.members.Member.{Member}
 use Rattle.data_type.specs.declared.members.Position.{Position}
-use Rattle.data_type.specs.declared.reader.Items.{Items}
+use Rattle.data_type.specs.declared.reader.ReadSubItems.{ReadSubItems}
 use Rattle.data_type.specs.DataType.{items_from, item_at}
 use Rattle.data_type.specs.Members.{place_of}
 use Rattle.data_type.specs.Meaning.{LiesIn}
 use Rattle.data_type.specs.Stand.{under}
-use Rattle.data_type.proofs.Parts.{length_in}
+use Rattle.part.proofs.Slice.{length_part}
 use Rattle.data_type.proofs.Fronts.{below_is}
 use Rattle.data_type.proofs.Stands.{took}
 use Rattle.data_type.proofs.Inside.{Turn, here}
@@ -48,7 +48,7 @@ pub record Below (above : Position) (from end : ℕ) (ms : List Member) (k : ℕ
   pub agree : (i : ℕ) → i + 1 < above.depth → get_or m.position.path i 0 ≡ get_or above.path i 0
   pub lies : (i : ℕ) → above.depth ≤ i + 1 → i + 2 ≤ m.position.depth → LiesIn ms k m i
 
-abbrev pub PathsIn : Position → ℕ → Bor (List ℕ) → ℕ → Items → List Member → Type 0
+abbrev pub PathsIn : Position → ℕ → Bor (List ℕ) → ℕ → ReadSubItems → List Member → Type 0
 PathsIn above end s n items ms = length s.now ≤ end → length above.path ≡ 15 → 1 ≤ above.depth → (k : ℕ) (m : Member) → slice_get ms k ≡ Some m → Below above (end - length s.now) end ms k m
 
 pub paths_none : (above : Position) (end : ℕ) (s : Bor (List ℕ)) → PathsIn above end s 0 (record { rest = s; members = 0 }) []
@@ -170,7 +170,7 @@ module _ (x : Member) (held rest : List Member) (above : Position) (from middle 
           subst (λ (j : ℕ). Below above from end all j m) n (one_rest (k - length held) m (sym (get_right (x ∷ held) rest (k - length held)) ∙ ap (slice_get all) n ∙ g))
 
 module _ (mode : Mode) where
-  pub paths_more : (left : ℕ) (s : Bor (List ℕ)) (n : ℕ) (i : Items) (t : Turn mode left s n i) (above : Position) (end : ℕ) (inner : Items) (held rest : List Member)
+  pub paths_more : (left : ℕ) (s : Bor (List ℕ)) (n : ℕ) (i : ReadSubItems) (t : Turn mode left s n i) (above : Position) (end : ℕ) (inner : ReadSubItems) (held rest : List Member)
       → above.depth + left ≡ 16 → inner.members ≡ t.info.member_count → items_from (item_at mode t.deeper) t.info.sub_items.bytes t.info.sub_items.count ≡ Ok inner
       → PathsIn (here mode left s n i t above end) (end - length s.now + length t.own.now) t.info.sub_items.bytes t.info.sub_items.count inner held
       → PathsIn above end t.behind n t.more rest
@@ -180,7 +180,7 @@ module _ (mode : Mode) where
       let kr = k.room in
       let size : ℕ = le4 s.now 0 in
       let place : ℕ = end - length s.now in
-      let own : length t.own.now ≡ size = ap (λ (x : Bor (List ℕ)). length x.now) k.own_is ∙ length_in s 0 size (omega arith) in
+      let own : length t.own.now ≡ size = ap (λ (x : Bor (List ℕ)). length x.now) k.own_is ∙ length_part s 0 size (omega arith) in
       let behind : length t.behind.now ≡ length s.now - size = ap (λ (x : Bor (List ℕ)). length x.now) k.behind_is ∙ length-drop size s.now in
       let h : Position = here mode left s n i t above end in
       let is : h ≡ under above place t.info.field.offset = below_is above place t.info.field.offset (omega (arith, t.some)) in

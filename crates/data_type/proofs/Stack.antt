@@ -1,68 +1,95 @@
 -- What a stack of levels has left, by its innermost level.
-use Rattle.std.proofs.Common.{ℕ, suc, ◌+◌, ◌-◌, ◌<◌, ◌≤◌, ◌≡◌, sym, ap, ◌∙◌, List, [], ◌∷◌, ◌++◌, append_assoc, append-nil, length, take, set, get_or, arith, Bor, length-take}
-use Rattle.std.specs.Prelude.{Some, None}
+use Rattle.std.proofs.Common.{ℕ, suc, ◌+◌, ◌-◌, ◌<◌, ◌≤◌, ◌≡◌, refl, sym, ap, ◌∙◌, List, [], ◌∷◌, ◌++◌, append_assoc, append-nil, length, take, set, get_or, arith, Bor, length-take}
+use Rattle.std.specs.Prelude.{Some, None, true, eqb}
 use Rattle.std.proofs.Math.Seq.{take-suc, take-suc-set}
+use borrow.Author.Tests.{eqb-true}
 use Rattle.data_type.specs.declared.level.Level.{Level}
 use Rattle.data_type.specs.declared.members.Member.{Member}
-use Rattle.data_type.specs.Members.{members_below}
+use Rattle.data_type.specs.declared.members.Position.{Position}
+use Rattle.data_type.specs.Members.{root, below, members_below}
 use Rattle.data_type.specs.Level.{cut, level_left, Gives}
-use Rattle.std.specs.Prelude.{true, eqb}
-use borrow.Author.Tests.{eqb-true}
-use Rattle.data_type.specs.Left.{stack_left}
+use Rattle.data_type.specs.Left.{standing, stack_left}
 use Rattle.data_type.proofs.Steps.{none_left}
 
-pub left_last : (s : Bor (List ℕ)) (n : ℕ) (ls : List Level) (l : Level) → stack_left n s (ls ++ (l ∷ [])) ≡ level_left (n - length ls) s l ++ stack_left n s ls
-unfolding stack_left
-left_last s n [] l = let z : n - 0 ≡ n = omega arith in simp (z, append-nil)
-left_last s n (k ∷ ls) l =
+standing_last : (above : Position) (ls : List Level) (l : Level) → standing above (ls ++ (l ∷ [])) ≡ below (standing above ls) l.place l.offset
+unfolding standing
+standing_last above [] l = refl
+standing_last above (k ∷ ls) l = standing_last (below above k.place k.offset) ls l
+
+left_last : (s : Bor (List ℕ)) (n : ℕ) (above : Position) (ls : List Level) (l : Level)
+    → stack_left n above s (ls ++ (l ∷ [])) ≡ level_left (n - length ls) (standing above ls) s l ++ stack_left n above s ls
+unfolding stack_left standing
+left_last s n above [] l = let z : n - 0 ≡ n = omega arith in simp (z, append-nil)
+left_last s n above (k ∷ ls) l =
     let z : n - 1 - length ls ≡ n - suc (length ls) = omega arith in
-    ap (λ (ms : List Member). ms ++ level_left n s k) (left_last s (n - 1) ls l ∙ ap (λ (m : ℕ). level_left m s l ++ stack_left (n - 1) s ls) z) ∙ append_assoc (level_left (n - suc (length ls)) s l) (stack_left (n - 1) s ls) (level_left n s k)
+    let next : Position = below above k.place k.offset in
+    ap (λ (ms : List Member). ms ++ level_left n above s k) (left_last s (n - 1) next ls l ∙ ap (λ (m : ℕ). level_left m (standing next ls) s l ++ stack_left (n - 1) next s ls) z)
+    ∙ append_assoc (level_left (n - suc (length ls)) (standing next ls) s l) (stack_left (n - 1) next s ls) (level_left n above s k)
 
--- the innermost of so many
-pub popped : (s : Bor (List ℕ)) (ls : List Level) (used : ℕ) (d : Level) → 0 < used → used ≤ length ls → used ≤ 15
-    → stack_left 15 s (take used ls) ≡ level_left (suc (15 - used)) s (get_or ls (used - 1) d) ++ stack_left 15 s (take (used - 1) ls)
-popped s ls used d h k m =
-    let u : suc (used - 1) ≡ used = omega arith in
-    let l : length (take (used - 1) ls) ≡ used - 1 = simp length-take (omega arith) in
-    let n : 15 - length (take (used - 1) ls) ≡ suc (15 - used) = omega arith in
-    ap (λ (i : ℕ). stack_left 15 s (take i ls)) (sym u) ∙ ap (stack_left 15 s) (take-suc ls (used - 1) d (omega arith)) ∙ left_last s 15 (take (used - 1) ls) (get_or ls (used - 1) d)
-    ∙ ap (λ (i : ℕ). level_left i s (get_or ls (used - 1) d) ++ stack_left 15 s (take (used - 1) ls)) n
+-- one further down
+pub standing_next : (ls : List Level) (i : ℕ) (d : Level) (p q : Position) → i < length ls → p ≡ standing root (take i ls) → q ≡ below p (get_or ls i d).place (get_or ls i d).offset → q ≡ standing root (take (i + 1) ls)
+standing_next ls i d p q h k m =
+    let u : suc i ≡ i + 1 = omega arith in
+    let l : Level = get_or ls i d in
+    m ∙ ap (λ (x : Position). below x l.place l.offset) k ∙ sym (standing_last root (take i ls) l) ∙ ap (standing root) (sym (take-suc ls i d h)) ∙ ap (λ (j : ℕ). standing root (take j ls)) u
 
--- once another takes its place
-pub changed : (s : Bor (List ℕ)) (ls : List Level) (used : ℕ) (l : Level) → 0 < used → used ≤ length ls → used ≤ 15
-    → stack_left 15 s (take used (set ls (used - 1) l)) ≡ level_left (suc (15 - used)) s l ++ stack_left 15 s (take (used - 1) ls)
-changed s ls used l h k m =
-    let u : suc (used - 1) ≡ used = omega arith in
-    let e : length (take (used - 1) ls) ≡ used - 1 = simp length-take (omega arith) in
-    let n : 15 - length (take (used - 1) ls) ≡ suc (15 - used) = omega arith in
-    ap (λ (i : ℕ). stack_left 15 s (take i (set ls (used - 1) l))) (sym u) ∙ ap (stack_left 15 s) (take-suc-set ls (used - 1) l (omega arith)) ∙ left_last s 15 (take (used - 1) ls) l
-    ∙ ap (λ (i : ℕ). level_left i s l ++ stack_left 15 s (take (used - 1) ls)) n
+module _ (s : Bor (List ℕ)) (ls : List Level) where
+  abbrev above : ℕ → Position
+  above n = standing root (take n ls)
 
--- with one more, and where there is no room for it
-pub pushed : (s : Bor (List ℕ)) (ls : List Level) (used : ℕ) (l : Level) → used < 15 → length ls ≡ 15
-    → stack_left 15 s (take (used + 1) (set ls used l)) ≡ level_left (15 - used) s l ++ stack_left 15 s (take used ls)
-pushed s ls used l h k =
-    let u : used + 1 ≡ suc used = omega arith in
-    let e : length (take used ls) ≡ used = simp length-take (omega arith) in
-    let n : 15 - length (take used ls) ≡ 15 - used = omega arith in
-    ap (λ (i : ℕ). stack_left 15 s (take i (set ls used l))) u ∙ ap (stack_left 15 s) (take-suc-set ls used l (omega arith)) ∙ left_last s 15 (take used ls) l
-    ∙ ap (λ (i : ℕ). level_left i s l ++ stack_left 15 s (take used ls)) n
+  abbrev left : ℕ → List Member
+  left n = stack_left 15 root s (take n ls)
 
-pub not_pushed : (s : Bor (List ℕ)) (ls : List Level) (used : ℕ) (l : Level) → 15 ≤ used → level_left (15 - used) s l ++ stack_left 15 s (take used ls) ≡ stack_left 15 s (take used ls)
-unfolding members_below
-not_pushed s ls used l h = let n : 15 - used ≡ 0 = omega arith in simp n
+  -- the first so many and one more
+  and_one : (used : ℕ) (l : Level) (all : List Level) → used ≤ length ls → all ≡ take used ls ++ (l ∷ []) → stack_left 15 root s all ≡ level_left (15 - used) (above used) s l ++ left used
+  and_one used l all h k =
+      let e : length (take used ls) ≡ used = simp length-take (omega arith) in
+      ap (stack_left 15 root s) k ∙ left_last s 15 root (take used ls) l ∙ ap (λ (i : ℕ). level_left (15 - i) (above used) s l ++ left used) e
 
-module _ (s : Bor (List ℕ)) (ls : List Level) (used : ℕ) (d new : Level) (some : 0 < used) (there : used ≤ length ls) (room : used ≤ 15) where
-  pub step_none : Gives s (get_or ls (used - 1) d) new None → stack_left 15 s (take (used - 1) ls) ≡ stack_left 15 s (take used ls)
-  step_none g = sym (popped s ls used d some there room ∙ ap (λ (ms : List Member). ms ++ stack_left 15 s (take (used - 1) ls)) (g (suc (15 - used))))
+  -- the innermost of so many
+  popped : (used : ℕ) (d : Level) → 0 < used → used ≤ length ls → used ≤ 15 → left used ≡ level_left (suc (15 - used)) (above (used - 1)) s (get_or ls (used - 1) d) ++ left (used - 1)
+  popped used d h k m =
+      let u : suc (used - 1) ≡ used = omega arith in
+      let n : 15 - (used - 1) ≡ suc (15 - used) = omega arith in
+      and_one (used - 1) (get_or ls (used - 1) d) (take used ls) (omega arith) (ap (λ (i : ℕ). take i ls) (sym u) ∙ take-suc ls (used - 1) d (omega arith))
+      ∙ ap (λ (i : ℕ). level_left i (above (used - 1)) s (get_or ls (used - 1) d) ++ left (used - 1)) n
 
-  pub step_some : (m : Member) (held : Level) → Gives s (get_or ls (used - 1) d) new (Some (m, held))
-      → stack_left 15 s (take used ls) ≡ m ∷ (level_left (15 - used) s held ++ stack_left 15 s (take used (set ls (used - 1) new)))
-  step_some m held g =
-      popped s ls used d some there room
-      ∙ ap (λ (ms : List Member). ms ++ stack_left 15 s (take (used - 1) ls)) (g (15 - used))
-      ∙ ap (λ (ms : List Member). m ∷ ms) (append_assoc (level_left (15 - used) s held) (level_left (suc (15 - used)) s new) (stack_left 15 s (take (used - 1) ls))
-      ∙ ap (λ (ms : List Member). level_left (15 - used) s held ++ ms) (sym (changed s ls used new some there room)))
+  -- with one more, and where there is no room for it
+  pub pushed : (used : ℕ) (l : Level) → used < 15 → length ls ≡ 15 → stack_left 15 root s (take (used + 1) (set ls used l)) ≡ level_left (15 - used) (above used) s l ++ left used
+  pushed used l h k =
+      let u : used + 1 ≡ suc used = omega arith in
+      and_one used l (take (used + 1) (set ls used l)) (omega arith) (ap (λ (i : ℕ). take i (set ls used l)) u ∙ take-suc-set ls used l (omega arith))
 
-pub empty_not_pushed : (s : Bor (List ℕ)) (ls : List Level) (used : ℕ) (l : Level) → eqb l.count 0 ≡ true → level_left (15 - used) s l ++ stack_left 15 s (take used ls) ≡ stack_left 15 s (take used ls)
-empty_not_pushed s ls used l h = simp (none_left l.above l.end (cut s l.at l.stop) (15 - used) l.count (eqb-true l.count 0 h))
+  pub not_pushed : (used : ℕ) (l : Level) → 15 ≤ used → level_left (15 - used) (above used) s l ++ left used ≡ left used
+  unfolding members_below
+  not_pushed used l h = let n : 15 - used ≡ 0 = omega arith in simp n
+
+  pub empty_not_pushed : (used : ℕ) (l : Level) → eqb l.count 0 ≡ true → level_left (15 - used) (above used) s l ++ left used ≡ left used
+  empty_not_pushed used l h = simp (none_left (above used) l.end (cut s l.at l.stop) (15 - used) l.count (eqb-true l.count 0 h))
+
+  module _ (used : ℕ) (d new : Level) (some : 0 < used) (there : used ≤ length ls) (room : used ≤ 15) where
+    abbrev stepped : List Level
+    stepped = set ls (used - 1) new
+
+    -- the innermost in its new state
+    last_stepped : take used stepped ≡ take (used - 1) ls ++ (new ∷ [])
+    last_stepped = let u : suc (used - 1) ≡ used = omega arith in ap (λ (i : ℕ). take i stepped) (sym u) ∙ take-suc-set ls (used - 1) new (omega arith)
+
+    pub step_none : (p : Position) → p ≡ above (used - 1) → Gives p s (get_or ls (used - 1) d) new None → left (used - 1) ≡ left used
+    step_none p h g =
+        sym (popped used d some there room ∙ ap (λ (q : Position). level_left (suc (15 - used)) q s (get_or ls (used - 1) d) ++ left (used - 1)) (sym h) ∙ ap (λ (ms : List Member). ms ++ left (used - 1)) (g (suc (15 - used))))
+
+    pub step_some : (p : Position) (m : Member) (held : Level) → p ≡ above (used - 1) → Gives p s (get_or ls (used - 1) d) new (Some (m, held))
+        → left used ≡ m ∷ (level_left (15 - used) (standing root (take used stepped)) s held ++ stack_left 15 root s (take used stepped))
+    step_some p m held h g =
+        let n : 15 - (used - 1) ≡ suc (15 - used) = omega arith in
+        let at : standing root (take used stepped) ≡ m.position = ap (standing root) last_stepped ∙ standing_last root (take (used - 1) ls) new ∙ ap (λ (q : Position). below q new.place new.offset) (sym h) ∙ sym g.0 in
+        let kept : stack_left 15 root s (take used stepped) ≡ level_left (suc (15 - used)) (above (used - 1)) s new ++ left (used - 1) =
+        and_one (used - 1) new (take used stepped) (omega arith) last_stepped ∙ ap (λ (i : ℕ). level_left i (above (used - 1)) s new ++ left (used - 1)) n in
+        popped used d some there room
+        ∙ ap (λ (q : Position). level_left (suc (15 - used)) q s (get_or ls (used - 1) d) ++ left (used - 1)) (sym h)
+        ∙ ap (λ (ms : List Member). ms ++ left (used - 1)) (g.1 (15 - used))
+        ∙ ap (λ (ms : List Member). m ∷ ms) (append_assoc (level_left (15 - used) m.position s held) (level_left (suc (15 - used)) p s new) (left (used - 1))
+        ∙ ap (λ (q : Position). level_left (15 - used) m.position s held ++ (level_left (suc (15 - used)) q s new ++ left (used - 1))) h
+        ∙ ap (λ (ms : List Member). level_left (15 - used) m.position s held ++ ms) (sym kept)
+        ∙ ap (λ (p : Position). level_left (15 - used) p s held ++ stack_left 15 root s (take used stepped)) (sym at))

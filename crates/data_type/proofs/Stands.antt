@@ -17,7 +17,7 @@ use Rattle.data_type.specs.declared.array.ArrayInfos.{ArrayInfos}
 use Rattle.data_type.specs.Kind.{at_long}
 use Rattle.data_type.specs.declared.members.Member.{Member}
 use Rattle.data_type.specs.declared.members.Position.{Position}
-use Rattle.data_type.specs.declared.reader.Items as items
+use Rattle.data_type.specs.declared.reader.ReadSubItems as items
 use Rattle.field.specs.Field.{joined}
 use Rattle.data_type.specs.DataType.{taken, items_from, item_at, arrays_of, sub_items_of, type_at, type_of}
 use Rattle.data_type.specs.Members.{root, below, members_below, members_of}
@@ -29,7 +29,7 @@ use Rattle.data_type.proofs.Steps.{none_left, one_left}
 use Rattle.data_type.proofs.Inside.{Turn, here, item_is, accepted_at, holds, all_of}
 use Rattle.data_type.proofs.Numbers.{heads, fills, le4_part}
 use Rattle.data_type.proofs.Fronts.{front_there, front_was, record_is, below_is}
-use Rattle.data_type.proofs.Parts.{length_in, after_after}
+use Rattle.part.proofs.Slice.{after_after, length_part}
 use Rattle.data_type.proofs.Parsed.{meets, parsed}
 
 pub taken_there : (s : Bor (List ℕ)) → 42 ≤ le4 s.now 0 → le4 s.now 0 ≤ length s.now → taken s ≡ Ok (part s 0 (le4 s.now 0), after s (le4 s.now 0))
@@ -72,7 +72,7 @@ module _ (mode : Mode) where
       let i : item_at mode left s ≡ Ok (info, after s (le4 s.now 0)) =
       item_read mode s left (part s 0 (le4 s.now 0)) (after s (le4 s.now 0)) info (λ e. omega (arith, z, e)) t (subst (λ (m : ℕ). type_at mode m (part s 0 (le4 s.now 0)) ≡ Ok info) (sym q) x.read) in
       let c : 1 + info.member_count + length more ≡ suc (length (held ++ more)) = omega (arith, x.counts, length-append held more) in
-      let o : length (part s 0 (le4 s.now 0)).now ≡ le4 s.now 0 = length_in s 0 (le4 s.now 0) (omega (arith, k)) in
+      let o : length (part s 0 (le4 s.now 0)).now ≡ le4 s.now 0 = length_part s 0 (le4 s.now 0) (omega (arith, k)) in
       let b : suc n - 1 ≡ n = omega arith in
       let y' : members_below (suc l) p end (after s (le4 s.now 0)) n ≡ more = subst (λ (m : ℕ). members_below m p end (after s (le4 s.now 0)) n ≡ more) z y.members in
       let w = one_left p end s l (suc n) _ (λ e. omega (arith, e)) (item_is mode l s (part s 0 (le4 s.now 0)) (after s (le4 s.now 0)) info t x.read) in
@@ -128,7 +128,7 @@ took s own behind h = record { least = grind arith; room = grind arith; own_is =
 
 module _ (mode : Mode) where
   -- an entry that was read stands where its sub-items do
-  entry_stands : (left : ℕ) (p : Position) (end : ℕ) (e : Bor (List ℕ)) (r : AdsDataTypeInfo) (i : items.Items) (ms : List Member) → type_at mode left e ≡ Ok r
+  entry_stands : (left : ℕ) (p : Position) (end : ℕ) (e : Bor (List ℕ)) (r : AdsDataTypeInfo) (i : items.ReadSubItems) (ms : List Member) → type_at mode left e ≡ Ok r
       → items_from (item_at mode left) r.sub_items.bytes r.sub_items.count ≡ Ok i → length ms ≡ i.members → Stand mode p end (Items r.sub_items.bytes r.sub_items.count i.rest ms) → Stand mode p end (Entry e r ms)
   unfolding with_strings
   entry_stands left p end e r i ms h k l s =
@@ -144,8 +144,8 @@ module _ (mode : Mode) where
       let count : r.sub_items.count ≡ le2 e.now 40 = sym (ap (λ (x : AdsDataTypeInfo). x.sub_items.count) a.is) ∙ d.items in
       let again : items_from (item_at mode left) r.sub_items.bytes r.sub_items.count ≡ Ok a.items = subst (λ (x : AdsDataTypeInfo). items_from (item_at mode left) x.sub_items.bytes x.sub_items.count ≡ Ok a.items) a.is a.items_are in
       let it : a.items ≡ i = cc (sym again ∙ k) in
-      let rest : i.rest ≡ a.items.rest = sym (ap (λ (x : items.Items). x.rest) it) in
-      let long : length ms ≡ a.items.members = l ∙ sym (ap (λ (x : items.Items). x.members) it) in
+      let rest : i.rest ≡ a.items.rest = sym (ap (λ (x : items.ReadSubItems). x.rest) it) in
+      let long : length ms ≡ a.items.members = l ∙ sym (ap (λ (x : items.ReadSubItems). x.members) it) in
       let there : Stand mode p end (Items (after e (arrays_end e.now)) (le2 e.now 40) a.items.rest ms) =
       subst (λ (x : Bor (List ℕ)). Stand mode p end (Items (after e (arrays_end e.now)) (le2 e.now 40) x ms)) rest
       (subst (λ (x : ℕ). Stand mode p end (Items (after e (arrays_end e.now)) x i.rest ms)) count
@@ -157,17 +157,17 @@ module _ (mode : Mode) where
       subst (λ (x : AdsDataTypeInfo). Stand mode p end (Entry e x ms)) is
       (entry a.items.rest a.tail w.0 room there (ap (λ (x : Front). tail_of mode x a.items.rest) w.1 ∙ a.tail_is))
 
-  abbrev Stood : Position → ℕ → Bor (List ℕ) → ℕ → items.Items → List Member → Type 0
+  abbrev Stood : Position → ℕ → Bor (List ℕ) → ℕ → items.ReadSubItems → List Member → Type 0
   Stood p end s n i ms = Stand mode p end (Items s n i.rest ms) × (length ms ≡ i.members)
 
-  stood_more : (left : ℕ) (s : Bor (List ℕ)) (n : ℕ) (i : items.Items) (t : Turn mode left s n i) (above : Position) (end : ℕ) (inner : items.Items) (held rest : List Member)
+  stood_more : (left : ℕ) (s : Bor (List ℕ)) (n : ℕ) (i : items.ReadSubItems) (t : Turn mode left s n i) (above : Position) (end : ℕ) (inner : items.ReadSubItems) (held rest : List Member)
       → above.depth + left ≡ 16 → inner.members ≡ t.info.member_count → items_from (item_at mode t.deeper) t.info.sub_items.bytes t.info.sub_items.count ≡ Ok inner
       → Stood (here mode left s n i t above end) (end - length s.now + length t.own.now) t.info.sub_items.bytes t.info.sub_items.count inner held
       → Stood above end t.behind n t.more rest
       → Stood above end s (suc n) i (record { position = here mode left s n i t above end; own = t.own } ∷ (held ++ rest))
   stood_more left s n i t above end inner held rest d c o p q =
       let k = took s t.own t.behind t.takes in
-      let own : length t.own.now ≡ le4 s.now 0 = ap (λ (x : Bor (List ℕ)). length x.now) k.own_is ∙ length_in s 0 (le4 s.now 0) (omega (arith, k.room)) in
+      let own : length t.own.now ≡ le4 s.now 0 = ap (λ (x : Bor (List ℕ)). length x.now) k.own_is ∙ length_part s 0 (le4 s.now 0) (omega (arith, k.room)) in
       let e = entry_stands t.deeper (here mode left s n i t above end) (end - length s.now + length t.own.now) t.own t.info inner held t.entry o p.1 p.0 in
       let place : ℕ = end - length s.now in
       let off : t.info.field.offset ≡ le4 s.now 20 = offset_there mode t.deeper s t.info k.least k.room (subst (λ (x : Bor (List ℕ)). type_at mode t.deeper x ≡ Ok t.info) k.own_is t.entry) in
@@ -178,13 +178,13 @@ module _ (mode : Mode) where
       let r = subst (λ (x : Bor (List ℕ)). Stand mode above end (Items x n t.more.rest rest)) k.behind_is q.0 in
       let it0 = item t.info held (omega (arith, t.some)) k.least k.room e3 r in
       let it = subst (λ (x : Position). Stand mode above end (Items s (suc n) t.more.rest (record { position = x; own = part s 0 (le4 s.now 0) } ∷ (held ++ rest)))) (sym at) it0 in
-      let is : t.more.rest ≡ i.rest = ap (λ (x : items.Items). x.rest) t.is in
-      let count : 1 + t.info.member_count + t.more.members ≡ i.members = ap (λ (x : items.Items). x.members) t.is in
+      let is : t.more.rest ≡ i.rest = ap (λ (x : items.ReadSubItems). x.rest) t.is in
+      let count : 1 + t.info.member_count + t.more.members ≡ i.members = ap (λ (x : items.ReadSubItems). x.members) t.is in
       let l = length-append held rest in
       let whole = subst (λ (x : Bor (List ℕ)). Stand mode above end (Items s (suc n) x (record { position = here mode left s n i t above end; own = part s 0 (le4 s.now 0) } ∷ (held ++ rest)))) is it in
       (subst (λ (x : Bor (List ℕ)). Stand mode above end (Items s (suc n) i.rest (record { position = here mode left s n i t above end; own = x } ∷ (held ++ rest)))) (sym k.own_is) whole, omega (arith, p.1, q.1, c))
 
-  pub items_stand : (left : ℕ) (p : Position) (end : ℕ) (s : Bor (List ℕ)) (n : ℕ) (i : items.Items) → p.depth + left ≡ 16 → items_from (item_at mode left) s n ≡ Ok i → Stood p end s n i (members_below left p end s n)
+  pub items_stand : (left : ℕ) (p : Position) (end : ℕ) (s : Bor (List ℕ)) (n : ℕ) (i : items.ReadSubItems) → p.depth + left ≡ 16 → items_from (item_at mode left) s n ≡ Ok i → Stood p end s n i (members_below left p end s n)
   items_stand left p end s n i d h = all_of mode Stood (λ above end s. (none, refl)) stood_more left n p end s i d h
 
   pub entry_stand : (left : ℕ) (p : Position) (end : ℕ) (e : Bor (List ℕ)) (r : AdsDataTypeInfo) → p.depth + left ≡ 16 → type_at mode left e ≡ Ok r
@@ -201,7 +201,7 @@ root_reads : (mode : Mode) (s : Bor (List ℕ)) (r : AdsDataTypeInfo) (ms : List
 unfolding claim_of
 root_reads mode s r ms w =
     let x = reads mode w.stands 15 refl in
-    let l : length (part s 0 (le4 s.now 0)).now ≡ le4 s.now 0 = length_in s 0 (le4 s.now 0) (omega (arith, w.room)) in
+    let l : length (part s 0 (le4 s.now 0)).now ≡ le4 s.now 0 = length_part s 0 (le4 s.now 0) (omega (arith, w.room)) in
     let n : r.field.length ≡ le4 s.now 0 = at_long mode 15 (part s 0 (le4 s.now 0)) r x.read ∙ l in (
       simp (
         le-ltb limit (length s.now) w.small,
@@ -217,7 +217,7 @@ root_stood mode s r h =
     let p = parsed (type_of mode) s r h in
     let w = meets s.now p.size p.claims in
     let z : p.size ≡ le4 s.now 0 = sym w.claims in
-    let l : length (part s 0 p.size).now ≡ p.size = length_in s 0 p.size (omega (arith, w.room)) in
+    let l : length (part s 0 p.size).now ≡ p.size = length_part s 0 p.size (omega (arith, w.room)) in
     let t = subst (λ (n : ℕ). Stand mode root n (Entry (part s 0 p.size) r (members_of r))) l (root_stands mode (part s 0 p.size) r p.entry) in
     record {
       small = w.small;

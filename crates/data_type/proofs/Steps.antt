@@ -5,25 +5,26 @@ use Rattle.le.specs.Le.{le2, le4}
 use Rattle.part.specs.Slice.{part, after}
 use Rattle.std.specs.Prelude.{Ok, Err}
 use Rattle.refusal.specs.declared.Refusal.{Refusal}
-use Rattle.data_type.specs.declared.members.Item.{Item}
+use Rattle.data_type.specs.declared.members.SubItem.{SubItem}
 use Rattle.data_type.specs.declared.members.Position.{Position}
 use Rattle.refusal.specs.declared.Mode.TheVariants.{Present}
 use Rattle.field.specs.declared.front.Front.{Front}
 use Rattle.field.specs.Front.{with_strings, front_of}
 use Rattle.data_type.specs.declared.array.ArrayInfos.{ArrayInfos}
 use Rattle.data_type.specs.Level.{cut}
-use Rattle.data_type.proofs.Parts.{part_in, after_is, after_after, length_in, cut_inside}
-use Rattle.data_type.specs.DataType.{taken, arrays_of}
-use Rattle.data_type.specs.Accepted.{and_then_ok}
+use Rattle.part.proofs.Slice.{after_after, length_part}
+use Rattle.data_type.proofs.Parts.{part_in, after_is, cut_inside}
+use Rattle.data_type.specs.DataType.{taken, arrays_of, sub_items_of}
+use Rattle.part.proofs.Outcome.{both_passed}
 use Rattle.data_type.specs.Members.{below, item_in, members_below, each}
 
 -- a sub-item's own bytes stand first, its own sub-items at their end, and what is behind it behind them
-pub record Lies (s : Bor (List ℕ)) (i : Item) : Type 0 where
+pub record Lies (s : Bor (List ℕ)) (i : SubItem) : Type 0 where
   pub long : length i.own.now + length i.behind.now ≡ length s.now
-  pub short : length i.first.now ≤ length i.own.now
+  pub short : length i.sub_items.bytes.now ≤ length i.own.now
   pub own : i.own ≡ part s 0 (length i.own.now)
   pub behind : i.behind ≡ part s (length i.own.now) (length s.now - length i.own.now)
-  pub first : i.first ≡ part i.own (length i.own.now - length i.first.now) (length i.first.now)
+  pub first : i.sub_items.bytes ≡ part i.own (length i.own.now - length i.sub_items.bytes.now) (length i.sub_items.bytes.now)
 
 record Taken (s own behind : Bor (List ℕ)) : Type 0 where
   size : ℕ
@@ -59,10 +60,10 @@ first_is own rest first e d =
     let k : length own.now - length first.now ≡ e.from + d.from = omega arith in
     (omega arith, f ∙ after_is own (e.from + d.from) ∙ ap₂ (part own) (sym k) (sym l))
 
-lies_by : (s own behind rest first : Bor (List ℕ)) (offset count : ℕ) → Taken s own behind → Ends own rest → Ends rest first → Lies s (record { own = own; offset = offset; first = first; count = count; behind = behind })
+lies_by : (s own behind rest first : Bor (List ℕ)) (offset count : ℕ) → Taken s own behind → Ends own rest → Ends rest first → Lies s (record { own = own; offset = offset; sub_items = record { bytes = first; count = count }; behind = behind })
 lies_by s own behind rest first offset count t e d =
     let f = first_is own rest first e d in
-    let o : length own.now ≡ t.size = ap (λ (x : Bor (List ℕ)). length x.now) t.own_is ∙ length_in s 0 t.size (omega (arith, t.room)) in
+    let o : length own.now ≡ t.size = ap (λ (x : Bor (List ℕ)). length x.now) t.own_is ∙ length_part s 0 t.size (omega (arith, t.room)) in
     let b : length behind.now ≡ length s.now - t.size = ap (λ (x : Bor (List ℕ)). length x.now) t.behind_is ∙ length-drop t.size s.now in
     record {
       long = omega (arith, o, b, t.room);
@@ -72,13 +73,13 @@ lies_by s own behind rest first offset count t e d =
       first = f.1;
     }
 
-pub lies : (s : Bor (List ℕ)) (i : Item) → item_in s ≡ Ok i → Lies s i
+pub lies : (s : Bor (List ℕ)) (i : SubItem) → item_in s ≡ Ok i → Lies s i
 unfolding item_in
 lies s i h =
-    let p = and_then_ok (taken s) _ i h in
-    let f = and_then_ok (front_of Present p.0.0) _ i p.1.1 in
-    let a = and_then_ok (arrays_of f.0) _ i f.1.1 in
-    let is : record { own = p.0.0; offset = f.0.offset; first = a.0.1; count = f.0.sub_item_count; behind = p.0.1 } ≡ i = cc a.1.1 in
+    let p = both_passed (taken s) h in
+    let f = both_passed (front_of Present p.0.0) p.1.1 in
+    let a = both_passed (arrays_of f.0) f.1.1 in
+    let is : record { own = p.0.0; offset = f.0.offset; sub_items = sub_items_of f.0 a.0.1; behind = p.0.1 } ≡ i = cc a.1.1 in
     subst (Lies s) is (lies_by s p.0.0 p.0.1 f.0.rest a.0.1 f.0.offset f.0.sub_item_count (taken_is s p.0.0 p.0.1 p.1.0) (front_ends p.0.0 f.0 f.1.0) (arrays_end f.0 a.0 a.1.0))
 
 module _ (above : Position) (end : ℕ) (s : Bor (List ℕ)) where
@@ -94,25 +95,25 @@ module _ (above : Position) (end : ℕ) (s : Bor (List ℕ)) where
   refused_left (suc levels) zero why h = refl
   refused_left (suc levels) (suc count) why h = simp h
 
-  pub one_left : (levels count : ℕ) (i : Item) → (count ≡ 0 → ⊥) → item_in s ≡ Ok i
+  pub one_left : (levels count : ℕ) (i : SubItem) → (count ≡ 0 → ⊥) → item_in s ≡ Ok i
       → members_below (suc levels) above end s count
       ≡ record { position = below above (end - length s.now) i.offset; own = i.own }
-      ∷ (members_below levels (below above (end - length s.now) i.offset) (end - length s.now + length i.own.now) i.first i.count ++ members_below (suc levels) above end i.behind (count - 1))
+      ∷ (members_below levels (below above (end - length s.now) i.offset) (end - length s.now + length i.own.now) i.sub_items.bytes i.sub_items.count ++ members_below (suc levels) above end i.behind (count - 1))
   unfolding members_below each
   one_left levels zero i z h = absurd (z refl)
   one_left levels (suc count) i z h = let n : suc count - 1 ≡ count = omega arith in simp (h, n)
 
 -- the same, by places in bytes that hold the level's
 module _ (b : Bor (List ℕ)) (above : Position) (end at stop : ℕ) (fits : at ≤ stop) (room : stop ≤ length b.now) where
-  pub step_gives : (levels count : ℕ) (i : Item) → (count ≡ 0 → ⊥) → item_in (part b at (stop - at)) ≡ Ok i
+  pub step_gives : (levels count : ℕ) (i : SubItem) → (count ≡ 0 → ⊥) → item_in (part b at (stop - at)) ≡ Ok i
       → members_below (suc levels) above end (part b at (stop - at)) count
       ≡ record { position = below above (end - length (part b at (stop - at)).now) i.offset; own = i.own }
-      ∷ (members_below levels (below above (end - length (part b at (stop - at)).now) i.offset) (end - length (part b at (stop - at)).now + length i.own.now) (cut b (at + length i.own.now - length i.first.now) (at + length i.own.now)) i.count
+      ∷ (members_below levels (below above (end - length (part b at (stop - at)).now) i.offset) (end - length (part b at (stop - at)).now + length i.own.now) (cut b (at + length i.own.now - length i.sub_items.bytes.now) (at + length i.own.now)) i.sub_items.count
       ++ members_below (suc levels) above end (cut b (at + length i.own.now) stop) (count - 1))
   step_gives levels count i z h =
       let r : Bor (List ℕ) = part b at (stop - at) in
       let l = lies r i h in
-      let long : length r.now ≡ stop - at = length_in b at (stop - at) (omega arith) in
+      let long : length r.now ≡ stop - at = length_part b at (stop - at) (omega arith) in
       let x = l.long in
       let y = l.short in
       let near : length i.own.now ≤ stop - at = omega arith in
@@ -121,12 +122,12 @@ module _ (b : Bor (List ℕ)) (above : Position) (end at stop : ℕ) (fits : at 
       l.behind ∙ ap (part r (length i.own.now)) k ∙ part_in b at (stop - at) (length i.own.now) (stop - (at + length i.own.now)) (omega arith) ∙ sym (cut_inside b (at + length i.own.now) stop (omega arith) room) in
       let own : i.own ≡ part b at (length i.own.now) =
       l.own ∙ part_in b at (stop - at) 0 (length i.own.now) (omega arith) ∙ ap (λ (k : ℕ). part b k (length i.own.now)) (add-zero at) in
-      let first : i.first ≡ cut b (at + length i.own.now - length i.first.now) (at + length i.own.now) =
-      let k : at + (length i.own.now - length i.first.now) ≡ at + length i.own.now - length i.first.now = omega arith in
-      let m : at + length i.own.now - (at + length i.own.now - length i.first.now) ≡ length i.first.now = omega arith in
-      l.first ∙ ap (λ (e : Bor (List ℕ)). part e (length i.own.now - length i.first.now) (length i.first.now)) own
-      ∙ part_in b at (length i.own.now) (length i.own.now - length i.first.now) (length i.first.now) (omega arith)
+      let first : i.sub_items.bytes ≡ cut b (at + length i.own.now - length i.sub_items.bytes.now) (at + length i.own.now) =
+      let k : at + (length i.own.now - length i.sub_items.bytes.now) ≡ at + length i.own.now - length i.sub_items.bytes.now = omega arith in
+      let m : at + length i.own.now - (at + length i.own.now - length i.sub_items.bytes.now) ≡ length i.sub_items.bytes.now = omega arith in
+      l.first ∙ ap (λ (e : Bor (List ℕ)). part e (length i.own.now - length i.sub_items.bytes.now) (length i.sub_items.bytes.now)) own
+      ∙ part_in b at (length i.own.now) (length i.own.now - length i.sub_items.bytes.now) (length i.sub_items.bytes.now) (omega arith)
       ∙ ap₂ (part b) k (sym m)
-      ∙ sym (cut_inside b (at + length i.own.now - length i.first.now) (at + length i.own.now) (omega arith) (omega arith)) in
+      ∙ sym (cut_inside b (at + length i.own.now - length i.sub_items.bytes.now) (at + length i.own.now) (omega arith) (omega arith)) in
       one_left above end r levels count i z h
-      ∙ ap₂ (λ (f g : Bor (List ℕ)). record { position = below above (end - length r.now) i.offset; own = i.own } ∷ (members_below levels (below above (end - length r.now) i.offset) (end - length r.now + length i.own.now) f i.count ++ members_below (suc levels) above end g (count - 1))) first back
+      ∙ ap₂ (λ (f g : Bor (List ℕ)). record { position = below above (end - length r.now) i.offset; own = i.own } ∷ (members_below levels (below above (end - length r.now) i.offset) (end - length r.now + length i.own.now) f i.sub_items.count ++ members_below (suc levels) above end g (count - 1))) first back

@@ -1,7 +1,7 @@
 -- docs/FORMAT.md, "Data type entries": what an entry that was read passed.
-use Rattle.std.proofs.Common.{ℕ, ◌≡◌, refl, List, length, arith, Bor}
-use Rattle.std.specs.Prelude.{Result, Ok, Err}
-use Rattle.part.specs.Outcome.{and_then}
+use Rattle.std.proofs.Common.{ℕ, ◌≡◌, List, length, arith, Bor}
+use Rattle.std.specs.Prelude.{Ok}
+use Rattle.part.proofs.Outcome.{both_passed}
 use Rattle.refusal.specs.declared.Mode.{Mode}
 use Rattle.field.specs.declared.front.Front.{Front}
 use Rattle.field.specs.declared.tail.Tail.{Tail}
@@ -10,13 +10,8 @@ use Rattle.field.specs.Tail.{tail_of}
 use Rattle.field.specs.Field.{joined}
 use Rattle.data_type.specs.declared.AdsDataTypeInfo.{AdsDataTypeInfo}
 use Rattle.data_type.specs.declared.array.ArrayInfos.{ArrayInfos}
-use Rattle.data_type.specs.declared.reader.Items.{Items}
+use Rattle.data_type.specs.declared.reader.ReadSubItems.{ReadSubItems}
 use Rattle.data_type.specs.DataType.{ItemReader, items_from, arrays_of, sub_items_of, type_with}
-
--- a step that was not the last
-pub and_then_ok : {A B E : Type 0} (r : Result A E) (next : A → Result B E) (b : B) → and_then r next ≡ Ok b → (a : A) × ((r ≡ Ok a) × (next a ≡ Ok b))
-and_then_ok (Ok a) next b h = (a, (refl, h))
-and_then_ok (Err e) next b h = cc
 
 pub front_long : (mode : Mode) (e : Bor (List ℕ)) (f : Front) → front_of mode e ≡ Ok f → f.length ≡ length e.now
 unfolding front_of with_strings
@@ -27,7 +22,7 @@ pub record Accepted (mode : Mode) (item : ItemReader) (e : Bor (List ℕ)) (r : 
   pub front : Front
   pub arrays : ArrayInfos
   pub first : Bor (List ℕ)
-  pub items : Items
+  pub items : ReadSubItems
   pub tail : Tail
   pub front_is : front_of mode e ≡ Ok front
   pub arrays_are : arrays_of front ≡ Ok (arrays, first)
@@ -38,10 +33,10 @@ pub record Accepted (mode : Mode) (item : ItemReader) (e : Bor (List ℕ)) (r : 
 pub accepted : (mode : Mode) (item : ItemReader) (e : Bor (List ℕ)) (r : AdsDataTypeInfo) → type_with mode item e ≡ Ok r → Accepted mode item e r
 unfolding type_with
 accepted mode item e r h =
-    let f = and_then_ok (front_of mode e) _ r h in
-    let a = and_then_ok (arrays_of f.0) _ r f.1.1 in
-    let i = and_then_ok (items_from item a.0.1 f.0.sub_item_count) _ r a.1.1 in
-    let t = and_then_ok (tail_of mode f.0 i.0.rest) _ r i.1.1 in
+    let f = both_passed (front_of mode e) h in
+    let a = both_passed (arrays_of f.0) f.1.1 in
+    let i = both_passed (items_from item a.0.1 f.0.sub_item_count) a.1.1 in
+    let t = both_passed (tail_of mode f.0 i.0.rest) i.1.1 in
     record {
       front = f.0;
       arrays = a.0.0;

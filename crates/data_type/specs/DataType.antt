@@ -9,14 +9,13 @@ use Rattle.refusal.specs.declared.Mode.{Mode}
 use Rattle.refusal.specs.declared.Refusal.{Refusal}
 use Rattle.refusal.specs.declared.Refusal.TheVariants.{TooShort, EntryLengthMismatch, ClaimBelowHeader, TooDeep}
 use Rattle.field.specs.declared.front.Front.{Front}
-use Rattle.field.specs.declared.tail.Tail.{Tail}
 use Rattle.field.specs.Front.{front_of}
 use Rattle.field.specs.Tail.{tail_of}
 use Rattle.field.specs.Field.{joined}
 use Rattle.data_type.specs.declared.AdsDataTypeInfo.{AdsDataTypeInfo}
 use Rattle.data_type.specs.declared.SubItems.{SubItems}
 use Rattle.data_type.specs.declared.array.ArrayInfos.{ArrayInfos}
-use Rattle.data_type.specs.declared.reader.Items.{Items}
+use Rattle.data_type.specs.declared.reader.ReadSubItems.{ReadSubItems}
 
 -- the own bytes of the sub-item at the start of some bytes of its parent, and the bytes behind it: 2 for fewer than 4 bytes, 3 for a claim that leaves
 -- the parent, 4 for one below the header
@@ -32,7 +31,7 @@ abbrev pub ItemReader : Type 0
 ItemReader = Bor (List ℕ) → Result (AdsDataTypeInfo × Bor (List ℕ)) Refusal
 
 -- so many sub-items, each read whole before the next, which stands behind it. Each is a member, and brings its own
-unfoldable pub items_from : ItemReader → Bor (List ℕ) → ℕ → Result Items Refusal
+unfoldable pub items_from : ItemReader → Bor (List ℕ) → ℕ → Result ReadSubItems Refusal
 items_from item s zero = Ok (record { rest = s; members = 0 })
 items_from item s (suc left) =
     and_then (item s) (λ p. and_then (items_from item p.1 left) (λ more. Ok (record { rest = more.rest; members = 1 + p.0.member_count + more.members })))
@@ -85,5 +84,5 @@ abbrev pub SomeMembers : List ℕ → AdsDataTypeInfo → Type 0
 SomeMembers e r = r.member_count < length e
 
 -- and no more than bytes before what is left
-abbrev pub SomeItems : List ℕ → Items → Type 0
+abbrev pub SomeItems : List ℕ → ReadSubItems → Type 0
 SomeItems s items = items.members + length items.rest.now ≤ length s

@@ -4,17 +4,20 @@ use Rattle.std.specs.Borrow.{Bor}
 use Rattle.part.specs.Slice.{part}
 use Rattle.data_type.specs.declared.level.Level.{Level}
 use Rattle.data_type.specs.declared.members.Member.{Member}
-use Rattle.data_type.specs.Members.{members_below}
+use Rattle.data_type.specs.declared.members.Position.{Position}
+use Rattle.data_type.specs.Members.{below, members_below}
 
 -- bytes from one place to another, or as many of them as there are
 abbrev pub cut : Bor (List ℕ) → ℕ → ℕ → Bor (List ℕ)
 cut s at stop = let end : ℕ = min stop (length s.now) in part s (min at end) (end - min at end)
 
--- to so many levels below the entry, in these bytes
-abbrev pub level_left : ℕ → Bor (List ℕ) → Level → List Member
-level_left levels s l = members_below levels l.above l.end (cut s l.at l.stop) l.count
+-- to so many levels below the entry, which stands at a position, in these bytes
+abbrev pub level_left : ℕ → Position → Bor (List ℕ) → Level → List Member
+level_left levels above s l = members_below levels above l.end (cut s l.at l.stop) l.count
 
 -- a step: nothing is left, or a member, then what it holds, then what is left after it
-abbrev pub Gives : Bor (List ℕ) → Level → Level → Option (Member × Level) → Type 0
-Gives s old new None = (levels : ℕ) → level_left levels s old ≡ []
-Gives s old new (Some p) = (levels : ℕ) → level_left (suc levels) s old ≡ p.0 ∷ (level_left levels s p.1 ++ level_left (suc levels) s new)
+abbrev pub Gives : Position → Bor (List ℕ) → Level → Level → Option (Member × Level) → Type 0
+Gives above s old new None = (levels : ℕ) → level_left levels above s old ≡ []
+Gives above s old new (Some p) =
+    (p.0.position ≡ below above new.place new.offset)
+    × ((levels : ℕ) → level_left (suc levels) above s old ≡ p.0 ∷ (level_left levels p.0.position s p.1 ++ level_left (suc levels) above s new))

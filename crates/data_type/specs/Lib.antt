@@ -7,6 +7,7 @@ pub mod Members
 pub mod Level
 pub mod Left
 pub mod List
+pub mod Told
 pub mod Theorems
 pub mod Layout
 pub mod Stand

@@ -7,10 +7,10 @@ use Rattle.refusal.specs.declared.Refusal.{Refusal}
 use Rattle.refusal.specs.declared.Refusal.TheVariants.{NoSuchNumber}
 use Rattle.field.specs.Front.{front_of}
 use Rattle.data_type.specs.declared.members.Position.{Position}
-use Rattle.data_type.specs.declared.members.Item.{Item}
+use Rattle.data_type.specs.declared.members.SubItem.{SubItem}
 use Rattle.data_type.specs.declared.members.Member.{Member}
 use Rattle.data_type.specs.declared.AdsDataTypeInfo.{AdsDataTypeInfo}
-use Rattle.data_type.specs.DataType.{taken, arrays_of, levels}
+use Rattle.data_type.specs.DataType.{taken, arrays_of, sub_items_of, levels}
 
 abbrev pub root : Position
 root = record { path = replicate 15 0; depth = 1; offset = 0 }
@@ -25,14 +25,14 @@ abbrev pub place_of : Position → ℕ
 place_of p = get_or p.path (p.depth - 2) 0
 
 -- the sub-item at the start of some bytes of its parent, by its front and its array records alone
-unfoldable pub item_in : Bor (List ℕ) → Result Item Refusal
+unfoldable pub item_in : Bor (List ℕ) → Result SubItem Refusal
 item_in s =
     and_then (taken s) (λ p.
     and_then (front_of Present p.0) (λ f.
-    and_then (arrays_of f) (λ a. Ok (record { own = p.0; offset = f.offset; first = a.1; count = f.sub_item_count; behind = p.1 }))))
+    and_then (arrays_of f) (λ a. Ok (record { own = p.0; offset = f.offset; sub_items = sub_items_of f a.1; behind = p.1 }))))
 
 -- so many sub-items, where the bytes that they stand in end at a place, by what one at a place brings
-unfoldable pub each : (ℕ → Item → List Member) → ℕ → Bor (List ℕ) → ℕ → List Member
+unfoldable pub each : (ℕ → SubItem → List Member) → ℕ → Bor (List ℕ) → ℕ → List Member
 each brings end s zero = []
 each brings end s (suc left) = outcome (item_in s) (λ item. brings (end - length s.now) item ++ each brings end item.behind left) (λ why. [])
 
@@ -43,7 +43,7 @@ members_below (suc left) above end s count =
     each
     (λ place item.
     let p : Position = below above place item.offset in
-    record { position = p; own = item.own } ∷ members_below left p (place + length item.own.now) item.first item.count)
+    record { position = p; own = item.own } ∷ members_below left p (place + length item.own.now) item.sub_items.bytes item.sub_items.count)
     end s count
 
 -- of a record

@@ -8,30 +8,32 @@ use crate::members::{Member, Position, item_in};
 /// Sub-items of an entry, within the bytes that the sub-items of the data type fill.
 #[derive(Clone, Copy, Debug)]
 pub struct Level {
-    /// Where the entry stands.
-    above: Position,
-    /// The next sub-item's place in those bytes, and where the bytes of the entry end there.
+    /// Where the one stands that was given last, and its offset.
+    pub(crate) place: usize,
+    pub(crate) offset: u32,
+    /// The next one's place in those bytes, and where the bytes of the entry end there.
     at: usize,
     stop: usize,
     /// The same end, counted from the start of the data type's entry.
     end: usize,
     /// How many are left.
     count: u16,
-    ghost small: { above.offset ≤ above.depth * 4294967296 },
 }
 
 impl Level {
-    ghost use Rattle.data_type.specs.Members.{root, members_below};
+    ghost use Rattle.data_type.specs.declared.members.Position.{Position};
+    ghost use Rattle.data_type.specs.Members.{members_below};
     ghost use Rattle.data_type.specs.Level.{level_left, Gives};
 
     /// The sub-items of the data type itself, which fill so many bytes.
     #[tactic(auto, using(crate::proofs::Parts::cut_all))]
     #[inline(always)]
     pub(crate) fn first(bytes: &[u8], end: usize, count: u16) -> Level
-        ensures { (levels : ℕ) → level_left levels bytes.entry result ≡ members_below levels root end bytes.entry count }
+        ensures { (levels : ℕ) (above : Position) → level_left levels above bytes.entry result ≡ members_below levels above end bytes.entry count }
     {
         Level {
-            above: Position::root(),
+            place: 0,
+            offset: 0,
             at: 0,
             stop: bytes.len(),
             end,
@@ -47,11 +49,16 @@ impl Level {
         self.count == 0
     }
 
-    /// The next member, and what it holds in turn.
+    /// The next member, and what it holds in turn, where the entry stands at a position.
     #[tactic(auto, using(crate::proofs::Steps::lies, crate::proofs::Steps::none_left, crate::proofs::Steps::refused_left))]
     #[inline(always)]
-    pub(crate) fn step<'a>(&mut self, bytes: &'a [u8]) -> Option<(Member<'a>, Level)>
-        ensures { Gives bytes.entry self.old self.new result }
+    pub(crate) fn step<'a>(
+        &mut self,
+        above: Position,
+        bytes: &'a [u8],
+    ) -> Option<(Member<'a>, Level)>
+        requires { above.offset ≤ above.depth * 4294967296 }
+        ensures { Gives above bytes.entry self.old self.new result }
     {
         if self.count == 0 {
             return None;
@@ -61,8 +68,11 @@ impl Level {
         let rest = part::part_of(bytes, at, stop - at);
         let Ok(item) = item_in(rest) else { return None };
         let place = self.end.saturating_sub(rest.len());
-        let position = self.above.below(place, item.offset);
+        let mut position = above;
+        position.descend(place, item.offset);
         let behind = at + item.own.len();
+        self.place = place;
+        self.offset = item.offset;
         self.at = behind;
         self.stop = stop;
         self.count -= 1;
@@ -71,11 +81,12 @@ impl Level {
             own: item.own,
         };
         let held = Level {
-            above: position,
-            at: behind - item.first.len(),
+            place: 0,
+            offset: 0,
+            at: behind - item.sub_items.bytes.len(),
             stop: behind,
             end: place + item.own.len(),
-            count: item.count,
+            count: item.sub_items.count,
         };
         Some((member, held))
     }

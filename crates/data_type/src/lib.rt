@@ -8,7 +8,7 @@ ghost use Rattle.data_type.specs.Kind.{four, long, room, short, never_zero};
 use crate::array::ArrayInfos;
 use field::AdsFieldInfo;
 use refusal::{Mode, Refusal};
-use walk::{Entry, Walker};
+use walk::{Accepts, Entry, Walker};
 
 pub mod array;
 pub mod level;
@@ -65,6 +65,14 @@ impl<'a> Entry<'a> for AdsDataTypeInfo<'a> {
     #[inline(always)]
     fn read(own: &'a [u8], mode: Mode) -> Result<Self, Refusal> {
         reader::read_entry(own, mode, reader::LEVELS)
+    }
+}
+
+impl<'a> Accepts<'a> for AdsDataTypeInfo<'a> {
+    #[inline(always)]
+    fn accepts(own: &'a [u8], mode: Mode) -> Result<(), Refusal> {
+        Self::read(own, mode)?;
+        Ok(())
     }
 }
 

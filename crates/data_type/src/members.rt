@@ -4,9 +4,9 @@
 ghost use Rattle.std.specs.Prelude.{◌≡◌, ◌≤◌, ◌*◌, ◌-◌, ◌++◌, take};
 ghost use Rattle.data_type.specs.Members.{root, below, place_of, item_in};
 
-use crate::AdsDataTypeInfo;
 use crate::level::Level;
 use crate::reader::{read_arrays, taken};
+use crate::{AdsDataTypeInfo, SubItems};
 use field::front::Front;
 use refusal::{Mode, Refusal};
 
@@ -37,24 +37,20 @@ impl Position {
         }
     }
 
-    /// That of a sub-item at a place, with this offset in what stands here. At the deepest level it is this one.
+    /// Goes down to a sub-item at a place, with this offset in what stands here. At the deepest level it stays.
     #[tactic(auto, unfolding(crate::specs::Members::below))]
     #[inline(always)]
-    pub(crate) fn below(self, place: usize, offset: u32) -> Position
-        requires { self.offset ≤ self.depth * 4294967296 }
-        ensures value { result ≡ below self place offset }
-        ensures small { result.offset ≤ result.depth * 4294967296 }
+    pub(crate) fn descend(&mut self, place: usize, offset: u32)
+        requires { self.old.offset ≤ self.old.depth * 4294967296 }
+        ensures value { self.new ≡ below self.old place offset }
+        ensures small { self.new.offset ≤ self.new.depth * 4294967296 }
     {
         if self.depth >= 16 {
-            return self;
+            return;
         }
-        let mut path = self.path;
-        path[self.depth.saturating_sub(1)] = place;
-        Position {
-            path,
-            depth: self.depth + 1,
-            offset: self.offset + offset as u64,
-        }
+        self.path[self.depth.saturating_sub(1)] = place;
+        self.depth += 1;
+        self.offset += offset as u64;
     }
 
     /// The last place of the path: that of the member itself.
@@ -78,15 +74,13 @@ pub struct Member<'a> {
 
 /// A sub-item, by its front and its array records alone.
 #[derive(Clone, Copy, Debug)]
-pub struct Item<'a> {
+pub struct SubItem<'a> {
     /// The own bytes of its entry.
     pub own: &'a [u8],
     /// The offset that its header tells.
     pub offset: u32,
-    /// What stands behind its array records: first its own sub-items.
-    pub first: &'a [u8],
-    /// How many these are.
-    pub count: u16,
+    /// Its own sub-items, which stand behind its array records.
+    pub sub_items: SubItems<'a>,
     /// What stands behind it.
     pub behind: &'a [u8],
 }
@@ -94,17 +88,19 @@ pub struct Item<'a> {
 /// The sub-item at the start of some bytes of its parent.
 #[tactic(auto, using(crate::proofs::Entry::fits), unfolding(crate::specs::Members::item_in))]
 #[inline(always)]
-pub(crate) fn item_in(bytes: &[u8]) -> Result<Item<'_>, Refusal>
+pub(crate) fn item_in(bytes: &[u8]) -> Result<SubItem<'_>, Refusal>
     ensures { result ≡ item_in bytes.entry }
 {
     let (own, behind) = taken(bytes)?;
     let front = Front::read(own, Mode::Present)?;
     let (_, first) = read_arrays(&front)?;
-    Ok(Item {
+    Ok(SubItem {
         own,
         offset: front.offset,
-        first,
-        count: front.sub_item_count,
+        sub_items: SubItems {
+            bytes: first,
+            count: front.sub_item_count,
+        },
         behind,
     })
 }
@@ -115,21 +111,35 @@ pub(crate) fn item_in(bytes: &[u8]) -> Result<Item<'_>, Refusal>
 pub struct Members<'a> {
     // What the sub-items of the data type fill.
     bytes: &'a [u8],
-    // What is left of these, of those of one of them, and so on down.
+    // What is left of these, of those of the one that was given last, and so on down.
     levels: [Level; 15],
     used: usize,
 }
 
 impl<'a> Members<'a> {
     ghost use Rattle.data_type.specs.Level.{level_left};
-    ghost use Rattle.data_type.specs.Left.{stack_left, members_left};
+    ghost use Rattle.data_type.specs.Left.{standing, stack_left, members_left};
+
+    // The position of the entry that has the sub-items of a level.
+    #[inline(always)]
+    fn above(&self, level: usize) -> Position
+        requires { level ≤ 15 }
+        ensures value { result ≡ standing root (take level self.now.levels) }
+        ensures small { result.offset ≤ result.depth * 4294967296 }
+    {
+        let mut above = Position::root();
+        for outer in 0..level {
+            above.descend(self.levels[outer].place, self.levels[outer].offset);
+        }
+        above
+    }
 
     // Lays a level on the first so many. There is nothing below the deepest.
     #[tactic(auto, using(crate::proofs::Stack::pushed, crate::proofs::Stack::not_pushed, crate::proofs::Stack::empty_not_pushed))]
     #[inline(always)]
     fn push(&mut self, used: usize, held: Level)
         requires { used ≤ 15 }
-        ensures { members_left self.new ≡ level_left (15 - used) self.old.bytes held ++ stack_left 15 self.old.bytes (take used self.old.levels) }
+        ensures { members_left self.new ≡ level_left (15 - used) (standing root (take used self.old.levels)) self.old.bytes held ++ stack_left 15 root self.old.bytes (take used self.old.levels) }
     {
         if used < 15 && !held.is_empty() {
             self.levels[used] = held;
@@ -155,8 +165,9 @@ impl<'a> Iterator for Members<'a> {
         let mut used = self.used.min(15);
         while used > 0 {
             let top = used - 1;
+            let above = self.above(top);
             let bytes = self.bytes;
-            if let Some((member, held)) = self.levels[top].step(bytes) {
+            if let Some((member, held)) = self.levels[top].step(above, bytes) {
                 self.push(used, held);
                 return Some(member);
             }

@@ -70,7 +70,7 @@ pub(crate) fn read_arrays<'a>(front: &Front<'a>) -> Result<(ArrayInfos<'a>, &'a 
 
 /// Sub-items that were read: the bytes behind them, and how many members they bring.
 #[derive(Clone, Copy, Debug)]
-pub struct Items<'a> {
+pub struct ReadSubItems<'a> {
     /// The bytes behind them.
     pub rest: &'a [u8],
     /// How many members they bring, themselves among them.
@@ -108,11 +108,16 @@ pub(crate) fn read_entry(
 
 /// So many sub-items at the start of some bytes. A loop, since there may be 65,535 of them.
 #[cycle(read_entry_read_items)]
-fn read_items(first: &[u8], mode: Mode, left: usize, count: u16) -> Result<Items<'_>, Refusal>
+fn read_items(
+    first: &[u8],
+    mode: Mode,
+    left: usize,
+    count: u16,
+) -> Result<ReadSubItems<'_>, Refusal>
     ensures value { result ≡ items_from (item_at mode left) first.entry count }
     ensures few { IfOk result (SomeItems first.now) }
 {
-    let mut done = Items {
+    let mut done = ReadSubItems {
         rest: first,
         members: 0,
     };

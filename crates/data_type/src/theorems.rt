@@ -8,6 +8,7 @@ ghost use Rattle.data_type.specs.Meaning.{TypesMeant};
 ghost use Rattle.data_type.specs.Chain.{TypesNest};
 ghost use Rattle.data_type.specs.Ends.{TypesChecked};
 ghost use Rattle.data_type.specs.Theorems.{TypesAsFields, ArraysMeant};
+ghost use Rattle.data_type.specs.Told.{TypesAnywhere};
 
 /// Exactly what stands in the bytes as the layout says is read as a data type, as it stands.
 pub fn types_stand()
@@ -44,4 +45,9 @@ pub fn types_nest()
 /// Bytes are refused exactly by the fault that is the first that is met, with its figures.
 pub fn types_refused()
     ensures { TypesRefused }
+{}
+
+/// What a data type tells does not depend on where it lies in memory.
+pub fn types_anywhere()
+    ensures { TypesAnywhere }
 {}

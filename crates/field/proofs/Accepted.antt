@@ -3,7 +3,8 @@ use Rattle.std.proofs.Common.{ℕ, ◌≤◌, ◌≡◌, true, List, length, Ok}
 use Rattle.refusal.specs.Refusal.{limit}
 use Rattle.attribute.specs.Block.{block_checked}
 use Rattle.writing.specs.Checks.{IsShort}
-use Rattle.writing.proofs.Entry.{both_passed, strings_passed, count_passed, entry_passed}
+use Rattle.part.proofs.Outcome.{both_passed}
+use Rattle.writing.proofs.Entry.{strings_passed, count_passed, entry_passed}
 use Rattle.field.specs.declared.writer.NewField.{NewField}
 use Rattle.field.specs.Tail.{attributes_flag}
 use Rattle.field.specs.Writing.{flagged, attributes_checked, field_bytes, field_checked, field_written}

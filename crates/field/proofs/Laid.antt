@@ -17,7 +17,7 @@ use Rattle.refusal.specs.declared.Refusal.{Refusal}
 use Rattle.attribute.specs.declared.AdsAttribute.{AdsAttribute}
 use Rattle.attribute.specs.declared.Attributes.{Attributes}
 use Rattle.attribute.specs.Attribute.{first_of, listed, after_listed, stopped}
-use Rattle.attribute.proofs.Again.{after_after}
+use Rattle.part.proofs.Slice.{after_after}
 use Rattle.attribute.proofs.Laws.{listed_more, listed_stop, after_more, after_none, nothing_listed, nothing_after}
 use Rattle.field.specs.declared.front.Front.{Front}
 use Rattle.field.specs.Skip.{ahead, after_items}

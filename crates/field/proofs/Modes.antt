@@ -1,8 +1,8 @@
 -- A field in the two modes: proved.
-use Rattle.std.proofs.Common.{ℕ, subst, zero, suc, ◌+◌, ◌-◌, ◌<◌, ◌≤◌, ◌≡◌, refl, sym, ap, ap₂, ◌∙◌, Bool, true, false, List, [], ◌∷◌, ◌++◌, map, length, get_or, min, Ok, Err, Result, arith, Bor}
+use Rattle.std.proofs.Common.{ℕ, subst, zero, suc, ◌+◌, ◌-◌, ◌<◌, ◌≤◌, ◌≡◌, refl, sym, ap, ap₂, ◌∙◌, Bool, true, false, List, [], ◌∷◌, ◌++◌, map, length, get_or, min, Ok, Err, Result, arith, length-drop, Bor}
 use Rattle.std.specs.Prelude.{eqb, leb, ltb, if◌then◌else◌}
 use Rattle.std.specs.List.{All}
-use Rattle.std.proofs.lemmas.List.Elements.{All-nil, All-cons, All-head, All-tail}
+use Rattle.std.proofs.lemmas.List.Elements.{All-nil, All-cons}
 use borrow.Author.Tests.{ltb-false, leb-true}
 use Rattle.std.proofs.lemmas.List.{get_or-drop}
 use Rattle.le.specs.Le.{le2, le4, has}
@@ -13,17 +13,20 @@ use Rattle.refusal.specs.declared.Mode.{Mode}
 use Rattle.refusal.specs.declared.Mode.TheVariants.{Present, Checked}
 use Rattle.refusal.specs.declared.Refusal.{Refusal}
 use Rattle.attribute.specs.declared.AdsAttribute.{AdsAttribute}
-use Rattle.attribute.specs.Attribute.{first_of, listed, ends}
+use Rattle.attribute.specs.Attribute.{first_of, listed, ends, after_listed}
 use Rattle.attribute.proofs.Again.{n_of, v_of, here, fits, first_here, ends_here, length_name, length_value}
 use Rattle.attribute.proofs.Laws.{listed_more, listed_stop, listed_none, listed_again}
 use Rattle.field.specs.declared.AdsFieldInfo.{AdsFieldInfo}
 use Rattle.field.specs.Front.{with_strings, string_ends, front_of, HasStrings}
 use Rattle.field.specs.Field.{field_of}
-use Rattle.field.specs.Within.{IsAttributeIn, shown}
+use Rattle.attribute.specs.Inside.{AttributesLie}
+use Rattle.field.specs.Within.{shown}
 use Rattle.field.specs.Placed.{attributes_at, attributes_there}
 use Rattle.field.specs.Ended.{end_in, attribute_strings}
 use Rattle.field.specs.Modes.{strings_met, strings_of, IsOfModes, FieldsModes}
-use Rattle.field.proofs.Within.{IsEndOf, end_after, end_after_at, accepted_is, record_is, name_long, type_long, comment_long, list_is, length_end, within}
+use Rattle.part.specs.End.{rest_at, IsEnd}
+use Rattle.part.proofs.Slice.{end_after}
+use Rattle.field.proofs.Within.{accepted_is, record_is, name_long, type_long, comment_long, list_is, within}
 use Rattle.field.proofs.Tested.{strings_tested, attributes_tested, list_whole, read_is}
 use Rattle.field.proofs.Placed.{placed}
 use Rattle.field.proofs.Ended.{end_of, tested, passes, passed, refuses}
@@ -56,46 +59,46 @@ unfolding attribute_strings
 two_strings a more = refl
 
 -- the end byte of a string at the end of an entry, counted from there and from the entry's start
-end_here : {e s : Bor (List ℕ)} (i : IsEndOf e s) (q : Bor (List ℕ)) (at d k : ℕ) → i.at ≡ at → q.ref_ptr.1 ≡ s.ref_ptr.1 + d → d + length q.now ≡ k → (at + k, get_or s.now k 0) ≡ end_of e q
-end_here {e} {s} i q at d k a g h =
-    let m : s.ref_ptr.1 ≡ e.ref_ptr.1 + i.at = ap (λ (x : Bor (List ℕ)). x.ref_ptr.1) i.is in
-    let p : q.ref_ptr.1 - e.ref_ptr.1 + length q.now ≡ at + k = omega arith in
-    let b : get_or s.now k 0 ≡ get_or e.now (at + k) 0 = ap (λ (x : Bor (List ℕ)). get_or x.now k 0) i.is ∙ get_or-drop i.at e.now k 0 ∙ ap (λ (x : ℕ). get_or e.now (x + k) 0) a in
-    ap (λ (y : ℕ). (at + k, y)) b ∙ ap (λ (x : ℕ). (x, get_or e.now x 0)) (sym p)
+end_here : {e s : Bor (List ℕ)} (i : IsEnd e s) (q : Bor (List ℕ)) (d k : ℕ) → q.ref_ptr.1 ≡ s.ref_ptr.1 + d → d + length q.now ≡ k → (rest_at e s + k, get_or s.now k 0) ≡ end_of e q
+end_here {e} {s} i q d k g h =
+    let m : s.ref_ptr.1 ≡ e.ref_ptr.1 + rest_at e s = ap (λ (x : Bor (List ℕ)). x.ref_ptr.1) i.is in
+    let p : q.ref_ptr.1 - e.ref_ptr.1 + length q.now ≡ rest_at e s + k = omega (arith, m, g, h) in
+    let b : get_or s.now k 0 ≡ get_or e.now (rest_at e s + k) 0 = ap (λ (x : Bor (List ℕ)). get_or x.now k 0) i.is ∙ get_or-drop (rest_at e s) e.now k 0 in
+    ap (λ (y : ℕ). (rest_at e s + k, y)) b ∙ ap (λ (x : ℕ). (x, get_or e.now x 0)) (sym p)
 
-ends_are : {e : Bor (List ℕ)} (s : Bor (List ℕ)) (at count : ℕ) (i : IsEndOf e s) → i.at ≡ at → ends s at count ≡ map (end_of e) (attribute_strings (listed s count))
-ends_are {e} s at zero i a = rw (none_asked s at, listed_none s, no_strings) refl
-ends_are {e} s at (suc left) i a = by_first (λ q next j b. ends_are q next left j b) (first_of s) refl
+ends_are : {e : Bor (List ℕ)} (s : Bor (List ℕ)) (count : ℕ) → IsEnd e s → ends s (rest_at e s) count ≡ map (end_of e) (attribute_strings (listed s count))
+ends_are {e} s zero i = rw (none_asked s (rest_at e s), listed_none s, no_strings) refl
+ends_are {e} s (suc left) i = by_first (λ q j. ends_are q left j) (first_of s) refl
   where
-    by_first : ((q : Bor (List ℕ)) (next : ℕ) (j : IsEndOf e q) → j.at ≡ next → ends q next left ≡ map (end_of e) (attribute_strings (listed q left)))
-        → (w : Result (AdsAttribute × Bor (List ℕ)) Refusal) → first_of s ≡ w → ends s at (suc left) ≡ map (end_of e) (attribute_strings (listed s (suc left)))
-    by_first on (Err why) f = rw (no_ends s at left why f, listed_stop s left why f, no_strings) refl
+    by_first : ((q : Bor (List ℕ)) → IsEnd e q → ends q (rest_at e q) left ≡ map (end_of e) (attribute_strings (listed q left)))
+        → (w : Result (AdsAttribute × Bor (List ℕ)) Refusal) → first_of s ≡ w → ends s (rest_at e s) (suc left) ≡ map (end_of e) (attribute_strings (listed s (suc left)))
+    by_first on (Err why) f = rw (no_ends s (rest_at e s) left why f, listed_stop s left why f, no_strings) refl
     by_first on (Ok p) f =
         let t = fits s p f in
         let q : AdsAttribute × Bor (List ℕ) = here s in
         let n = length_name s t in
         let v = length_value s t in
-        let next : ℕ = at + (2 + n_of s + 1 + v_of s) + 1 in
-        let name = end_here i q.0.name at 2 (2 + n_of s) a refl (ap (λ (x : ℕ). 2 + x) n) in
-        let value = end_here i q.0.value at (n_of s + 3) (2 + n_of s + 1 + v_of s) a refl (omega (arith, v)) in
-        ends_here s at left t
-        ∙ ap₂ (λ (x y : ℕ × ℕ). x ∷ y ∷ ends q.1 next left) name value
-        ∙ ap (λ (l : List (ℕ × ℕ)). end_of e q.0.name ∷ end_of e q.0.value ∷ l) (on q.1 next (end_after (n_of s + v_of s + 4) t i) (omega (arith, a, end_after_at (n_of s + v_of s + 4) t i)))
+        let next : rest_at e q.1 ≡ rest_at e s + (2 + n_of s + 1 + v_of s) + 1 = omega (arith, t, i.within, length-drop (n_of s + v_of s + 4) s.now) in
+        let name = end_here i q.0.name 2 (2 + n_of s) refl (ap (λ (x : ℕ). 2 + x) n) in
+        let value = end_here i q.0.value (n_of s + 3) (2 + n_of s + 1 + v_of s) refl (omega (arith, v)) in
+        ends_here s (rest_at e s) left t
+        ∙ ap₂ (λ (x y : ℕ × ℕ). x ∷ y ∷ ends q.1 (rest_at e s + (2 + n_of s + 1 + v_of s) + 1) left) name value
+        ∙ ap (λ (l : List (ℕ × ℕ)). end_of e q.0.name ∷ end_of e q.0.value ∷ l) (ap (λ (x : ℕ). ends q.1 x left) (sym next) ∙ on q.1 (end_after (n_of s + v_of s + 4) t i))
         ∙ sym (ap (map (end_of e)) (ap attribute_strings (listed_more s left q (first_here s t)) ∙ two_strings q.0 (listed q.1 left)))
 
 -- the byte behind a string of an entry is one of its bytes
 abbrev EndsThere : Bor (List ℕ) → Bor (List ℕ) → Type 0
 EndsThere e s = end_in e s < length e.now
 
-attribute_there : (e : Bor (List ℕ)) (all : List AdsAttribute) → All (IsAttributeIn e) all → All (EndsThere e) (attribute_strings all)
-attribute_there e [] i = rw no_strings (All-nil (EndsThere e))
-attribute_there e (a ∷ all) i =
-    let h = All-head (IsAttributeIn e) a all i in
-    let x : a.name.ref_ptr.1 ≡ e.ref_ptr.1 + h.at = ap (λ (s : Bor (List ℕ)). s.ref_ptr.1) h.name in
-    let y : a.value.ref_ptr.1 ≡ e.ref_ptr.1 + (h.at + length a.name.now + 1) = ap (λ (s : Bor (List ℕ)). s.ref_ptr.1) h.value in
-    let name : EndsThere e a.name = omega (arith, x, h.room) in
-    let value : EndsThere e a.value = omega (arith, y, h.room) in
-    rw (two_strings a all) (All-cons (EndsThere e) a.name (a.value ∷ attribute_strings all) name (All-cons (EndsThere e) a.value (attribute_strings all) value (attribute_there e all (All-tail (IsAttributeIn e) a all i))))
+attribute_there : (e : Bor (List ℕ)) (at : ℕ) (all : List AdsAttribute) (to : ℕ) → AttributesLie e at all to → All (EndsThere e) (attribute_strings all)
+attribute_there e at [] to i = rw no_strings (All-nil (EndsThere e))
+attribute_there e at (a ∷ all) to i =
+    let x : a.name.ref_ptr.1 ≡ e.ref_ptr.1 + (at + 2) = ap (λ (s : Bor (List ℕ)). s.ref_ptr.1) i.0.is in
+    let y : a.value.ref_ptr.1 ≡ e.ref_ptr.1 + (at + 2 + length a.name.now + 1) = ap (λ (s : Bor (List ℕ)). s.ref_ptr.1) i.1.is in
+    let name : EndsThere e a.name = omega (arith, x, i.0.within) in
+    let value : EndsThere e a.value = omega (arith, y, i.1.within) in
+    rw (two_strings a all) (All-cons (EndsThere e) a.name (a.value ∷ attribute_strings all) name
+    (All-cons (EndsThere e) a.value (attribute_strings all) value (attribute_there e (at + 2 + length a.name.now + 1 + length a.value.now + 1) all to i.2)))
 
 -- one test after another
 either : {B : Type 0} (x y : Result Unit Refusal) (z : Result B Refusal) → and_then x (λ _. and_then y (λ _. z)) ≡ and_then (and_then x (λ _. y)) (λ _. z)
@@ -150,7 +153,7 @@ module _ (e : Bor (List ℕ)) (h : HasStrings e) where
       let name : EndsThere e r.name = omega (arith, x, h.strings) in
       let type : EndsThere e r.type_name = omega (arith, y, h.strings) in
       let comment : EndsThere e r.comment = omega (arith, z, h.strings) in
-      let attributes = attribute_there e (shown r) (within e h).attributes in
+      let attributes = attribute_there e (rest_at e r.attributes.bytes) (shown r) (rest_at e (after_listed r.attributes.bytes r.attributes.count)) (within e h).attributes in
       subst (λ (l : List (Bor (List ℕ))). All (EndsThere e) l) (sym strings_are)
       (All-cons (EndsThere e) r.name (r.type_name ∷ r.comment ∷ attribute_strings (shown r)) name
       (All-cons (EndsThere e) r.type_name (r.comment ∷ attribute_strings (shown r)) type (All-cons (EndsThere e) r.comment (attribute_strings (shown r)) comment attributes)))
@@ -168,10 +171,7 @@ module _ (e : Bor (List ℕ)) (h : HasStrings e) where
       ∙ ap₂ (λ (i j : ℕ). end_of e r.name ∷ (i, get_or e.now i 0) ∷ (j, get_or e.now j 0) ∷ []) b c
 
   then_attributes : ends r.attributes.bytes (length e.now - length r.attributes.bytes.now) r.attributes.count ≡ map (end_of e) (attribute_strings (shown r))
-  then_attributes =
-      let l = list_is e h in
-      let x = length_end l.place in
-      ends_are r.attributes.bytes (length e.now - length r.attributes.bytes.now) r.attributes.count l.place (omega (arith, x, l.place.fits))
+  then_attributes = ends_are r.attributes.bytes r.attributes.count (list_is e h).place
 
   -- the two tests are that of all strings that are met
   tests_are : and_then (strings_tested e) (λ _. attributes_tested e) ≡ tested e (strings_met e)

@@ -12,7 +12,7 @@ use Rattle.refusal.specs.declared.Refusal.{Refusal}
 use Rattle.attribute.specs.declared.AdsAttribute.{AdsAttribute}
 use Rattle.attribute.specs.declared.Attributes.{Attributes}
 use Rattle.attribute.specs.Attribute.{first_of, listed, after_listed}
-use Rattle.attribute.proofs.Again.{after_after}
+use Rattle.part.proofs.Slice.{after_after}
 use Rattle.attribute.proofs.Laws.{listed_more, listed_none, after_more, after_none}
 use Rattle.field.specs.Skip.{ahead, after_items}
 use Rattle.field.specs.Front.{with_strings, front_by_header, HasStrings}

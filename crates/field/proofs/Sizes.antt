@@ -1,9 +1,7 @@
--- Zeros, written one by one; the length of a written entry.
+-- How long zeros and a written entry are.
 use Rattle.std.proofs.Common.{ℕ, ◌+◌, ◌<◌, ◌≡◌, refl, ap, ◌∙◌, Bool, true, false, List, length, arith, length-append}
 use Rattle.std.specs.Prelude.{if◌then◌else◌}
-use lib.ListN.{set, length-replicate, replicate-append-replicate}
-use Rattle.le.specs.Put.{put}
-use Rattle.le.proofs.Laws.{put-more}
+use lib.ListN.{length-replicate}
 use Rattle.writing.specs.Layout.{lengths_bytes}
 use Rattle.writing.proofs.Entry.{length_strings, length_attributes, length_entry}
 use Rattle.field.specs.declared.writer.NewField.{NewField}
@@ -12,11 +10,6 @@ use Rattle.field.specs.Writing.{flagged, numbers_bytes, header_bytes, zeros, gui
 
 pub length_zeros : (n : ℕ) → length (zeros n) ≡ n
 length_zeros n = length-replicate n 0
-
-pub zeros_more : (old : List ℕ) (at i : ℕ) → at + i < length old → set (put old at (zeros i)) (at + i) 0 ≡ put old at (zeros (i + 1))
-zeros_more old at i h =
-    let l = length_zeros i in
-    put-more old at (zeros i) (at + i) 0 (omega arith) (omega arith) ∙ ap (put old at) (replicate-append-replicate i 1 0)
 
 pub length_header : (n : NewField) → length (header_bytes n) ≡ 38
 unfolding header_bytes numbers_bytes lengths_bytes

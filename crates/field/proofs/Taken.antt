@@ -9,7 +9,8 @@ use Rattle.refusal.specs.declared.Refusal.{Refusal}
 use Rattle.refusal.specs.declared.Refusal.TheVariants.{TooLong, TooLarge, BadBlock}
 use Rattle.attribute.specs.Block.{good_of, exact, block_checked}
 use Rattle.writing.specs.Checks.{IsShort, count_checked, strings_checked, entry_checked}
-use Rattle.writing.proofs.Entry.{both_passed, count_passed, strings_passed}
+use Rattle.part.proofs.Outcome.{both_passed}
+use Rattle.writing.proofs.Entry.{count_passed, strings_passed}
 use Rattle.field.specs.declared.writer.NewField.{NewField}
 use Rattle.field.specs.Tail.{type_guid_flag, attributes_flag}
 use Rattle.field.specs.Told.{IsGuid}

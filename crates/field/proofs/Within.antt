@@ -1,13 +1,10 @@
 -- What a field tells lies in its entry: proved.
-use Rattle.std.proofs.Common.{ℕ, subst, zero, suc, ◌+◌, ◌-◌, ◌*◌, ◌≤◌, ◌≡◌, refl, sym, ap, ap₂, ◌∙◌, Bool, true, false, List, length, take, drop, Ok, Err, Result, min, arith, Bor, length-drop}
+use Rattle.std.proofs.Common.{ℕ, subst, zero, suc, ◌+◌, ◌*◌, ◌≤◌, ◌≡◌, refl, sym, ap, ap₂, ◌∙◌, Bool, true, false, List, length, Ok, Err, Result, min, arith, Bor}
 use Rattle.std.specs.Prelude.{ltb, leb, if◌then◌else◌}
-use Rattle.std.specs.List.{All}
-use Rattle.std.proofs.lemmas.List.Elements.{All-nil, All-cons}
-use native.Mathlib.Nat.{add_assoc}
-use lib.Seq.{drop-drop, length-take-le}
 use borrow.Author.Tests.{ltb-false, leb-true}
 use Rattle.le.specs.Le.{le2, le4, has}
 use Rattle.part.specs.Slice.{part, after}
+use Rattle.part.specs.End.{rest_at, IsEnd}
 use Rattle.part.specs.Outcome.{and_then}
 use Rattle.refusal.specs.EndBytes.{ended, in_mode}
 use Rattle.refusal.specs.declared.Mode.{Mode}
@@ -16,9 +13,10 @@ use Rattle.refusal.specs.declared.Refusal.TheVariants.{TooShort, EntryLengthMism
 use Rattle.attribute.specs.declared.AdsAttribute.{AdsAttribute}
 use Rattle.attribute.specs.declared.Attributes.{Attributes}
 use Rattle.attribute.specs.Attribute.{first_of, listed}
-use Rattle.attribute.proofs.Again.{n_of, v_of, here, fits, is_here, length_name, length_value, after_after}
-use Rattle.attribute.proofs.Laws.{listed_more, listed_stop, listed_none, listed_again}
-use Rattle.writing.proofs.Entry.{both_passed}
+use Rattle.part.proofs.Slice.{length_part, end_self, end_after, part_of_end}
+use Rattle.attribute.proofs.Inside.{attributes_inside}
+use Rattle.attribute.proofs.Laws.{listed_none, listed_again}
+use Rattle.part.proofs.Outcome.{both_passed}
 use Rattle.field.specs.declared.AdsFieldInfo.{AdsFieldInfo}
 use Rattle.field.specs.declared.front.Front.{Front}
 use Rattle.field.specs.declared.tail.Tail.{Tail}
@@ -26,70 +24,52 @@ use Rattle.field.specs.Skip.{ahead, after_items}
 use Rattle.field.specs.Front.{with_strings, string_ends, front_of, front_by_header, HasStrings}
 use Rattle.field.specs.Tail.{type_guid_flag, copy_mask_flag, method_infos_flag, attributes_flag, guid_of, after_mask, after_methods, attributes_of, sections_of, complete, attribute_ends, tail_of}
 use Rattle.field.specs.Field.{joined, behind_items, field_of}
-use Rattle.field.specs.Within.{IsAttributeIn, IsWithin, FieldsWithin}
+use Rattle.field.specs.Within.{IsWithin, FieldsWithin}
 
--- bytes that are the end of others
-pub record IsEndOf (e s : Bor (List ℕ)) : Type 0 where
-  pub at : ℕ
-  pub is : s ≡ after e at
-  pub fits : at ≤ length e.now
-
-pub length_end : {e s : Bor (List ℕ)} (i : IsEndOf e s) → length s.now ≡ length e.now - i.at
-length_end {e} i = ap (λ (s : Bor (List ℕ)). length s.now) i.is ∙ length-drop i.at e.now
-
-pub end_after : {e s : Bor (List ℕ)} (n : ℕ) → n ≤ length s.now → IsEndOf e s → IsEndOf e (after s n)
-end_after {e} n h i =
-    let l = length_end i in
-    record { at = i.at + n; is = ap (λ (s : Bor (List ℕ)). after s n) i.is ∙ after_after e i.at n; fits = omega (arith, i.fits) }
-
-pub end_after_at : {e s : Bor (List ℕ)} (n : ℕ) (h : n ≤ length s.now) (i : IsEndOf e s) → (end_after n h i).at ≡ i.at + n
-unfolding end_after
-end_after_at n h i = refl
-
-end_ahead : {e s : Bor (List ℕ)} (n : ℕ) → IsEndOf e s → IsEndOf e (ahead s n)
+pub end_ahead : {e s : Bor (List ℕ)} (n : ℕ) → IsEnd e s → IsEnd e (ahead s n)
 end_ahead {e} {s} n i = end_after (min n (length s.now)) (omega arith) i
 
-end_items : {e : Bor (List ℕ)} (s : Bor (List ℕ)) (count : ℕ) → IsEndOf e s → IsEndOf e (after_items s count)
+pub end_items : {e : Bor (List ℕ)} (s : Bor (List ℕ)) (count : ℕ) → IsEnd e s → IsEnd e (after_items s count)
 unfolding after_items
 end_items s zero i = i
 end_items {e} s (suc left) i = turn (end_items (ahead s (le4 s.now 0)) left (end_ahead (le4 s.now 0) i)) (ltb (length s.now) 4)
   where
-    turn : IsEndOf e (after_items (ahead s (le4 s.now 0)) left) → (b : Bool) → IsEndOf e (if b then s else after_items (ahead s (le4 s.now 0)) left)
+    turn : IsEnd e (after_items (ahead s (le4 s.now 0)) left) → (b : Bool) → IsEnd e (if b then s else after_items (ahead s (le4 s.now 0)) left)
     turn next true = i
     turn next false = next
 
-end_guid : {e s : Bor (List ℕ)} (flagged : Bool) → IsEndOf e s → IsEndOf e (guid_of s flagged).1
+pub end_guid : {e s : Bor (List ℕ)} (flagged : Bool) → IsEnd e s → IsEnd e (guid_of s flagged).1
 unfolding guid_of
 end_guid false i = i
 end_guid {e} {s} true i = turn (leb 16 (length s.now)) refl
   where
-    turn : (b : Bool) → leb 16 (length s.now) ≡ b → IsEndOf e (guid_of s true).1
+    turn : (b : Bool) → leb 16 (length s.now) ≡ b → IsEnd e (guid_of s true).1
     turn true h = simp h (end_after 16 (leb-true 16 (length s.now) h) i)
     turn false h = simp h i
 
-end_mask : {e s : Bor (List ℕ)} (size : ℕ) (flagged : Bool) → IsEndOf e s → IsEndOf e (after_mask s size flagged)
+pub end_mask : {e s : Bor (List ℕ)} (size : ℕ) (flagged : Bool) → IsEnd e s → IsEnd e (after_mask s size flagged)
 unfolding after_mask
 end_mask size true i = end_ahead size i
 end_mask size false i = i
 
-end_methods : {e s : Bor (List ℕ)} (flagged : Bool) → IsEndOf e s → IsEndOf e (after_methods s flagged)
+pub end_methods : {e s : Bor (List ℕ)} (flagged : Bool) → IsEnd e s → IsEnd e (after_methods s flagged)
 unfolding after_methods
 end_methods false i = i
 end_methods {e} {s} true i = turn (leb 2 (length s.now)) refl
   where
-    turn : (b : Bool) → leb 2 (length s.now) ≡ b → IsEndOf e (if b then after_items (after s 2) (le2 s.now 0) else s)
+    turn : (b : Bool) → leb 2 (length s.now) ≡ b → IsEnd e (if b then after_items (after s 2) (le2 s.now 0) else s)
     turn true h = end_items (after s 2) (le2 s.now 0) (end_after 2 (leb-true 2 (length s.now) h) i)
     turn false h = i
 
 -- the attributes of a section: where they begin, and that all that are counted are there
 pub record IsList (e : Bor (List ℕ)) (a : Attributes) : Type 0 where
-  pub place : IsEndOf e a.bytes
+  pub place : IsEnd e a.bytes
   pub counted : length (listed a.bytes a.count) ≡ a.count
 
 none_counted : (s : Bor (List ℕ)) → length (listed s 0) ≡ 0
 none_counted s = ap (λ l. length l) (listed_none s)
 
-is_list : {e s : Bor (List ℕ)} (flagged : Bool) → IsEndOf e s → IsList e (attributes_of s flagged).0
+pub is_list : {e s : Bor (List ℕ)} (flagged : Bool) → IsEnd e s → IsList e (attributes_of s flagged).0
 unfolding attributes_of
 is_list {e} {s} false i = record { place = i; counted = none_counted s }
 is_list {e} {s} true i = turn (leb 2 (length s.now)) refl
@@ -98,46 +78,14 @@ is_list {e} {s} true i = turn (leb 2 (length s.now)) refl
     turn true h = simp h (record { place = end_after 2 (leb-true 2 (length s.now) h) i; counted = ap (λ l. length l) (listed_again (after s 2) (le2 s.now 0)) })
     turn false h = simp h (record { place = i; counted = none_counted s })
 
--- a part of the end of an entry is a part of the entry
-part_of_end : {e s : Bor (List ℕ)} (i : IsEndOf e s) (at n : ℕ) → part s at n ≡ part e (i.at + at) n
-part_of_end {e} i at n =
-    ap (λ (s : Bor (List ℕ)). part s at n) i.is
-    ∙ ap₂ (λ (x : ℕ) (y : List ℕ). record { ref_ptr = (e.ref_ptr.0, x); now = take n y }) (add_assoc e.ref_ptr.1 i.at at) (drop-drop at i.at e.now)
-
--- the first attribute of the end of an entry
-here_in : {e s : Bor (List ℕ)} → IsEndOf e s → n_of s + v_of s + 4 ≤ length s.now → IsAttributeIn e (here s).0
-here_in {e} {s} i h =
-    let n = length_name s h in
-    let v = length_value s h in
-    let l = length_end i in
-    record {
-      at = i.at + 2;
-      name = simp n (part_of_end i 2 (n_of s));
-      value = simp (n, v) (part_of_end i (n_of s + 3) (v_of s) ∙ ap (λ (k : ℕ). part e k (v_of s)) (omega arith));
-      room = simp (n, v) (omega (arith, l, i.fits));
-    }
-
-all_in : {e : Bor (List ℕ)} (s : Bor (List ℕ)) (count : ℕ) → IsEndOf e s → All (IsAttributeIn e) (listed s count)
-all_in {e} s zero i = rw (listed_none s) (All-nil (IsAttributeIn e))
-all_in {e} s (suc left) i = by_first (λ q j. all_in q left j) (first_of s) refl
-  where
-    by_first : ((q : Bor (List ℕ)) → IsEndOf e q → All (IsAttributeIn e) (listed q left)) → (w : Result (AdsAttribute × Bor (List ℕ)) Refusal) → first_of s ≡ w → All (IsAttributeIn e) (listed s (suc left))
-    by_first on (Err why) f = rw (listed_stop s left why f) (All-nil (IsAttributeIn e))
-    by_first on (Ok p) f =
-        let t = fits s p f in
-        let same = is_here s p f in
-        let next : IsEndOf e p.1 = subst (λ q. IsEndOf e q.1) same (end_after (n_of s + v_of s + 4) t i) in
-        let this : IsAttributeIn e p.0 = subst (λ q. IsAttributeIn e q.0) same (here_in i t) in
-        rw (listed_more s left p f) (All-cons (IsAttributeIn e) p.0 (listed p.1 left) this (on p.1 next))
-
 -- the bytes behind the strings of a front, and behind its items
-pub end_behind : (e : Bor (List ℕ)) (n t k : ℕ) → 45 + n + t + k ≤ length e.now → IsEndOf e (behind_items (with_strings e n t k))
+pub end_behind : (e : Bor (List ℕ)) (n t k : ℕ) → 45 + n + t + k ≤ length e.now → IsEnd e (behind_items (with_strings e n t k))
 unfolding with_strings
 end_behind e n t k h =
-    let rest : IsEndOf e (after e (45 + n + t + k)) = record { at = 45 + n + t + k; is = refl; fits = h } in
+    let rest : IsEnd e (after e (45 + n + t + k)) = end_after (45 + n + t + k) h (end_self e) in
     end_items (ahead (after e (45 + n + t + k)) (8 * le2 e.now 38)) (le2 e.now 40) (end_ahead (8 * le2 e.now 38) rest)
 
-pub list_of : (e : Bor (List ℕ)) (f : Front) {s : Bor (List ℕ)} → IsEndOf e s → IsList e (sections_of f (guid_of s (has f.flags.0 type_guid_flag)).1).0
+pub list_of : (e : Bor (List ℕ)) (f : Front) {s : Bor (List ℕ)} → IsEnd e s → IsList e (sections_of f (guid_of s (has f.flags.0 type_guid_flag)).1).0
 list_of e f {s} i =
     is_list (has f.flags.0 attributes_flag)
     (end_methods (has f.flags.0 method_infos_flag) (end_mask f.size (has f.flags.0 copy_mask_flag) (end_guid (has f.flags.0 type_guid_flag) i)))
@@ -206,20 +154,17 @@ module _ (e : Bor (List ℕ)) (h : HasStrings e) where
   abbrev pub record_is : AdsFieldInfo
   record_is = joined front (tail_at front (behind_items front))
 
-  part_long : (at size : ℕ) → at + size ≤ length e.now → length (part e at size).now ≡ size
-  part_long at size l = length-take-le size (drop at e.now) (simp length-drop (omega arith))
-
   pub name_long : length record_is.name.now ≡ n
   unfolding with_strings
-  name_long = part_long 42 n (omega (arith, h.strings))
+  name_long = length_part e 42 n (omega (arith, h.strings))
 
   pub type_long : length record_is.type_name.now ≡ t
   unfolding with_strings
-  type_long = part_long (43 + n) t (omega (arith, h.strings))
+  type_long = length_part e (43 + n) t (omega (arith, h.strings))
 
   pub comment_long : length record_is.comment.now ≡ k
   unfolding with_strings
-  comment_long = part_long (44 + n + t) k (omega (arith, h.strings))
+  comment_long = length_part e (44 + n + t) k (omega (arith, h.strings))
 
   pub list_is : IsList e record_is.attributes
   list_is = list_of e front (end_behind e n t k h.strings)
@@ -246,7 +191,8 @@ module _ (e : Bor (List ℕ)) (h : HasStrings e) where
         type_name = ap₂ (λ (m u : ℕ). part e (43 + m) u) (sym x) (sym y);
         comment = ap₂ (λ (m u : ℕ). part e (44 + m + u) k) (sym x) (sym y) ∙ ap (λ (u : ℕ). part e (44 + length record_is.name.now + length record_is.type_name.now) u) (sym z);
         room = omega (arith, x, y, z, h.strings);
-        attributes = all_in record_is.attributes.bytes record_is.attributes.count list_is.place;
+        attribute_bytes = list_is.place;
+        attributes = (attributes_inside e record_is.attributes.bytes record_is.attributes.count list_is.place).lie;
         counted = list_is.counted;
       }
 
@@ -256,7 +202,5 @@ fields_within mode e r h =
     subst (λ (x : AdsFieldInfo). IsWithin e x) a.is (within e a.strings)
 
 -- the bytes of its attributes are the end of its entry
-pub list_place : (mode : Mode) (e : Bor (List ℕ)) (r : AdsFieldInfo) → field_of mode e ≡ Ok r → IsEndOf e r.attributes.bytes
-list_place mode e r h =
-    let a = accepted_is mode e r h in
-    subst (λ (x : AdsFieldInfo). IsEndOf e x.attributes.bytes) a.is (list_is e a.strings).place
+pub list_place : (mode : Mode) (e : Bor (List ℕ)) (r : AdsFieldInfo) → field_of mode e ≡ Ok r → IsEnd e r.attributes.bytes
+list_place mode e r h = (fields_within mode e r h).attribute_bytes

@@ -1,11 +1,15 @@
 -- docs/FORMAT.md, "Fit records": what a field tells, wherever it lies, and what is meant by one that is written.
 use Rattle.std.specs.Prelude.{ℕ, ◌<◌, ◌≡◌, false, List, Option, Some, None, is_some, length}
+use Rattle.std.specs.Borrow.{Bor}
 use Rattle.le.specs.Le.{has}
+use Rattle.refusal.specs.declared.Mode.{Mode}
+use Rattle.walk.specs.Mapped.{map_ok}
 use Rattle.flags.specs.declared.type_flags.AdsTypeFlags.{AdsTypeFlags}
 use Rattle.attribute.specs.Attribute.{listed}
 use Rattle.attribute.specs.Told as attributes
 use Rattle.field.specs.declared.AdsFieldInfo.{AdsFieldInfo}
 use Rattle.field.specs.declared.writer.NewField.{NewField}
+use Rattle.field.specs.Field.{field_of}
 
 -- 16 bytes, if any
 abbrev pub IsGuid : Option (List ℕ) → Type 0
@@ -79,3 +83,7 @@ pub record Agrees (p : NewField) : Type 0 where
   pub guid_agrees : is_some p.guid ≡ has p.flags.0 0x0080
   pub no_block : has p.flags.0 0x1000 ≡ false → length p.attributes.bytes.now ≡ 0
   pub no_count : has p.flags.0 0x1000 ≡ false → p.attributes.count ≡ 0
+
+-- what a field tells does not depend on where it lies
+abbrev pub FieldsAnywhere : Type 0
+FieldsAnywhere = (mode : Mode) (e f : Bor (List ℕ)) → e.now ≡ f.now → map_ok told_of (field_of mode e) ≡ map_ok told_of (field_of mode f)

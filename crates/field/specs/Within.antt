@@ -1,25 +1,15 @@
--- docs/FORMAT.md, "Field entries": what a field that is accepted tells is a number of its header or a part of its entry, with its end byte; what it shows is
--- given by its number and by its name.
-use Rattle.std.specs.Prelude.{ℕ, ◌+◌, ◌<◌, ◌≤◌, ◌≡◌, List, Some, Result, Ok, Err, length, slice_get}
-use Rattle.std.specs.List.{All}
+-- docs/FORMAT.md, "Field entries": what a field that is accepted tells is a number of its header or a part of its entry, with its end byte.
+use Rattle.std.specs.Prelude.{ℕ, ◌+◌, ◌≤◌, ◌≡◌, List, Ok, length}
 use Rattle.std.specs.Borrow.{Bor}
 use Rattle.le.specs.Le.{le2, le4}
 use Rattle.part.specs.Slice.{part}
+use Rattle.part.specs.End.{IsEnd, rest_at}
 use Rattle.refusal.specs.declared.Mode.{Mode}
-use Rattle.refusal.specs.declared.Refusal.{Refusal}
-use Rattle.refusal.specs.declared.Refusal.TheVariants.{NoSuchNumber}
 use Rattle.attribute.specs.declared.AdsAttribute.{AdsAttribute}
-use Rattle.attribute.specs.Asked.{FirstNamed}
-use Rattle.attribute.specs.Attribute.{listed, numbered, named}
+use Rattle.attribute.specs.Attribute.{listed, after_listed}
+use Rattle.attribute.specs.Inside.{AttributesLie}
 use Rattle.field.specs.declared.AdsFieldInfo.{AdsFieldInfo}
 use Rattle.field.specs.Field.{field_of}
-
--- an attribute of an entry: its name and an end byte, its value and an end byte
-pub record IsAttributeIn (e : Bor (List ℕ)) (a : AdsAttribute) : Type 0 where
-  pub at : ℕ
-  pub name : a.name ≡ part e at (length a.name.now)
-  pub value : a.value ≡ part e (at + length a.name.now + 1) (length a.value.now)
-  pub room : at + length a.name.now + 1 + length a.value.now + 1 ≤ length e.now
 
 -- the attributes of a field
 abbrev pub shown : AdsFieldInfo → List AdsAttribute
@@ -42,31 +32,10 @@ pub record IsWithin (e : Bor (List ℕ)) (r : AdsFieldInfo) : Type 0 where
   pub type_name : r.type_name ≡ part e (43 + length r.name.now) (length r.type_name.now)
   pub comment : r.comment ≡ part e (44 + length r.name.now + length r.type_name.now) (length r.comment.now)
   pub room : 45 + length r.name.now + length r.type_name.now + length r.comment.now ≤ length e.now
-  pub attributes : All (IsAttributeIn e) (shown r)
+  -- they are read of the entry's last bytes, and lie there one after another
+  pub attribute_bytes : IsEnd e r.attributes.bytes
+  pub attributes : AttributesLie e (rest_at e r.attributes.bytes) (shown r) (rest_at e (after_listed r.attributes.bytes r.attributes.count))
   pub counted : length (shown r) ≡ r.attributes.count
 
 abbrev pub FieldsWithin : Type 0
 FieldsWithin = (mode : Mode) (e : Bor (List ℕ)) (r : AdsFieldInfo) → field_of mode e ≡ Ok r → IsWithin e r
-
--- the attribute with a number; 14 tells how many are shown
-abbrev pub attribute_of : AdsFieldInfo → ℕ → Result AdsAttribute Refusal
-attribute_of r number = numbered (shown r) (length (shown r)) number
-
--- a number is answered by an attribute
-pub record IsGiven (e : Bor (List ℕ)) (answer : Result AdsAttribute Refusal) : Type 0 where
-  pub attribute : AdsAttribute
-  pub is : answer ≡ Ok attribute
-  pub within : IsAttributeIn e attribute
-
--- a number is answered by the attribute that has it, counted from 0; one below the count is never refused, and one past it is 14
-pub record IsShown (e : Bor (List ℕ)) (r : AdsFieldInfo) : Type 0 where
-  pub given : (number : ℕ) (a : AdsAttribute) → slice_get (shown r) number ≡ Some a → attribute_of r number ≡ Ok a
-  pub within : (number : ℕ) → number < r.attributes.count → IsGiven e (attribute_of r number)
-  pub no_more : (number : ℕ) → r.attributes.count ≤ number → attribute_of r number ≡ Err (NoSuchNumber r.attributes.count number)
-
-abbrev pub FieldsShown : Type 0
-FieldsShown = (mode : Mode) (e : Bor (List ℕ)) (r : AdsFieldInfo) → field_of mode e ≡ Ok r → IsShown e r
-
--- a name is answered by the first that is shown with it
-abbrev pub FieldsNamed : Type 0
-FieldsNamed = (mode : Mode) (e : Bor (List ℕ)) (r : AdsFieldInfo) (name : List ℕ) → field_of mode e ≡ Ok r → FirstNamed (shown r) name (named (shown r) name)

@@ -12,7 +12,7 @@ use crate::tail::Tail;
 use attribute::Attributes;
 use flags::type_flags::AdsTypeFlags;
 use refusal::{Mode, Refusal};
-use walk::{Entry, Walker};
+use walk::{Accepts, Entry, Walker};
 
 pub mod front;
 pub mod skip;
@@ -126,6 +126,14 @@ impl<'a> Entry<'a> for AdsFieldInfo<'a> {
         let front = Front::read(own, mode)?;
         let tail = Tail::read(&front, behind_items(&front), mode)?;
         Ok(AdsFieldInfo::joined(front, tail))
+    }
+}
+
+impl<'a> Accepts<'a> for AdsFieldInfo<'a> {
+    #[inline(always)]
+    fn accepts(own: &'a [u8], mode: Mode) -> Result<(), Refusal> {
+        Self::read(own, mode)?;
+        Ok(())
     }
 }
 

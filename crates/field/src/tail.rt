@@ -57,7 +57,7 @@ fn read_attributes(rest: &[u8], flagged: bool) -> (Attributes<'_>, Option<Refusa
         };
         return (none, None);
     }
-    let found = attribute::list_with_reason(&rest[2..], le::u16_at(rest, 0) as usize);
+    let found = attribute::list(&rest[2..], le::u16_at(rest, 0) as usize);
     (found.attributes, found.stopped)
 }
 

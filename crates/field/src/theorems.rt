@@ -3,14 +3,15 @@ ghost use Rattle.field.specs.Laid.{FieldsLaid};
 ghost use Rattle.field.specs.Modes.{FieldsModes};
 ghost use Rattle.field.specs.Placed.{FieldsPlaced, FieldsRead};
 ghost use Rattle.field.specs.Refused.{FieldsRefused};
-ghost use Rattle.field.specs.Told.{IsTyped};
+ghost use Rattle.field.specs.Told.{IsTyped, FieldsAnywhere};
 ghost use Rattle.field.specs.Bytes.{FieldsInBytes};
 ghost use Rattle.field.specs.Written.{FieldsWritten};
-ghost use Rattle.field.specs.Within.{FieldsWithin, FieldsShown, FieldsNamed};
+ghost use Rattle.field.specs.Within.{FieldsWithin};
 
 use crate::writer::NewField;
 
-/// What a field that is accepted tells is a number of its header or a part of its entry, each string with its end byte.
+/// What a field that is accepted tells is a number of its header or a part of its entry, each string with its end byte; it shows
+/// as many attributes as it counts: none of these is refused by its number.
 pub fn fields_within()
     ensures { FieldsWithin }
 {}
@@ -25,17 +26,6 @@ pub fn fields_placed()
 /// alone refuses it.
 pub fn fields_read()
     ensures { FieldsRead }
-{}
-
-/// Of a field that is accepted, a number is answered by the attribute that has it, counted from 0, which lies in the entry; one below
-/// its count of attributes is never refused, and one past it is 14.
-pub fn fields_shown()
-    ensures { FieldsShown }
-{}
-
-/// The answer to a name is the attribute with the first number that has it; 13 where none has.
-pub fn fields_named()
-    ensures { FieldsNamed }
 {}
 
 /// An entry is read and refused alike in both modes where 0 follows every string that is met; any other that has a header and
@@ -71,4 +61,9 @@ pub fn fields_written()
 /// zeros and a copy mask as so many zeros as the size says.
 pub fn fields_in_bytes()
     ensures { FieldsInBytes }
+{}
+
+/// What a field tells does not depend on where it lies in memory.
+pub fn fields_anywhere()
+    ensures { FieldsAnywhere }
 {}

@@ -158,10 +158,9 @@ fn put_zeros(out: &mut [u8], at: usize, count: usize) -> usize
     requires { at + count ≤ length out.old }
     ensures { Wrote out.old at (zeros count) out.new result }
 {
-    for i in 0..count {
-        out[at + i] = 0;
-    }
-    at + count
+    let next = at + count;
+    out[at..next].fill(0);
+    next
 }
 
 fn put_guid(out: &mut [u8], at: usize, here: bool, guid: Option<[u8; 16]>) -> usize

@@ -116,7 +116,6 @@ impl AdsSymbolFlags {
     }
 
     /// Returns `true` if the symbol's value is persistent.
-    #[tactic(auto, using(crate::proofs::Bits::bit_0))]
     pub fn is_persistent(self) -> bool
         ensures { result ≡ has self.0 0x0001 }
     {
@@ -124,7 +123,6 @@ impl AdsSymbolFlags {
     }
 
     /// Returns `true` if the symbol represents a bit value (byte size is 0).
-    #[tactic(auto, using(crate::proofs::Bits::bit_1))]
     pub fn is_bit_value(self) -> bool
         ensures { result ≡ has self.0 0x0002 }
     {
@@ -132,7 +130,6 @@ impl AdsSymbolFlags {
     }
 
     /// Returns `true` if the symbol is a reference to another variable.
-    #[tactic(auto, using(crate::proofs::Bits::bit_2))]
     pub fn is_reference_to(self) -> bool
         ensures { result ≡ has self.0 0x0004 }
     {
@@ -140,7 +137,6 @@ impl AdsSymbolFlags {
     }
 
     /// Returns `true` if the symbol metadata contains a Type GUID.
-    #[tactic(auto, using(crate::proofs::Bits::bit_3))]
     pub fn has_type_guid(self) -> bool
         ensures { result ≡ has self.0 0x0008 }
     {
@@ -148,7 +144,6 @@ impl AdsSymbolFlags {
     }
 
     /// Returns `true` if the symbol is a TcCOM interface pointer.
-    #[tactic(auto, using(crate::proofs::Bits::bit_4))]
     pub fn is_tcom_interface_ptr(self) -> bool
         ensures { result ≡ has self.0 0x0010 }
     {
@@ -156,7 +151,6 @@ impl AdsSymbolFlags {
     }
 
     /// Returns `true` if the symbol is strictly read-only.
-    #[tactic(auto, using(crate::proofs::Bits::bit_5))]
     pub fn is_read_only(self) -> bool
         ensures { result ≡ has self.0 0x0020 }
     {
@@ -164,7 +158,6 @@ impl AdsSymbolFlags {
     }
 
     /// Returns `true` if the symbol provides interface method access.
-    #[tactic(auto, using(crate::proofs::Bits::bit_6))]
     pub fn is_itf_method_access(self) -> bool
         ensures { result ≡ has self.0 0x0040 }
     {
@@ -172,7 +165,6 @@ impl AdsSymbolFlags {
     }
 
     /// Returns `true` if the symbol requires method dereferencing.
-    #[tactic(auto, using(crate::proofs::Bits::bit_7))]
     pub fn is_method_deref(self) -> bool
         ensures { result ≡ has self.0 0x0080 }
     {
@@ -187,7 +179,6 @@ impl AdsSymbolFlags {
     }
 
     /// Returns `true` if the symbol is statically allocated.
-    #[tactic(auto, using(crate::proofs::Bits::bit_13))]
     pub fn is_static(self) -> bool
         ensures { result ≡ has self.0 0x2000 }
     {
@@ -195,7 +186,6 @@ impl AdsSymbolFlags {
     }
 
     /// Returns `true` if persistent data will not be restored on a cold reset.
-    #[tactic(auto, using(crate::proofs::Bits::bit_14))]
     pub fn is_init_on_reset(self) -> bool
         ensures { result ≡ has self.0 0x4000 }
     {
@@ -203,7 +193,6 @@ impl AdsSymbolFlags {
     }
 
     /// Returns `true` if the symbol metadata includes extended flags.
-    #[tactic(auto, using(crate::proofs::Bits::bit_15))]
     pub fn has_extended_flags(self) -> bool
         ensures { result ≡ has self.0 0x8000 }
     {
@@ -309,7 +298,6 @@ impl AdsSymbol2Flags {
     }
 
     /// Returns `true` if the symbol is a PLC pointer type.
-    #[tactic(auto, using(crate::proofs::Bits::bit_0))]
     pub fn is_plc_pointer_type(self) -> bool
         ensures { result ≡ has self.0 0x00000001 }
     {
@@ -317,7 +305,6 @@ impl AdsSymbol2Flags {
     }
 
     /// Returns `true` if the symbol is ignored during redundancy project equalization.
-    #[tactic(auto, using(crate::proofs::Bits::bit_1))]
     pub fn is_redundancy_ignore(self) -> bool
         ensures { result ≡ has self.0 0x00000002 }
     {
@@ -325,7 +312,6 @@ impl AdsSymbol2Flags {
     }
 
     /// Returns `true` if the symbol metadata contains refactoring history.
-    #[tactic(auto, using(crate::proofs::Bits::bit_2))]
     pub fn has_refactor_info(self) -> bool
         ensures { result ≡ has self.0 0x00000004 }
     {
@@ -333,7 +319,6 @@ impl AdsSymbol2Flags {
     }
 
     /// Returns `true` if the pointer/reference is resolved after an online change.
-    #[tactic(auto, using(crate::proofs::Bits::bit_3))]
     pub fn is_online_change_ptr_ref_type(self) -> bool
         ensures { result ≡ has self.0 0x00000008 }
     {
@@ -341,7 +326,6 @@ impl AdsSymbol2Flags {
     }
 
     /// Returns `true` if the symbol is a Variant Type.
-    #[tactic(auto, using(crate::proofs::Bits::bit_4))]
     pub fn is_variant_type(self) -> bool
         ensures { result ≡ has self.0 0x00000010 }
     {

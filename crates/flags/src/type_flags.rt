@@ -147,7 +147,6 @@ impl AdsTypeFlags {
     }
 
     /// Returns `true` if the [`DATA_TYPE`](Self::DATA_TYPE) flag is set.
-    #[tactic(auto, using(crate::proofs::Bits::bit_0))]
     pub fn is_data_type(self) -> bool
         ensures { result ≡ has self.0 0x00000001 }
     {
@@ -155,7 +154,6 @@ impl AdsTypeFlags {
     }
 
     /// Returns `true` if the [`DATA_ITEM`](Self::DATA_ITEM) flag is set.
-    #[tactic(auto, using(crate::proofs::Bits::bit_1))]
     pub fn is_data_item(self) -> bool
         ensures { result ≡ has self.0 0x00000002 }
     {
@@ -163,7 +161,6 @@ impl AdsTypeFlags {
     }
 
     /// Returns `true` if the [`REFERENCE_TO`](Self::REFERENCE_TO) flag is set.
-    #[tactic(auto, using(crate::proofs::Bits::bit_2))]
     pub fn is_reference_to(self) -> bool
         ensures { result ≡ has self.0 0x00000004 }
     {
@@ -172,7 +169,6 @@ impl AdsTypeFlags {
 
     /// Returns `true` if the [`BIT_VALUES`](Self::BIT_VALUES) flag is set.
     /// When true, `size` and `offset` are in bits, not bytes.
-    #[tactic(auto, using(crate::proofs::Bits::bit_5))]
     pub fn is_bit_values(self) -> bool
         ensures { result ≡ has self.0 0x00000020 }
     {
@@ -180,7 +176,6 @@ impl AdsTypeFlags {
     }
 
     /// Returns `true` if the [`PROP_ITEM`](Self::PROP_ITEM) flag is set.
-    #[tactic(auto, using(crate::proofs::Bits::bit_6))]
     pub fn is_prop_item(self) -> bool
         ensures { result ≡ has self.0 0x00000040 }
     {
@@ -188,7 +183,6 @@ impl AdsTypeFlags {
     }
 
     /// Returns `true` if a 16-byte GUID section is present in the wire format.
-    #[tactic(auto, using(crate::proofs::Bits::bit_7))]
     pub fn has_type_guid(self) -> bool
         ensures { result ≡ has self.0 0x00000080 }
     {
@@ -196,7 +190,6 @@ impl AdsTypeFlags {
     }
 
     /// Returns `true` if the [`PERSISTENT`](Self::PERSISTENT) flag is set.
-    #[tactic(auto, using(crate::proofs::Bits::bit_8))]
     pub fn is_persistent(self) -> bool
         ensures { result ≡ has self.0 0x00000100 }
     {
@@ -204,7 +197,6 @@ impl AdsTypeFlags {
     }
 
     /// Returns `true` if a copy mask section is present (legacy).
-    #[tactic(auto, using(crate::proofs::Bits::bit_9))]
     pub fn has_copy_mask(self) -> bool
         ensures { result ≡ has self.0 0x00000200 }
     {
@@ -212,7 +204,6 @@ impl AdsTypeFlags {
     }
 
     /// Returns `true` if an RPC method section is present in the wire format.
-    #[tactic(auto, using(crate::proofs::Bits::bit_11))]
     pub fn has_method_infos(self) -> bool
         ensures { result ≡ has self.0 0x00000800 }
     {
@@ -220,7 +211,6 @@ impl AdsTypeFlags {
     }
 
     /// Returns `true` if an attribute section is present in the wire format.
-    #[tactic(auto, using(crate::proofs::Bits::bit_12))]
     pub fn has_attributes(self) -> bool
         ensures { result ≡ has self.0 0x00001000 }
     {
@@ -228,7 +218,6 @@ impl AdsTypeFlags {
     }
 
     /// Returns `true` if an enum info section is present in the wire format.
-    #[tactic(auto, using(crate::proofs::Bits::bit_13))]
     pub fn has_enum_infos(self) -> bool
         ensures { result ≡ has self.0 0x00002000 }
     {
@@ -236,7 +225,6 @@ impl AdsTypeFlags {
     }
 
     /// Returns `true` if the [`STATIC`](Self::STATIC) flag is set.
-    #[tactic(auto, using(crate::proofs::Bits::bit_17))]
     pub fn is_static(self) -> bool
         ensures { result ≡ has self.0 0x00020000 }
     {
@@ -244,7 +232,6 @@ impl AdsTypeFlags {
     }
 
     /// Returns `true` if the [`ANY_SIZE_ARRAY`](Self::ANY_SIZE_ARRAY) flag is set.
-    #[tactic(auto, using(crate::proofs::Bits::bit_20))]
     pub fn is_any_size_array(self) -> bool
         ensures { result ≡ has self.0 0x00100000 }
     {
@@ -252,7 +239,6 @@ impl AdsTypeFlags {
     }
 
     /// Returns `true` if the [`PLC_POINTER_TYPE`](Self::PLC_POINTER_TYPE) flag is set.
-    #[tactic(auto, using(crate::proofs::Bits::bit_23))]
     pub fn is_plc_pointer_type(self) -> bool
         ensures { result ≡ has self.0 0x00800000 }
     {
@@ -260,7 +246,6 @@ impl AdsTypeFlags {
     }
 
     /// Returns `true` if a refactor info section is present in the wire format.
-    #[tactic(auto, using(crate::proofs::Bits::bit_24))]
     pub fn has_refactor_info(self) -> bool
         ensures { result ≡ has self.0 0x01000000 }
     {
@@ -268,7 +253,6 @@ impl AdsTypeFlags {
     }
 
     /// Returns `true` if sub-items are hidden.
-    #[tactic(auto, using(crate::proofs::Bits::bit_25))]
     pub fn hide_sub_items(self) -> bool
         ensures { result ≡ has self.0 0x02000000 }
     {
@@ -276,7 +260,6 @@ impl AdsTypeFlags {
     }
 
     /// Returns `true` if a deref section is present in the wire format.
-    #[tactic(auto, using(crate::proofs::Bits::bit_28))]
     pub fn is_variant(self) -> bool
         ensures { result ≡ has self.0 0x10000000 }
     {
@@ -284,7 +267,6 @@ impl AdsTypeFlags {
     }
 
     /// Returns `true` if an extended enum info section is present in the wire format.
-    #[tactic(auto, using(crate::proofs::Bits::bit_29))]
     pub fn has_extended_enum_infos(self) -> bool
         ensures { result ≡ has self.0 0x20000000 }
     {
@@ -292,7 +274,6 @@ impl AdsTypeFlags {
     }
 
     /// Returns `true` if an extended flags `u32` is present in the wire format.
-    #[tactic(auto, using(crate::proofs::Bits::bit_31))]
     pub fn has_extended_flags(self) -> bool
         ensures { result ≡ has self.0 0x80000000 }
     {
@@ -300,7 +281,6 @@ impl AdsTypeFlags {
     }
 
     /// Returns `true` if a software protection levels section is present.
-    #[tactic(auto, using(crate::proofs::Bits::bit_18))]
     pub fn has_software_protection_levels(self) -> bool
         ensures { result ≡ has self.0 0x00040000 }
     {

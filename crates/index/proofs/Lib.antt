@@ -1,3 +1,4 @@
 pub mod Laws
 pub mod Steps
 pub mod Meaning
+pub mod Accepted

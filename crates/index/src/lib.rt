@@ -12,7 +12,7 @@ ghost use Rattle.index.specs.Steps.{BySteps};
 ghost use Rattle.index.specs.Meaning.{StartsAscend, IndexMeant};
 
 use refusal::{LIMIT, Mode, Refusal};
-use walk::{Entry, Walker};
+use walk::{Accepted, Accepts, Entry, Walker};
 
 // How many entries are accepted, unless a zero claim is met.
 fn count<'a, E: Entry<'a>>(bytes: &'a [u8], mode: Mode) -> Result<usize, Refusal>
@@ -46,7 +46,7 @@ fn write_starts<'a, E: Entry<'a>>(bytes: &'a [u8], mode: Mode, slots: &mut [u32]
 }
 
 /// Writes where each accepted entry starts, in order. The upload is walked before a slot is written, so a refusal leaves the slots as they were.
-pub fn build<'a, E: Entry<'a>>(
+pub fn build<'a, E: Accepts<'a>>(
     bytes: &'a [u8],
     mode: Mode,
     slots: &mut [u32],
@@ -57,12 +57,12 @@ pub fn build<'a, E: Entry<'a>>(
     if length > LIMIT {
         return Err(Refusal::TooLarge { length });
     }
-    let needed = count::<E>(bytes, mode)?;
+    let needed = count::<Accepted<E>>(bytes, mode)?;
     let lent = slots.len();
     if lent < needed {
         return Err(Refusal::OutputTooSmall { needed, lent });
     }
-    write_starts::<E>(bytes, mode, slots);
+    write_starts::<Accepted<E>>(bytes, mode, slots);
     Ok(needed)
 }
 

@@ -9,7 +9,7 @@ use index::build;
 use refusal::{LIMIT, Mode, Refusal};
 use room::room;
 use std::io;
-use symbol::SymbolHead;
+use symbol::AdsSymbolInfo;
 use symbol_find::{find, find_indexed};
 
 // The refusal's number and figures.
@@ -95,7 +95,7 @@ fn find_all(rt: &impl Print, rig: &[u8], slots: &[u32]) -> io::Result<()> {
 }
 
 fn survey(rt: &impl Print, rig: &[u8; 1600], slots: &mut [u32]) -> io::Result<()> {
-    match build::<SymbolHead>(rig, Mode::Present, slots) {
+    match build::<AdsSymbolInfo>(rig, Mode::Present, slots) {
         Ok(n) => {
             println!(rt; "index {n}")?;
             find_all(rt, rig, &slots[..n])
@@ -133,7 +133,7 @@ fn put_smallest(rig: &mut [u8; 1600]) {
 }
 
 fn build_in(rt: &impl Print, rig: &[u8], slots: &mut [u32]) -> io::Result<()> {
-    match build::<SymbolHead>(rig, Mode::Present, slots) {
+    match build::<AdsSymbolInfo>(rig, Mode::Present, slots) {
         Ok(n) => print!(rt; "index {n}")?,
         Err(why) => refusal(rt, why)?,
     }

@@ -1,6 +1,8 @@
 -- The least cases of refusals: antt computes what the definitions say of them.
 use Rattle.std.proofs.Common.{ap, refl}
 use Rattle.std.specs.Char.{encode_utf8}
+use Rattle.std.specs.Str.{chars, is_utf8}
+use Rattle.std.specs.Str.Lossy.{utf8_valid_len}
 use Rattle.le.specs.Le.{le2, le4}
 use Rattle.refusal.specs.EndBytes.{ended}
 use Rattle.refusal.specs.declared.Mode.TheVariants.{Present, Checked}
@@ -19,12 +21,11 @@ use Rattle.symbol_find.specs.Find.{is_named, find}
 use Rattle.field.specs.Front.{with_strings, front_of}
 use Rattle.data_type.specs.DataType.{taken, items_from, arrays_of, type_with, type_at}
 use Rattle.text.specs.Text as text
-use Rattle.text.specs.Utf8 as utf8
 use Rattle.lineup.specs.LineUp.{figured}
 use Rattle.lineup.specs.Refusals.{RefusalsLineUp}
 
 pub refusals : RefusalsLineUp
-unfolding le2 le4 ended claim_at claim_of entry-walk.steps_from entry-walk.steps attribute.first_of attribute.ends attribute-block.good_of attribute-block.exact lengths_checked attribute_writing refactor-block.good_of refactor-block.exact refactor.first_of strings_checked step_at symbol_of sections_checked symbol_checked symbol_written is_named find with_strings front_of taken items_from arrays_of type_with type_at text.points text.code_point text.decoded text.decoding text.seek text.byte_of text.char_of text.encoded_from text.encoding encode_utf8 utf8.following utf8.scalar_of
+unfolding le2 le4 ended claim_at claim_of entry-walk.steps_from entry-walk.steps attribute.first_of attribute.ends attribute-block.good_of attribute-block.exact lengths_checked attribute_writing refactor-block.good_of refactor-block.exact refactor.first_of strings_checked step_at symbol_of sections_checked symbol_checked symbol_written is_named find with_strings front_of taken items_from arrays_of type_with type_at text.points text.code_point text.decoded text.decoding text.byte_of text.bytes_of text.encoded_from text.encoding encode_utf8 chars is_utf8 utf8_valid_len
 refusals m Present =
     record {
       largest = refl;

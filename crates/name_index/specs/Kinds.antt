@@ -17,7 +17,8 @@ use Rattle.field.specs.Tail.{tail_of}
 use Rattle.field.specs.Field.{joined, behind_items, field_of}
 use Rattle.data_type.specs.declared.AdsDataTypeInfo.{AdsDataTypeInfo}
 use Rattle.data_type.specs.DataType.{ItemReader, type_with, type_at, type_of}
-use Rattle.data_type.specs.Accepted.{and_then_ok, accepted}
+use Rattle.part.proofs.Outcome.{both_passed}
+use Rattle.data_type.specs.Accepted.{accepted}
 use Rattle.name_order.specs.declared.places.NamePlaces.{NamePlaces}
 use Rattle.name_index.specs.Named.{TellsName}
 
@@ -61,16 +62,16 @@ front_told mode e f h = record { is = front_name mode e f h; room = omega (arith
 pub field_told : (mode : Mode) (e : Bor (List ℕ)) (r : AdsFieldInfo) → field_of mode e ≡ Ok r → TellsName field_places e.now r.name.now
 unfolding field_of
 field_told mode e r h =
-    let f = and_then_ok (front_of mode e) _ r h in
-    let t = and_then_ok (tail_of mode f.0 (behind_items f.0)) _ r f.1.1 in
+    let f = both_passed (front_of mode e) h in
+    let t = both_passed (tail_of mode f.0 (behind_items f.0)) f.1.1 in
     let is : joined f.0 t.0 ≡ r = cc t.1.1 in
     subst (λ (n : Bor (List ℕ)). TellsName field_places e.now n.now) (ap (λ (x : AdsFieldInfo). x.name) is) (front_told mode e f.0 f.1.0)
 
-with_told : (mode : Mode) (item : ItemReader) (e : Bor (List ℕ)) (r : AdsDataTypeInfo) → type_with mode item e ≡ Ok r → TellsName field_places e.now r.field.name.now
+with_told : (mode : Mode) (item : ItemReader) (e : Bor (List ℕ)) (r : AdsDataTypeInfo) → type_with mode item e ≡ Ok r → TellsName field_places e.now r.name.now
 with_told mode item e r h =
     let a = accepted mode item e r h in
-    subst (λ (n : Bor (List ℕ)). TellsName field_places e.now n.now) (ap (λ (x : AdsDataTypeInfo). x.field.name) a.is) (front_told mode e a.front a.front_is)
+    subst (λ (n : Bor (List ℕ)). TellsName field_places e.now n.now) (ap (λ (x : AdsDataTypeInfo). x.name) a.is) (front_told mode e a.front a.front_is)
 
-pub type_told : (mode : Mode) (e : Bor (List ℕ)) (r : AdsDataTypeInfo) → type_of mode e ≡ Ok r → TellsName field_places e.now r.field.name.now
+pub type_told : (mode : Mode) (e : Bor (List ℕ)) (r : AdsDataTypeInfo) → type_of mode e ≡ Ok r → TellsName field_places e.now r.name.now
 unfolding type_at
 type_told mode e r h = with_told mode _ e r h

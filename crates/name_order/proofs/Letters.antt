@@ -1,13 +1,11 @@
 -- The order of names and of starts, said of their letters: proved.
-use Rattle.std.proofs.Common.{ℕ, ◌+◌, ◌<◌, ◌≤◌, ◌≡◌, refl, sym, ap, subst, ◌∙◌, Bool, true, false, List, [], ◌∷◌, get_or, arith}
-use Rattle.std.specs.Prelude.{ltb}
+use Rattle.std.proofs.Common.{ℕ, ◌+◌, ◌<◌, ◌≤◌, ◌≡◌, refl, sym, ap, subst, ◌∙◌, Bool, true, false, List, [], ◌∷◌, get_or, arith, ltb, ltb-true, ltb-false, lt-ltb}
 use Rattle.std.specs.declared.cmp.Ordering.{Ordering}
 use Rattle.std.specs.declared.cmp.Ordering.TheVariants.{Less, Equal, Greater}
 use Rattle.std.specs.Ordering.{nat_cmp, ordering_then, is_lt}
 use Rattle.std.proofs.lemmas.Cmp.{tied_itself, nat_cmp_total, ranked}
 use Rattle.std.specs.List.Sorted.{IsSortedBy}
 use Rattle.std.proofs.lemmas.List.Sorted.{sorted_far}
-use borrow.Author.Tests.{ltb-true, ltb-false, lt-ltb}
 use Rattle.le.proofs.Laws.{not-both}
 use Rattle.names.specs.Names.{fold, folded}
 use Rattle.names.specs.Meaning.{SameLetter, SameLetters, end, letter}

@@ -1,1 +1,3 @@
-pub mod Meant
+pub mod Slice
+pub mod Outcome
+mod Meant

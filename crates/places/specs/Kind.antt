@@ -1,9 +1,10 @@
 -- docs/FORMAT.md, "Symbol entries", "Field entries" and "Data type entries": the attributes of an accepted entry, and a symbol's refactor records, reach to its end.
-use Rattle.std.proofs.Common.{ℕ, ◌+◌, ◌-◌, ◌∙◌, ◌≡◌, ap, List, length, Ok, arith, Bor, length-drop}
+use Rattle.std.proofs.Common.{ℕ, ◌≡◌, List, Ok, Bor}
+use Rattle.part.specs.End.{IsEnd}
+use Rattle.part.proofs.Slice.{end_memory}
 use Rattle.refusal.specs.declared.Mode.{Mode}
 use Rattle.symbol.specs.declared.AdsSymbolInfo.{AdsSymbolInfo}
 use Rattle.symbol.specs.Symbol.{symbol_of}
-use Rattle.symbol.specs.Inside.{IsTail}
 use Rattle.symbol.proofs.Lies.{symbols_inside}
 use Rattle.field.specs.declared.AdsFieldInfo.{AdsFieldInfo}
 use Rattle.field.specs.Field.{field_of}
@@ -11,24 +12,20 @@ use Rattle.field.proofs.Within.{list_place}
 use Rattle.data_type.specs.declared.AdsDataTypeInfo.{AdsDataTypeInfo}
 use Rattle.data_type.specs.DataType.{levels, type_of}
 use Rattle.data_type.proofs.AsField.{entry_as_field}
-use Rattle.places.specs.Places.{IsEnd}
+use Rattle.places.specs.Places.{IsEndInMemory}
+
+in_memory : {e s : Bor (List ℕ)} → IsEnd e s → IsEndInMemory e s
+in_memory i = record { memory = end_memory i; within = i.within }
 
 module _ (mode : Mode) (e : Bor (List ℕ)) where
-  tail_ends : (s : Bor (List ℕ)) → IsTail e s → IsEnd e s
-  tail_ends s t = record { memory = omega (arith, ap (λ (q : Bor (List ℕ)). q.ref_ptr.1) t.is, t.within); within = t.within }
+  pub symbol_attributes_end : (r : AdsSymbolInfo) → symbol_of mode e ≡ Ok r → IsEndInMemory e r.attributes.bytes
+  symbol_attributes_end r h = in_memory (symbols_inside mode e r h).attribute_bytes
 
-  pub symbol_attributes_end : (r : AdsSymbolInfo) → symbol_of mode e ≡ Ok r → IsEnd e r.attributes.bytes
-  symbol_attributes_end r h = tail_ends r.attributes.bytes (symbols_inside mode e r h).attribute_bytes
+  pub refactor_infos_end : (r : AdsSymbolInfo) → symbol_of mode e ≡ Ok r → IsEndInMemory e r.refactor_infos.bytes
+  refactor_infos_end r h = in_memory (symbols_inside mode e r h).refactor_bytes
 
-  pub refactor_infos_end : (r : AdsSymbolInfo) → symbol_of mode e ≡ Ok r → IsEnd e r.refactor_infos.bytes
-  refactor_infos_end r h = tail_ends r.refactor_infos.bytes (symbols_inside mode e r h).refactor_bytes
+  pub field_attributes_end : (r : AdsFieldInfo) → field_of mode e ≡ Ok r → IsEndInMemory e r.attributes.bytes
+  field_attributes_end r h = in_memory (list_place mode e r h)
 
-  pub field_attributes_end : (r : AdsFieldInfo) → field_of mode e ≡ Ok r → IsEnd e r.attributes.bytes
-  field_attributes_end r h =
-      let p = list_place mode e r h in
-      let m : r.attributes.bytes.ref_ptr.1 ≡ e.ref_ptr.1 + p.at = ap (λ (s : Bor (List ℕ)). s.ref_ptr.1) p.is in
-      let l : length r.attributes.bytes.now ≡ length e.now - p.at = ap (λ (s : Bor (List ℕ)). length s.now) p.is ∙ length-drop p.at e.now in
-      record { memory = omega (arith, p.fits); within = omega arith }
-
-  pub type_attributes_end : (r : AdsDataTypeInfo) → type_of mode e ≡ Ok r → IsEnd e r.field.attributes.bytes
+  pub type_attributes_end : (r : AdsDataTypeInfo) → type_of mode e ≡ Ok r → IsEndInMemory e r.field.attributes.bytes
   type_attributes_end r h = field_attributes_end r.field (entry_as_field mode levels e r h)

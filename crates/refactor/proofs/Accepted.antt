@@ -6,14 +6,16 @@ use borrow.Author.Tests.{le-ltb}
 use Rattle.le.specs.Le.{le2, bytes2, has}
 use Rattle.refusal.specs.Refusal.{limit}
 use Rattle.writing.specs.Checks.{count_checked, entry_checked}
-use Rattle.writing.proofs.Entry.{both_passed, count_passed, entry_passed}
+use Rattle.part.proofs.Outcome.{both_passed}
+use Rattle.writing.proofs.Entry.{count_passed, entry_passed}
 use Rattle.refactor.specs.Refactor.{follower, listed}
 use Rattle.refactor.specs.Block.{exact, block_checked}
 use Rattle.refactor.specs.Told.{told}
 use Rattle.refactor.specs.Writing.{entries_writing}
 use Rattle.refactor.specs.Fit.{Former, Fits, chain_bytes, last_count, formers, ChainsReadBack, IsEntries, EntriesWritten}
 use Rattle.refactor.proofs.Again.{n_of, here, length_name, listed_here, exact_more, blocks_read}
-use Rattle.refactor.proofs.Inside.{each_more, listed_none}
+use Rattle.std.proofs.lemmas.List.Elements.{All-cons}
+use Rattle.refactor.proofs.Inside.{listed_none}
 use Rattle.refactor.proofs.Fit.{long_formers, later_bytes, refactor_blocks, refactor_blocks_made}
 use Rattle.refactor.proofs.Modes.{chain_by}
 use Rattle.refactor.proofs.Written.{both_pass}
@@ -48,7 +50,7 @@ all_fit zero count s b h = rw (listed_none s) (λ k d l. absurd (omega arith))
 all_fit (suc left) count s b h =
     let g = exact_more s count left h in
     let f : Former = record { count = (here s).0.refactor_count; name = (here s).0.name.now } in
-    rw (listed_here s left g.0.there) (each_more Fits f (formers (told (listed (here s).1 left))) (record { name = rw (length_name s g.0.there) (short_name s b g.0.there) })
+    rw (listed_here s left g.0.there) (All-cons Fits f (formers (told (listed (here s).1 left))) (record { name = rw (length_name s g.0.there) (short_name s b g.0.there) })
     (all_fit left count (here s).1 (later_bytes s (n_of s + 7) b) g.1))
 
 module _ (count : ℕ) (block : Bor (List ℕ)) where

@@ -1,13 +1,15 @@
 -- What stands in a block is read wherever the block stands, whatever follows it.
 use Rattle.std.proofs.Common.{◌≡◌, ℕ, zero, suc, ◌+◌, ◌-◌, ◌*◌, ◌<◌, ◌≤◌, Bool, true, false, List, ◌∷◌, ◌++◌, length, take, drop, get_or, Ok, Err, Result, refl, sym, ap, ap₂, ◌∙◌, arith, length-append, length-drop, Bor}
 use Rattle.std.specs.Prelude.{Some, None, Option, eqb, ltb, bit_and, if◌then◌else◌}
-use native.Mathlib.Nat.{add_assoc, zero-add}
-use lib.Seq.{drop-drop, length-take-le, take-append-le, drop-append-le}
+use native.Mathlib.Nat.{zero-add}
+use lib.Seq.{length-take-le, take-append-le, drop-append-le}
 use lib.ListN.{get_or-append}
 use borrow.Author.Tests.{eqb-true, le-ltb, lt-ltb}
 use Rattle.std.specs.Bool.{beq}
+use Rattle.std.specs.Cmp.{booleans_Decides}
 use Rattle.le.specs.Le.{le2, le4, has}
 use Rattle.part.specs.Slice.{part, after}
+use Rattle.part.proofs.Slice.{after_after}
 use Rattle.part.specs.Outcome.{outcome}
 use Rattle.refusal.specs.EndBytes.{ended}
 use Rattle.refusal.specs.declared.Refusal.{Refusal}
@@ -47,12 +49,6 @@ pub record IsGood (s next : Bor (List ℕ)) (follows : Bool) : Type 0 where
 pub length_name : (s : Bor (List ℕ)) → n_of s + 7 ≤ length s.now → length (here s).0.name.now ≡ n_of s
 length_name s h = length-take-le (n_of s) (drop 6 s.now) (simp length-drop (omega arith))
 
-same_bool : (a b : Bool) → beq a b ≡ true → a ≡ b
-same_bool true true h = refl
-same_bool false false h = refl
-same_bool true false h = cc
-same_bool false true h = cc
-
 pub good_here : (s next : Bor (List ℕ)) (follows : Bool) → good_of s follows ≡ Some next → IsGood s next follows
 unfolding good_of
 good_here s next follows h = by_first (first_of s) refl h
@@ -71,7 +67,7 @@ good_here s next follows h = by_first (first_of s) refl h
               there = t;
               next_is = ap (λ q. q.1) i ∙ cc l;
               packed = eqb-true _ _ a ∙ ap (λ q. q.0.refactor_count) (sym i);
-              followed = ap (λ q. q.0.next_refactor_info) i ∙ same_bool _ _ b;
+              followed = ap (λ q. q.0.next_refactor_info) i ∙ (booleans_Decides _ _).0 b;
               end = ap (λ (k : ℕ). get_or s.now (6 + k) 0) (sym n) ∙ eqb-true _ _ c;
             }
         by_packed true a true b false c l = cc
@@ -116,9 +112,6 @@ module _ (s b : Bor (List ℕ)) (more : List ℕ) (e : s.now ≡ b.now ++ more) 
 
     same_length : n_of s + 7 + length (here b).1.now ≡ length b.now
     same_length = rw same_n (ap (λ (m : ℕ). n_of b + 7 + m) (length-drop (n_of b + 7) b.now) ∙ omega arith)
-
-pub after_after : (s : Bor (List ℕ)) (k m : ℕ) → after (after s k) m ≡ after s (k + m)
-after_after s k m = ap₂ (λ (x : ℕ) (y : List ℕ). record { ref_ptr = (s.ref_ptr.0, x); now = y }) (add_assoc s.ref_ptr.1 k m) (drop-drop m k s.now)
 
 -- a turn of a list, and of a chain and its end bytes: one that another follows, and the last
 pub listed_here : (s : Bor (List ℕ)) (left : ℕ) → n_of s + 7 ≤ length s.now → listed s (suc left) ≡ (here s).0 ∷ listed (here s).1 left

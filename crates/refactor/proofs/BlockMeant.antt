@@ -14,9 +14,9 @@ use Rattle.refactor.specs.Writing.{packed_of, info_bytes}
 use Rattle.refactor.specs.Laid.{size}
 use Rattle.refactor.specs.BlockMeant.{IsGood, Good, none, one_more, BlockMeant, passes, longer, fewer, IsLaid, Written, name_too_long, written, Entries, too_many, bad, too_large, entries, RefactorsRefused}
 use Rattle.refactor.proofs.Again as again
-use Rattle.refactor.proofs.Again.{n_of, here, good_here, after_after}
+use Rattle.part.proofs.Slice.{after_after, after_zero}
+use Rattle.refactor.proofs.Again.{n_of, here, good_here}
 use Rattle.refactor.proofs.Fit.{stands, good_is, exact_on}
-use Rattle.refactor.proofs.Inside.{after_zero}
 use Rattle.refactor.proofs.Written as writes
 
 same_true : (a b : Bool) → a ≡ b → beq a b ≡ true

@@ -1,28 +1,16 @@
 -- Where records lie, what a chain has, and what an answer to a number means: proved.
-use Rattle.std.proofs.Common.{◌≡◌, ℕ, zero, suc, ◌+◌, ◌≤◌, Bool, true, false, List, [], ◌∷◌, ◌++◌, length, take, Ok, Err, Result, refl, sym, ap, ap₂, ◌∙◌, subst, arith, length-drop, Bor}
-use Rattle.std.specs.Prelude.{slice_get, ok_or, ltb, Option, Some}
-use Rattle.std.specs.List.{All}
-use Rattle.std.proofs.lemmas.Option.{slice_get_past}
-use native.Mathlib.Nat.{add_assoc, add-zero}
-use lib.Seq.{drop-drop}
+use Rattle.std.proofs.Common.{◌≡◌, ℕ, zero, suc, ◌+◌, ◌≤◌, Bool, true, false, List, [], ◌∷◌, ◌++◌, length, Ok, Err, Result, refl, sym, ap, ◌∙◌, subst, arith, length-drop, Bor}
+use Rattle.std.specs.Prelude.{ltb}
 use borrow.Author.Tests.{lt-ltb}
-use Rattle.part.specs.Slice.{part, after}
+use Rattle.part.specs.Slice.{part}
+use Rattle.part.specs.End.{IsEnd, IsString, rest_at}
 use Rattle.refusal.specs.declared.Refusal.{Refusal}
-use Rattle.refusal.specs.declared.Refusal.TheVariants.{NoSuchNumber}
+use Rattle.refusal.proofs.ByNumber.{numbers_meant}
 use Rattle.refactor.specs.declared.AdsRefactorInfo.{AdsRefactorInfo}
 use Rattle.refactor.specs.Refactor.{first_of, listed, chained}
-use Rattle.refactor.specs.Inside.{IsInside, RefactorsInside, IsChain, ChainsCounted, RefactorsShown}
-use Rattle.refactor.proofs.Again.{n_of, here, fits, first_here, length_name, after_after, listed_here}
-
-part_after : (s : Bor (List ℕ)) (k at n : ℕ) → part (after s k) at n ≡ part s (k + at) n
-part_after s k at n = ap₂ (λ (x : ℕ) (y : List ℕ). record { ref_ptr = (s.ref_ptr.0, x); now = take n y }) (add_assoc s.ref_ptr.1 k at) (drop-drop at k s.now)
-
-pub after_zero : (s : Bor (List ℕ)) → s ≡ after s 0
-after_zero s = ap (λ (x : ℕ). record { ref_ptr = (s.ref_ptr.0, x); now = s.now }) (sym (add-zero s.ref_ptr.1))
-
-pub each_more : {X : Type 0} (P : X → Type 0) (x : X) (xs : List X) → P x → All P xs → All P (x ∷ xs)
-each_more P x xs p ps zero d h = p
-each_more P x xs p ps (suc k) d h = ps k d (omega arith)
+use Rattle.refactor.specs.Inside.{RefactorsLie, AreInside, RefactorsInside, IsChain, ChainsCounted, RefactorsShown}
+use Rattle.part.proofs.Slice.{end_after, string_in}
+use Rattle.refactor.proofs.Again.{n_of, here, fits, first_here, length_name, listed_here}
 
 pub listed_none : (s : Bor (List ℕ)) → listed s 0 ≡ []
 unfolding listed
@@ -32,34 +20,34 @@ pub listed_stop : (s : Bor (List ℕ)) (left : ℕ) (why : Refusal) → first_of
 unfolding listed
 listed_stop s left why e = rw e refl
 
--- of the bytes from a place on
-one : (s : Bor (List ℕ)) (k : ℕ) → k ≤ length s.now → n_of (after s k) + 7 ≤ length (after s k).now → IsInside s (here (after s k)).0
-one s k h t =
-    let q = after s k in
-    let l = length-drop k s.now in
-    record {
-      name_at = k + 6;
-      next = k + (n_of q + 7);
-      name = rw (length_name q t) (part_after s k 6 (n_of q));
-      ended = rw (length_name q t) (omega arith);
-      whole = omega arith;
-    }
+-- the record at the start of an entry's last bytes, and those after it
+module _ (e s : Bor (List ℕ)) (a : IsEnd e s) (there : n_of s + 7 ≤ length s.now) where
+  pub refactor_name : IsString e (rest_at e s + 6) (here s).0.name
+  refactor_name =
+      let n = length_name s there in
+      string_in e s (here s).0.name 6 a (ap (part s 6) (sym n)) (omega (arith, n, there))
 
-each_from : (s : Bor (List ℕ)) (k left : ℕ) → k ≤ length s.now → (w : Result (AdsRefactorInfo × Bor (List ℕ)) Refusal) → first_of (after s k) ≡ w
-    → ((m : ℕ) → m ≤ length s.now → All (IsInside s) (listed (after s m) left)) → All (IsInside s) (listed (after s k) (suc left))
-each_from s k left h (Err why) e from = rw (listed_stop (after s k) left why e) (λ j d l. absurd (omega arith))
-each_from s k left h (Ok p) e from =
-    let q = after s k in
-    let t = fits q p e in
-    let l = length-drop k s.now in
-    rw (listed_here q left t) (each_more (IsInside s) (here q).0 (listed (here q).1 left) (one s k h t) (rw (after_after s k (n_of q + 7)) (from (k + (n_of q + 7)) (omega arith))))
+  pub refactor_next : rest_at e (here s).1 ≡ rest_at e s + 6 + length (here s).0.name.now + 1
+  refactor_next = let n = length_name s there in omega (arith, n, there, a.within, length-drop (n_of s + 7) s.now)
 
-from_here : (left : ℕ) (s : Bor (List ℕ)) (k : ℕ) → k ≤ length s.now → All (IsInside s) (listed (after s k) left)
-from_here zero s k h = rw (listed_none (after s k)) (λ j d l. absurd (omega arith))
-from_here (suc left) s k h = each_from s k left h (first_of (after s k)) refl (λ m g. from_here left s m g)
+  pub refactor_rest : IsEnd e (here s).1
+  refactor_rest = end_after (n_of s + 7) there a
+
+  more_inside : (left : ℕ) → AreInside e (here s).1 left → AreInside e s (suc left)
+  more_inside left i = record {
+    end = i.end;
+    lie = rw (listed_here s left there) (refactor_name, subst (λ k. RefactorsLie e k (listed (here s).1 left) i.end) refactor_next i.lie);
+    whole = i.whole;
+  }
+
+inside_by : (e s : Bor (List ℕ)) (left : ℕ) → IsEnd e s → (w : Result (AdsRefactorInfo × Bor (List ℕ)) Refusal) → first_of s ≡ w
+    → ((q : Bor (List ℕ)) → IsEnd e q → AreInside e q left) → AreInside e s (suc left)
+inside_by e s left a (Err why) h ih = record { end = rest_at e s; lie = rw (listed_stop s left why h) refl; whole = omega arith }
+inside_by e s left a (Ok p) h ih = let t = fits s p h in more_inside e s a t left (ih (here s).1 (refactor_rest e s a t))
 
 pub refactors_inside : RefactorsInside
-refactors_inside s count = subst (λ x. All (IsInside s) (listed x count)) (sym (after_zero s)) (from_here count s 0 (omega arith))
+refactors_inside e s zero a = record { end = rest_at e s; lie = rw (listed_none s) refl; whole = omega arith }
+refactors_inside e s (suc left) a = inside_by e s left a (first_of s) refl (λ q b. refactors_inside e q left b)
 
 -- each tells a follower exactly where others stand behind it
 abbrev Followed : List AdsRefactorInfo → Type 0
@@ -77,71 +65,70 @@ follow_more x all h rest [] behind r e =
 follow_more x all h rest (y ∷ before) behind r e = rest before behind r (cc)
 
 -- a chain after so many records
-record Counted (s : Bor (List ℕ)) (c n : ℕ) (rest : Bor (List ℕ)) : Type 0 where
+record Counted (e s : Bor (List ℕ)) (c n : ℕ) (rest : Bor (List ℕ)) : Type 0 where
   count : ℕ
   is : n ≡ c + count
-  chain : IsChain s count rest
+  chain : IsChain e s count rest
 
-counted_last : (s : Bor (List ℕ)) (c : ℕ) → n_of s + 7 ≤ length s.now → (here s).0.next_refactor_info ≡ false → Counted s c (c + 1) (here s).1
-counted_last s c t f =
-    let l : listed s 1 ≡ (here s).0 ∷ [] = listed_here s 0 t ∙ ap (λ (x : List AdsRefactorInfo). (here s).0 ∷ x) (listed_none (here s).1) in
-    record {
-      count = 1;
-      is = refl;
-      chain = record { some = omega arith; long = ap length l; followed = rw l (follow_more (here s).0 [] f follow_none); end = n_of s + 7; after_it = refl; whole = t };
-    }
+module _ (e s : Bor (List ℕ)) (a : IsEnd e s) (t : n_of s + 7 ≤ length s.now) where
+  counted_last : (c : ℕ) → (here s).0.next_refactor_info ≡ false → Counted e s c (c + 1) (here s).1
+  counted_last c f =
+      let l : listed s 1 ≡ (here s).0 ∷ [] = listed_here s 0 t ∙ ap (λ (x : List AdsRefactorInfo). (here s).0 ∷ x) (listed_none (here s).1) in
+      record {
+        count = 1;
+        is = refl;
+        chain = record {
+          some = omega arith;
+          long = ap length l;
+          followed = rw l (follow_more (here s).0 [] f follow_none);
+          lie = rw l (refactor_name e s a t, sym (refactor_next e s a t));
+          after_it = refactor_rest e s a t;
+        };
+      }
 
-counted_more : (s : Bor (List ℕ)) (c n : ℕ) (rest : Bor (List ℕ)) → n_of s + 7 ≤ length s.now → (here s).0.next_refactor_info ≡ true → Counted (here s).1 (c + 1) n rest → Counted s c n rest
-counted_more s c n rest t f r =
-    let i = r.chain in
-    let l = listed_here s r.count t in
-    let k = length-drop (n_of s + 7) s.now in
-    record {
-      count = suc r.count;
-      is = let e = r.is in omega arith;
-      chain = record {
-        some = omega arith;
-        long = ap length l ∙ ap suc i.long;
-        followed = rw l (follow_more (here s).0 (listed (here s).1 r.count) (f ∙ sym (lt-ltb 0 _ (omega (arith, i.some, i.long)))) i.followed);
-        end = n_of s + 7 + i.end;
-        after_it = i.after_it ∙ after_after s (n_of s + 7) i.end;
-        whole = let w = i.whole in omega arith;
-      };
-    }
+  counted_more : (c n : ℕ) (rest : Bor (List ℕ)) → (here s).0.next_refactor_info ≡ true → Counted e (here s).1 (c + 1) n rest → Counted e s c n rest
+  counted_more c n rest f r =
+      let i = r.chain in
+      let l = listed_here s r.count t in
+      record {
+        count = suc r.count;
+        is = let e = r.is in omega arith;
+        chain = record {
+          some = omega arith;
+          long = ap length l ∙ ap suc i.long;
+          followed = rw l (follow_more (here s).0 (listed (here s).1 r.count) (f ∙ sym (lt-ltb 0 _ (omega (arith, i.some, i.long)))) i.followed);
+          lie = rw l (refactor_name e s a t, subst (λ k. RefactorsLie e k (listed (here s).1 r.count) (rest_at e rest)) (refactor_next e s a t) i.lie);
+          after_it = i.after_it;
+        };
+      }
 
-by_follower : (s : Bor (List ℕ)) (c f n : ℕ) (rest : Bor (List ℕ)) → n_of s + 7 ≤ length s.now → (b : Bool) → (here s).0.next_refactor_info ≡ b → chained s c (suc f) ≡ Ok (n, rest)
-    → (chained (here s).1 (c + 1) f ≡ Ok (n, rest) → Counted (here s).1 (c + 1) n rest) → Counted s c n rest
+  by_follower : (c f n : ℕ) (rest : Bor (List ℕ)) → (b : Bool) → (here s).0.next_refactor_info ≡ b → chained s c (suc f) ≡ Ok (n, rest)
+      → (chained (here s).1 (c + 1) f ≡ Ok (n, rest) → Counted e (here s).1 (c + 1) n rest) → Counted e s c n rest
+  unfolding chained
+  by_follower c f n rest true g h more = counted_more c n rest g (more (simp (first_here s t, g) at h))
+  by_follower c f n rest false g h more =
+      let k : ◌≡◌ {A = Result (ℕ × Bor (List ℕ)) Refusal} (Ok (c + 1, (here s).1)) (Ok (n, rest)) = simp (first_here s t, g) at h in
+      let w : ◌≡◌ {A = ℕ × Bor (List ℕ)} (c + 1, (here s).1) (n, rest) = cc in
+      subst (λ (x : ℕ × Bor (List ℕ)). Counted e s c x.0 x.1) w (counted_last c g)
+
+by_first : (e s : Bor (List ℕ)) (c f n : ℕ) (rest : Bor (List ℕ)) → IsEnd e s → (w : Result (AdsRefactorInfo × Bor (List ℕ)) Refusal) → first_of s ≡ w → chained s c (suc f) ≡ Ok (n, rest)
+    → ((q : Bor (List ℕ)) (d : ℕ) → IsEnd e q → chained q d f ≡ Ok (n, rest) → Counted e q d n rest) → Counted e s c n rest
 unfolding chained
-by_follower s c f n rest t true e h more = counted_more s c n rest t e (more (simp (first_here s t, e) at h))
-by_follower s c f n rest t false e h more =
-    let g : ◌≡◌ {A = Result (ℕ × Bor (List ℕ)) Refusal} (Ok (c + 1, (here s).1)) (Ok (n, rest)) = simp (first_here s t, e) at h in
-    let w : ◌≡◌ {A = ℕ × Bor (List ℕ)} (c + 1, (here s).1) (n, rest) = cc in
-    subst (λ (x : ℕ × Bor (List ℕ)). Counted s c x.0 x.1) w (counted_last s c t e)
+by_first e s c f n rest a (Err why) g h more = absurd (let z : ◌≡◌ {A = ℕ} 0 1 = cc (simp g at h) in omega arith)
+by_first e s c f n rest a (Ok p) g h more =
+    let t = fits s p g in
+    by_follower e s a t c f n rest (here s).0.next_refactor_info refl h (more (here s).1 (c + 1) (refactor_rest e s a t))
 
-by_first : (s : Bor (List ℕ)) (c f n : ℕ) (rest : Bor (List ℕ)) → (w : Result (AdsRefactorInfo × Bor (List ℕ)) Refusal) → first_of s ≡ w → chained s c (suc f) ≡ Ok (n, rest)
-    → ((q : Bor (List ℕ)) (d : ℕ) → chained q d f ≡ Ok (n, rest) → Counted q d n rest) → Counted s c n rest
+counted : (f : ℕ) (e s : Bor (List ℕ)) (c n : ℕ) (rest : Bor (List ℕ)) → IsEnd e s → chained s c f ≡ Ok (n, rest) → Counted e s c n rest
 unfolding chained
-by_first s c f n rest (Err why) e h more = absurd (let z : ◌≡◌ {A = ℕ} 0 1 = cc (simp e at h) in omega arith)
-by_first s c f n rest (Ok p) e h more = by_follower s c f n rest (fits s p e) (here s).0.next_refactor_info refl h (more (here s).1 (c + 1))
-
-counted : (f : ℕ) (s : Bor (List ℕ)) (c n : ℕ) (rest : Bor (List ℕ)) → chained s c f ≡ Ok (n, rest) → Counted s c n rest
-unfolding chained
-counted zero s c n rest h = absurd (let z : ◌≡◌ {A = ℕ} 0 1 = cc in omega arith)
-counted (suc f) s c n rest h = by_first s c f n rest (first_of s) refl h (λ q d g. counted f q d n rest g)
+counted zero e s c n rest a h = absurd (let z : ◌≡◌ {A = ℕ} 0 1 = cc in omega arith)
+counted (suc f) e s c n rest a h = by_first e s c f n rest a (first_of s) refl h (λ q d b g. counted f e q d n rest b g)
 
 pub chains_counted : ChainsCounted
-chains_counted s count rest h =
-    let r = counted (length s.now) s 0 count rest h in
-    let e : r.count ≡ count = let i = r.is in omega arith in
-    subst (λ x. IsChain s x rest) e r.chain
-
-at_number : (before behind : List AdsRefactorInfo) (r : AdsRefactorInfo) → slice_get (before ++ (r ∷ behind)) (length before) ≡ Some r
-at_number [] behind r = refl
-at_number (x ∷ before) behind r = at_number before behind r
+chains_counted e s count rest a h =
+    let r = counted (length s.now) e s 0 count rest a h in
+    let same : r.count ≡ count = let i = r.is in omega arith in
+    subst (λ x. IsChain e s x rest) same r.chain
 
 pub refactors_shown : RefactorsShown
-refactors_shown all number = record {
-  shown = λ before behind r e l. ap₂ (λ (x : List AdsRefactorInfo) (n : ℕ). ok_or (slice_get x n) (NoSuchNumber (length all) number)) e (sym l)
-      ∙ ap (λ (x : Option AdsRefactorInfo). ok_or x (NoSuchNumber (length all) number)) (at_number before behind r);
-  past = λ h. ap (λ (x : Option AdsRefactorInfo). ok_or x (NoSuchNumber (length all) number)) (slice_get_past all number h);
-}
+refactors_shown all number = numbers_meant all number

@@ -33,15 +33,13 @@ goes_on a p e n = (one_more a.bytes a.count p e (omega arith), simp (ne_eqb a.co
 pub all_given : (a : RefactorInfos) → YieldsList NextGives (λ x. x) a (left a)
 all_given = YieldsList-from_shown NextGives (λ x. x) left (λ s t h. ap length h.0.0) (λ s x t h. h.0)
 
--- after so many were given, the next is the one with that number; where none is given, there are so many
-module _ (a t u : RefactorInfos) (xs : List AdsRefactorInfo) (number : ℕ) (given : Yields NextGives a xs t) where
-  abbrev answer : Option AdsRefactorInfo → Result AdsRefactorInfo Refusal
-  answer o = ok_or o (NoSuchNumber (length (left a)) number)
+-- so many at most
+most_by : (s : Bor (List ℕ)) (n : ℕ) (w : Result (AdsRefactorInfo × Bor (List ℕ)) Refusal) → first_of s ≡ w → ((q : Bor (List ℕ)) → length (listed q n) ≤ n) → length (listed s (suc n)) ≤ suc n
+unfolding listed
+most_by s n (Ok p) h ih = rw h (let l = ih p.1 in omega arith)
+most_by s n (Err why) h ih = rw h (omega arith)
 
-  pub next_is : (x : AdsRefactorInfo) → NextGives t (Some x) u → length xs ≡ number → Ok x ≡ numbered (left a) (length (left a)) number
-  next_is x gives at = ap answer (nth_from_yields_List (Some x) u number (xs, (t, given, gives), at) (all_given a))
-
-  pub none_is : NextGives t None u → length xs ≤ number → Err (NoSuchNumber (length xs) number) ≡ numbered (left a) (length (left a)) number
-  none_is gives past =
-      let long = YieldsList-end (all_given a) xs t given None u refl gives in
-      ap (λ n. Err (NoSuchNumber n number)) long.1 ∙ ap answer (nth_from_yields_List None u number (xs, (t, given, gives), past) (all_given a))
+pub listed_most : (s : Bor (List ℕ)) (n : ℕ) → length (listed s n) ≤ n
+unfolding listed
+listed_most s zero = omega arith
+listed_most s (suc n) = most_by s n (first_of s) refl (λ q. listed_most q n)

@@ -17,16 +17,18 @@ use Rattle.refusal.specs.declared.Refusal.{Refusal}
 use Rattle.refusal.specs.declared.Refusal.TheVariants.{TooLarge, EndByte}
 use Rattle.refusal.proofs.EndsMeant.{first_refused}
 use Rattle.writing.specs.Checks.{count_checked}
-use Rattle.writing.proofs.Entry.{both_passed, count_passed, entry_passed}
+use Rattle.part.proofs.Outcome.{both_passed}
+use Rattle.writing.proofs.Entry.{count_passed, entry_passed}
 use Rattle.refactor.specs.declared.AdsRefactorInfo.{AdsRefactorInfo}
 use Rattle.refactor.specs.declared.RefactorInfos.{RefactorInfos}
 use Rattle.refactor.specs.Refactor.{first_of, alone, chain_alone, infos_of, chain_of, ends, listed}
-use Rattle.refactor.specs.Chains.{end_byte}
+use Rattle.refactor.specs.Read.{AllEnded}
 use Rattle.refactor.specs.Block.{block_checked}
 use Rattle.refactor.specs.Writing.{entries_writing}
-use Rattle.refactor.specs.Modes.{Modes, RefactorsModes, ChainEnded, ChainModes, ChainsModes, IsBack, EntriesReadBack}
+use Rattle.refactor.specs.Modes.{end_byte, Modes, RefactorsModes, ChainModes, ChainsModes, IsBack, EntriesReadBack}
 use Rattle.refactor.proofs.Again.{blocks_read}
-use Rattle.refactor.proofs.Chains.{end_passes, passed_end, refused_first, zero_ends, all_pass}
+use Rattle.refactor.proofs.Turn.{end_passes}
+use Rattle.refactor.proofs.Chains.{refused_first, zero_ends, all_pass}
 
 module _ (mode : Mode) (count : ℕ) (block s : Bor (List ℕ)) (pos : 0 < count) where
   pub chain_by : (mode : Mode) (t : Bor (List ℕ)) → length t.now ≤ limit → chain_of t ≡ Ok (count, after t (length block.now)) → ended (ends t 0) ≡ Ok tt
@@ -52,6 +54,10 @@ entries_read_back mode count block s pos h =
     let b = both_passed (block_checked count block) a.1.1 in
     let c = entry_passed (bytes2 count ++ block.now) s.now b.1.1 in
     back mode count block s pos (count_passed count a.1.0) b.1.0 c.1 (omega (arith, ap length c.1, c.0))
+
+passed_end : (e : ℕ × ℕ) {u : Unit} → ended (e ∷ []) ≡ Ok u → e.1 ≡ 0
+unfolding ended
+passed_end e h = grind arith
 
 -- in both modes a refusal is the same one, and a record is this one
 module _ (s : Bor (List ℕ)) (b : AdsRefactorInfo) where
@@ -106,16 +112,16 @@ module _ (s : Bor (List ℕ)) where
     agree = λ h. simp l;
     ended = λ c h. absurd (let z : ◌≡◌ {A = ℕ} 0 1 = cc (simp l at h) in omega arith);
     large = λ mode h. simp (lt-ltb limit (length s.now) h);
-    first = λ q next at r k m z e n. checked_by k _ (refused_first s q next at r m z e n);
+    first = λ at before k st w z n. checked_by k _ (refused_first s at before st w z n);
   }
   by_length false l = record {
     agree = λ h. simp (l, all_pass s h);
     ended = by_ends (ended (ends s 0)) refl;
     large = λ mode h. simp (lt-ltb limit (length s.now) h);
-    first = λ q next at r k m z e n. checked_by k _ (refused_first s q next at r m z e n);
+    first = λ at before k st w z n. checked_by k _ (refused_first s at before st w z n);
   }
     where
-      by_ends : (e : Result Unit Refusal) → ended (ends s 0) ≡ e → (c : RefactorInfos × Bor (List ℕ)) → chain_alone Checked s ≡ Ok c → (chain_alone Present s ≡ Ok c) × ChainEnded s
+      by_ends : (e : Result Unit Refusal) → ended (ends s 0) ≡ e → (c : RefactorInfos × Bor (List ℕ)) → chain_alone Checked s ≡ Ok c → (chain_alone Present s ≡ Ok c) × AllEnded s.now 0
       by_ends (Err why) e c h = absurd (let z : ◌≡◌ {A = ℕ} 0 1 = cc (simp (l, e) at h) in omega arith)
       by_ends (Ok u) e c h = (simp l (simp (l, e) at h), zero_ends s e)
 

@@ -20,13 +20,12 @@ use Rattle.refactor.specs.Refactor.{first_of, alone, listed, chained, chain_of, 
 use Rattle.refactor.specs.Laid.{size, name_end, byte, followed, parts, Stands, here, behind}
 use Rattle.refactor.specs.Read.{First, first_short, first_cut, first_whole, Alone, too_large, short, cut, name_refused, accepted, Chain, chain_short, chain_cut, chain_whole, AllEnded, Ended, EndsRead, all_zero, at_name, ChainAlone, chain_large, chain_present, chain_refused, chain_ended, RefactorsRead}
 use Rattle.refactor.proofs.Again as again
-use Rattle.refactor.proofs.Again.{n_of, first_here, length_name, listed_here, after_after}
-use Rattle.refactor.proofs.Chains.{end_passes}
-use Rattle.refactor.proofs.Inside.{after_zero}
-use Rattle.refactor.proofs.Turn.{ends_refused, nothing_ended}
+use Rattle.part.proofs.Slice.{after_after, after_zero}
+use Rattle.refactor.proofs.Again.{n_of, first_here, length_name, listed_here}
+use Rattle.refactor.proofs.Turn.{end_passes, ends_refused, nothing_ended}
 
 module _ (s : Bor (List ℕ)) where
-  read_whole : size s.now ≤ length s.now → first_of s ≡ Ok (parts s, after s (size s.now))
+  pub read_whole : size s.now ≤ length s.now → first_of s ≡ Ok (parts s, after s (size s.now))
   read_whole h = first_here s (omega arith) ∙ ap (λ (k : ℕ). Ok (parts s, after s k)) (omega arith)
 
   first_by : (t : Bool) → ltb (length s.now) 7 ≡ t → (u : Bool) → ltb (length s.now) (n_of s + 7) ≡ u → First s

@@ -110,6 +110,10 @@ ends_here s at c n e h = tells s at c n h (Ok None) e
 pub is_bad : (s : Bor (List ℕ)) (at c n : ℕ) (why : Refusal) → turn s at ≡ Err why → c + length s.now ≤ n → ended (ends_from s at (n - c)) ≡ Err why
 is_bad s at c n why e h = tells s at c n h (Err why) e
 
+pub end_passes : (place byte : ℕ) → byte ≡ 0 → ended ((place, byte) ∷ []) ≡ Ok tt
+unfolding ended
+end_passes place byte h = simp h
+
 pub nothing_ended : (s : Bor (List ℕ)) (at : ℕ) → ended (ends_from s at 0) ≡ Ok tt
 unfolding ends_from ended
 nothing_ended s at = refl

@@ -1,40 +1,37 @@
 -- docs/FORMAT.md, "Refactor records": where the records that are listed lie, what a chain has, and what an answer to a number means.
-use Rattle.std.specs.Prelude.{ℕ, ◌+◌, ◌<◌, ◌≤◌, ◌≡◌, List, ◌∷◌, ◌++◌, Result, Ok, Err, ltb, length}
-use Rattle.std.specs.List.{All}
+use Rattle.std.specs.Prelude.{ℕ, ◌+◌, ◌<◌, ◌≤◌, ◌≡◌, List, [], ◌∷◌, ◌++◌, Ok, ltb, length}
 use Rattle.std.specs.Borrow.{Bor}
-use Rattle.part.specs.Slice.{part, after}
-use Rattle.refusal.specs.declared.Refusal.{Refusal}
-use Rattle.refusal.specs.declared.Refusal.TheVariants.{NoSuchNumber}
+use Rattle.part.specs.End.{IsEnd, IsString, rest_at}
+use Rattle.refusal.specs.ByNumber.{IsNumbered}
 use Rattle.refactor.specs.declared.AdsRefactorInfo.{AdsRefactorInfo}
 use Rattle.refactor.specs.Refactor.{listed, chain_of, numbered}
 
--- one inside these bytes, by place: the name with its end byte, then the next place
-pub record IsInside (s : Bor (List ℕ)) (r : AdsRefactorInfo) : Type 0 where
-  pub name_at : ℕ
-  pub next : ℕ
-  pub name : r.name ≡ part s name_at (length r.name.now)
-  pub ended : name_at + length r.name.now < next
-  pub whole : next ≤ length s.now
+-- records one after another from a place of an entry on up to another: the packed count, the name's length, the name with its end byte
+abbrev pub RefactorsLie : Bor (List ℕ) → ℕ → List AdsRefactorInfo → ℕ → Type 0
+RefactorsLie e at [] to = at ≡ to
+RefactorsLie e at (r ∷ more) to = IsString e (at + 6) r.name × RefactorsLie e (at + 6 + length r.name.now + 1) more to
+
+-- those that are listed of an entry's last bytes lie so from where these begin on
+pub record AreInside (e s : Bor (List ℕ)) (count : ℕ) : Type 0 where
+  pub end : ℕ
+  pub lie : RefactorsLie e (rest_at e s) (listed s count) end
+  pub whole : end ≤ length e.now
 
 abbrev pub RefactorsInside : Type 0
-RefactorsInside = (s : Bor (List ℕ)) (count : ℕ) → All (IsInside s) (listed s count)
+RefactorsInside = (e s : Bor (List ℕ)) (count : ℕ) → IsEnd e s → AreInside e s count
 
--- a chain has as many records as it counts, one at least; each tells a follower exactly where others stand behind it; after them come the bytes from a place inside on
-pub record IsChain (s : Bor (List ℕ)) (count : ℕ) (rest : Bor (List ℕ)) : Type 0 where
+-- a chain has as many records as it counts, one at least; each tells a follower exactly where others stand behind it; the bytes after it are the entry's last, from
+-- where its records end on
+pub record IsChain (e s : Bor (List ℕ)) (count : ℕ) (rest : Bor (List ℕ)) : Type 0 where
   pub some : 0 < count
   pub long : length (listed s count) ≡ count
   pub followed : (before behind : List AdsRefactorInfo) (r : AdsRefactorInfo) → listed s count ≡ before ++ (r ∷ behind) → r.next_refactor_info ≡ ltb 0 (length behind)
-  pub end : ℕ
-  pub after_it : rest ≡ after s end
-  pub whole : end ≤ length s.now
+  pub lie : RefactorsLie e (rest_at e s) (listed s count) (rest_at e rest)
+  pub after_it : IsEnd e rest
 
 abbrev pub ChainsCounted : Type 0
-ChainsCounted = (s : Bor (List ℕ)) (count : ℕ) (rest : Bor (List ℕ)) → chain_of s ≡ Ok (count, rest) → IsChain s count rest
+ChainsCounted = (e s : Bor (List ℕ)) (count : ℕ) (rest : Bor (List ℕ)) → IsEnd e s → chain_of s ≡ Ok (count, rest) → IsChain e s count rest
 
--- by number: the record before which so many stand; past the last 14, with how many there are and the number
-pub record IsNumbered (all : List AdsRefactorInfo) (number : ℕ) (answer : Result AdsRefactorInfo Refusal) : Type 0 where
-  pub shown : (before behind : List AdsRefactorInfo) (r : AdsRefactorInfo) → all ≡ before ++ (r ∷ behind) → length before ≡ number → answer ≡ Ok r
-  pub past : length all ≤ number → answer ≡ Err (NoSuchNumber (length all) number)
-
+-- by number
 abbrev pub RefactorsShown : Type 0
 RefactorsShown = (all : List AdsRefactorInfo) (number : ℕ) → IsNumbered all number (numbered all (length all) number)

@@ -1,6 +1,6 @@
 -- docs/FORMAT.md, "Refactor records": the record at the start of some bytes, by the bytes: the packed count at 0, the length of the name at 4, the name from 6 on, an
 -- end byte.
-use Rattle.std.specs.Prelude.{ℕ, suc, ◌+◌, ◌/◌, ◌%◌, ◌≤◌, ◌≡◌, Bool, true, List, eqb, length, get_or, bit_and, drop}
+use Rattle.std.specs.Prelude.{ℕ, suc, ◌+◌, ◌≤◌, ◌≡◌, Bool, true, List, eqb, length, get_or, bit_and, drop}
 use Rattle.std.specs.Borrow.{Bor}
 use Rattle.le.specs.Le.{le2, le4}
 use Rattle.part.specs.Slice.{part}
@@ -24,7 +24,7 @@ abbrev pub counted : List ℕ → ℕ
 counted s = bit_and (le4 s 0) 0x01111111
 
 abbrev pub followed : List ℕ → Bool
-followed s = eqb (le4 s 0 / 0x01000000 % 2) 1
+followed s = eqb (bit_and (le4 s 0) 0x01000000) 0x01000000
 
 abbrev pub parts : Bor (List ℕ) → AdsRefactorInfo
 parts s = record { refactor_count = counted s.now; next_refactor_info = followed s.now; name = part s 6 (name_length s.now) }

@@ -1,5 +1,5 @@
 -- docs/FORMAT.md, "Modes" and "Fit records": a refactor record and a chain in the two modes, by their bytes; what is written behind a count is read back.
-use Rattle.std.specs.Prelude.{ℕ, ◌+◌, ◌<◌, ◌≤◌, ◌≡◌, List, Ok, Err, length}
+use Rattle.std.specs.Prelude.{ℕ, ◌+◌, ◌<◌, ◌≤◌, ◌≡◌, List, Ok, Err, length, get_or, drop}
 use Rattle.std.specs.Borrow.{Bor}
 use Rattle.le.specs.Le.{le2}
 use Rattle.part.specs.Slice.{after}
@@ -10,10 +10,15 @@ use Rattle.refusal.specs.declared.Refusal.{Refusal}
 use Rattle.refusal.specs.declared.Refusal.TheVariants.{TooLarge, NoSuchNumber, EndByte}
 use Rattle.refactor.specs.declared.AdsRefactorInfo.{AdsRefactorInfo}
 use Rattle.refactor.specs.declared.RefactorInfos.{RefactorInfos}
-use Rattle.refactor.specs.Refactor.{first_of, alone, chain_alone, listed, numbered}
-use Rattle.refactor.specs.Chains.{Meets, end_byte}
+use Rattle.refactor.specs.Refactor.{alone, chain_alone, listed, numbered}
+use Rattle.refactor.specs.Laid.{size, name_end, byte, Stands}
+use Rattle.refactor.specs.Read.{AllEnded, Ended}
 use Rattle.refactor.specs.Told.{told}
 use Rattle.refactor.specs.Writing.{entries_writing}
+
+-- the end byte of a record that stands at the start of some bytes
+abbrev pub end_byte : Bor (List ℕ) → AdsRefactorInfo → ℕ
+end_byte q r = get_or q.now (6 + length r.name.now) 0
 
 -- read alone: the checked mode accepts exactly what the present mode accepts and is ended by 0, and reads it alike; what the present mode refuses it refuses
 -- alike; anything else it refuses by the end byte
@@ -26,22 +31,14 @@ pub record Modes (s : Bor (List ℕ)) : Type 0 where
 abbrev pub RefactorsModes : Type 0
 RefactorsModes = (s : Bor (List ℕ)) → Modes s
 
--- 0 follows the name of each record that a chain meets before a place
-abbrev pub EndedTo : Bor (List ℕ) → ℕ → Type 0
-EndedTo s place = (q next : Bor (List ℕ)) (at : ℕ) (r : AdsRefactorInfo) → Meets s q at → at < place → first_of q ≡ Ok (r, next) → end_byte q r ≡ 0
-
--- of all that it meets: it need not be a whole chain
-abbrev pub ChainEnded : Bor (List ℕ) → Type 0
-ChainEnded s = (place : ℕ) → EndedTo s place
-
 -- a chain read alone: the modes agree where every record that it meets is ended, also where one is refused, and the checked mode accepts nothing else; bytes
 -- beyond the limit are refused first, in either; else the first end byte that is not 0 refuses, whatever stands behind it
 pub record ChainModes (s : Bor (List ℕ)) : Type 0 where
-  pub agree : ChainEnded s → chain_alone Checked s ≡ chain_alone Present s
-  pub ended : (c : RefactorInfos × Bor (List ℕ)) → chain_alone Checked s ≡ Ok c → (chain_alone Present s ≡ Ok c) × ChainEnded s
+  pub agree : AllEnded s.now 0 → chain_alone Checked s ≡ chain_alone Present s
+  pub ended : (c : RefactorInfos × Bor (List ℕ)) → chain_alone Checked s ≡ Ok c → (chain_alone Present s ≡ Ok c) × AllEnded s.now 0
   pub large : (mode : Mode) → limit < length s.now → chain_alone mode s ≡ Err (TooLarge (length s.now))
-  pub first : (q next : Bor (List ℕ)) (at : ℕ) (r : AdsRefactorInfo) → length s.now ≤ limit → Meets s q at → EndedTo s at → first_of q ≡ Ok (r, next) → (end_byte q r ≡ 0 → ⊥)
-      → chain_alone Checked s ≡ Err (EndByte (at + (6 + length r.name.now)) (end_byte q r))
+  pub first : (at before : ℕ) → length s.now ≤ limit → Stands s.now 0 at before → size (drop at s.now) ≤ length (drop at s.now) → Ended s.now 0 before → (byte (drop at s.now) (name_end (drop at s.now)) ≡ 0 → ⊥)
+      → chain_alone Checked s ≡ Err (EndByte (at + name_end (drop at s.now)) (byte (drop at s.now) (name_end (drop at s.now))))
 
 abbrev pub ChainsModes : Type 0
 ChainsModes = (s : Bor (List ℕ)) → ChainModes s

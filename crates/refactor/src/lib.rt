@@ -53,7 +53,8 @@ pub fn first(bytes: &[u8]) -> Result<(AdsRefactorInfo<'_>, &[u8]), Refusal>
     let packed = le::u32_at(bytes, 0);
     let info = AdsRefactorInfo {
         refactor_count: packed & AdsRefactorInfo::REFACTOR_COUNT_MASK,
-        next_refactor_info: packed / AdsRefactorInfo::NEXT_REFACTOR_INFO_MASK % 2 == 1,
+        next_refactor_info: packed & AdsRefactorInfo::NEXT_REFACTOR_INFO_MASK
+            == AdsRefactorInfo::NEXT_REFACTOR_INFO_MASK,
         name: &bytes[6..6 + name],
     };
     Ok((info, &bytes[needed..]))
@@ -195,19 +196,17 @@ impl<'a> RefactorInfos<'a> {
     }
 
     /// The record with a number, counted from 0; past the last 14, with how many there are.
-    pub fn get(self, number: usize) -> Result<AdsRefactorInfo<'a>, Refusal>
+    #[tactic(auto, using(crate::proofs::Left::listed_most))]
+    pub fn get(mut self, number: usize) -> Result<AdsRefactorInfo<'a>, Refusal>
         ensures { let all = left self.entry in result ≡ numbered all (length all) number }
     {
-        let mut count = 0;
-        for info in self {
-            if count == number {
-                return Ok(info);
-            }
-            count += 1;
+        let all = self;
+        match self.nth(number) {
+            Some(info) => Ok(info),
+            None => Err(Refusal::NoSuchNumber {
+                count: all.count(),
+                asked: number,
+            }),
         }
-        Err(Refusal::NoSuchNumber {
-            count,
-            asked: number,
-        })
     }
 }

@@ -29,12 +29,13 @@ pub fn chains_modes()
     ensures { ChainsModes }
 {}
 
-/// The name of a record that is listed lies inside the bytes that it was listed from, with its end byte.
+/// Records that are listed of an entry's last bytes lie in the entry one after another, each name at its place with its end byte.
 pub fn refactors_inside()
     ensures { RefactorsInside }
 {}
 
-/// A chain has as many records as it counts, and each tells a follower exactly where others stand behind it.
+/// A chain has as many records as it counts, and each tells a follower exactly where others stand behind it; the bytes after it
+/// begin where its records end.
 pub fn chains_counted()
     ensures { ChainsCounted }
 {}

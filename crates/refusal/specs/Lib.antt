@@ -3,3 +3,4 @@ pub mod EndBytes
 pub mod EndsMeant
 pub mod FiguresMeant
 pub mod Text
+pub mod ByNumber

@@ -15,7 +15,7 @@ ghost use Rattle.salvage.specs.Meaning.{SalvageMeant, CoverOnce};
 ghost use Rattle.salvage.specs.Both.{WritesBoth, OneWritingBoth};
 
 use refusal::{LIMIT, Mode, Refusal};
-use walk::{Entry, Walker};
+use walk::{Accepted, Accepts, Entry, Walker};
 
 /// How many bytes of the new upload and how many slots of the list were written.
 #[derive(Clone, Copy, Debug, PartialEq, Eq)]
@@ -86,7 +86,7 @@ fn write<'a, E: Entry<'a>>(bytes: &'a [u8], mode: Mode, out: &mut [u8], runs: &m
 /// Copies each accepted entry to the new upload `out`, unchanged and in order, and lists in `runs` what was dropped, three slots each: where it starts, how
 /// long it is, and the number of the refusal; what a zero claim leaves is one run, under 10. Refuses with 5, then with 6 for `out`, then with 6 for `runs`.
 /// The upload is walked before a byte is written, so a refusal leaves both as they were.
-pub fn salvage<'a, E: Entry<'a>>(
+pub fn salvage<'a, E: Accepts<'a>>(
     bytes: &'a [u8],
     mode: Mode,
     out: &mut [u8],
@@ -98,7 +98,7 @@ pub fn salvage<'a, E: Entry<'a>>(
     if length > LIMIT {
         return Err(Refusal::TooLarge { length });
     }
-    let needed = measure::<E>(bytes, mode);
+    let needed = measure::<Accepted<E>>(bytes, mode);
     let lent = out.len();
     if lent < needed.bytes {
         return Err(Refusal::OutputTooSmall {
@@ -113,7 +113,7 @@ pub fn salvage<'a, E: Entry<'a>>(
             lent: free,
         });
     }
-    write::<E>(bytes, mode, out, runs);
+    write::<Accepted<E>>(bytes, mode, out, runs);
     Ok(needed)
 }
 

@@ -7,7 +7,8 @@ use Rattle.refusal.specs.Refusal.{limit}
 use Rattle.attribute.specs.Block as attribute
 use Rattle.refactor.specs.Block as refactor
 use Rattle.writing.specs.Checks.{IsShort}
-use Rattle.writing.proofs.Entry.{both_passed, strings_passed, count_passed, entry_passed}
+use Rattle.part.proofs.Outcome.{both_passed}
+use Rattle.writing.proofs.Entry.{strings_passed, count_passed, entry_passed}
 use Rattle.symbol.specs.declared.writer.NewSymbol.{NewSymbol}
 use Rattle.symbol.specs.Symbol.{type_guid_flag, attributes_flag, extended_flags_flag, refactor_info_flag}
 use Rattle.symbol.specs.Writing.{flagged, agree, sections_checked, symbol_bytes, symbol_checked, symbol_written}

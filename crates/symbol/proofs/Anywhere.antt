@@ -5,7 +5,6 @@ use Rattle.le.specs.Le.{le2, le4, has}
 use Rattle.part.specs.Slice.{part, after}
 use Rattle.part.specs.Outcome.{and_then}
 use Rattle.attribute.specs.Attribute as attribute
-use Rattle.attribute.specs.declared.AdsAttribute.{AdsAttribute}
 use Rattle.attribute.specs.declared.Attributes.{Attributes}
 use Rattle.refactor.specs.Refactor as refactor
 use Rattle.refactor.specs.declared.AdsRefactorInfo.{AdsRefactorInfo}
@@ -18,63 +17,16 @@ use Rattle.refusal.specs.declared.Refusal.TheVariants.{TooShort, UnexpectedLengt
 use Rattle.walk.specs.Mapped.{map_ok}
 use Rattle.symbol.specs.declared.AdsSymbolInfo.{AdsSymbolInfo}
 use Rattle.attribute.specs.Told as attributes
+use Rattle.attribute.proofs.Anywhere.{moved, on, attributes_at, count_moved, attributes_end, attributes_told, rest_moved}
 use Rattle.refactor.specs.Told as refactors
 use Rattle.symbol.specs.Told.{told_of, SymbolsAnywhere}
 use Rattle.symbol.specs.Symbol.{type_guid_flag, attributes_flag, extended_flags_flag, refactor_info_flag, guid_of, attributes_of, extended_of, extended_word, refactor_infos_of, with_strings, symbol_ended, ended_symbol, symbol_of}
-
--- the same bytes at another place
-abbrev pub moved : ℕ × ℕ → Bor (List ℕ) → Bor (List ℕ)
-moved m s = record { ref_ptr = m; now = s.now }
-
-abbrev pub on : ℕ × ℕ → ℕ → ℕ × ℕ
-on m k = (m.0, m.1 + k)
 
 -- two answers of a reader: the same refusal, or values and the bytes after them, as many further on
 abbrev Both : {A : Type 0} → (ℕ → ℕ → Bor (List ℕ) → A) → ℕ × ℕ → Bor (List ℕ) → Result (A × Bor (List ℕ)) Refusal → Result (A × Bor (List ℕ)) Refusal → Type 0
 Both made m s a b =
     ((why : Refusal) × (a ≡ Err why) × (b ≡ Err why))
     ⊎ ((n : ℕ) × (v : ℕ) × (k : ℕ) × (a ≡ Ok (made n v (moved m s), after (moved m s) k)) × (b ≡ Ok (made n v s, after s k)))
-
-abbrev attribute_in : ℕ → ℕ → Bor (List ℕ) → AdsAttribute
-attribute_in n v s = record { name = part s 2 n; value = part s (n + 3) v }
-
-attribute_by : (m : ℕ × ℕ) (s : Bor (List ℕ)) (n v : ℕ) (b c : Bool) → ltb (length s.now) 4 ≡ b → ltb (length s.now) (n + v + 4) ≡ c
-    → Both attribute_in m s (attribute.sized (moved m s) n v) (attribute.sized s n v)
-attribute_by m s n v true c p q = inl (TooShort 4 (length s.now), rw p refl, rw p refl)
-attribute_by m s n v false true p q = inl (UnexpectedLength (n + v + 4) (length s.now), rw (p, q) refl, rw (p, q) refl)
-attribute_by m s n v false false p q = inr (n, v, n + v + 4, rw (p, q) refl, rw (p, q) refl)
-
-first_attribute : (m : ℕ × ℕ) (s : Bor (List ℕ)) → Both attribute_in m s (attribute.first_of (moved m s)) (attribute.first_of s)
-unfolding attribute.first_of
-first_attribute m s = attribute_by m s (get_or s.now 0 0) (get_or s.now 1 0) _ _ refl refl
-
-count_moved : (m : ℕ × ℕ) (s : Bor (List ℕ)) (n : ℕ) → length (attribute.listed (moved m s) n) ≡ length (attribute.listed s n)
-unfolding attribute.listed
-count_moved m s zero = refl
-count_moved m s (suc n) = elim (first_attribute m s) [
-  | inl w ↦ rw (w.1, w.2) refl
-  | inr w ↦ rw (w.3, w.4) (ap suc (count_moved (on m w.2) (after s w.2) n))
-]
-
-attributes_end : (m : ℕ × ℕ) (s : Bor (List ℕ)) (at n : ℕ) → attribute.ends (moved m s) at n ≡ attribute.ends s at n
-unfolding attribute.ends
-attributes_end m s at zero = refl
-attributes_end m s at (suc n) = elim (first_attribute m s) [
-  | inl w ↦ rw (w.1, w.2) refl
-  | inr w ↦ rw (w.3, w.4, attributes_end (on m w.2) (after s w.2) _ n) refl
-]
-
--- bytes that were moved, and to where
-abbrev Moved : Bor (List ℕ) → Bor (List ℕ) → Type 0
-Moved s t = (m : ℕ × ℕ) × (t ≡ moved m s)
-
-rest_moved : (m : ℕ × ℕ) (s : Bor (List ℕ)) (n : ℕ) → Moved (attribute.after_listed s n) (attribute.after_listed (moved m s) n)
-unfolding attribute.after_listed
-rest_moved m s zero = (m, refl)
-rest_moved m s (suc n) = elim (first_attribute m s) [
-  | inl w ↦ rw (w.1, w.2) (m, refl)
-  | inr w ↦ rw (w.3, w.4) (rest_moved (on m w.2) (after s w.2) n)
-]
 
 -- refactor records
 abbrev record_in : ℕ → ℕ → Bor (List ℕ) → AdsRefactorInfo
@@ -129,9 +81,6 @@ unfolding extended_of
 extended_moved m s true true p = (on m 4, rw p refl)
 extended_moved m s true false p = (m, rw p refl)
 extended_moved m s false c p = (m, refl)
-
-abbrev attributes_at : ℕ × ℕ → Attributes → Attributes
-attributes_at m a = record { bytes = moved m a.bytes; count = a.count }
 
 abbrev infos_at : ℕ × ℕ → RefactorInfos → RefactorInfos
 infos_at m a = record { bytes = moved m a.bytes; count = a.count }
@@ -223,14 +172,6 @@ read_still mode m e =
     read_by mode m e n t k (TooShort 30 (length e.now)) (EntryLengthMismatch (33 + n + t + k) (length e.now)) (ltb (length e.now) 30) (ltb (length e.now) (33 + n + t + k))
 
 -- what it tells
-attributes_told : (m : ℕ × ℕ) (s : Bor (List ℕ)) (n : ℕ) → attributes.told (attribute.listed (moved m s) n) ≡ attributes.told (attribute.listed s n)
-unfolding attribute.listed
-attributes_told m s zero = refl
-attributes_told m s (suc n) = elim (first_attribute m s) [
-  | inl w ↦ rw (w.1, w.2) refl
-  | inr w ↦ rw (w.3, w.4) (ap (λ l. attributes.told_of (attribute_in w.0 w.1 s) ∷ l) (attributes_told (on m w.2) (after s w.2) n))
-]
-
 records_told : (m : ℕ × ℕ) (s : Bor (List ℕ)) (n : ℕ) → refactors.told (refactor.listed (moved m s) n) ≡ refactors.told (refactor.listed s n)
 unfolding refactor.listed
 records_told m s zero = refl

@@ -18,7 +18,8 @@ use Rattle.writing.specs.Layout.{strings_bytes, attributes_bytes, entry_bytes}
 use Rattle.writing.proofs.Laid as laid
 use Rattle.symbol.specs.declared.writer.NewSymbol.{NewSymbol}
 use Rattle.symbol.specs.declared.AdsSymbolInfo.{AdsSymbolInfo}
-use Rattle.symbol.specs.Symbol.{type_guid_flag, attributes_flag, extended_flags_flag, refactor_info_flag, guid_of, attributes_of, extended_of, refactor_infos_of, with_strings, string_ends, attribute_ends, refactor_ends, place_in, symbol_ended, ended_symbol, symbol_of}
+use Rattle.part.specs.End.{rest_at}
+use Rattle.symbol.specs.Symbol.{type_guid_flag, attributes_flag, extended_flags_flag, refactor_info_flag, guid_of, attributes_of, extended_of, refactor_infos_of, with_strings, string_ends, attribute_ends, refactor_ends, symbol_ended, ended_symbol, symbol_of}
 use Rattle.symbol.specs.Writing.{flagged, guid_bytes, extended_bytes, header_bytes, sections_bytes}
 use Rattle.symbol.specs.Told.{told_of, meant, IsTyped}
 use Rattle.symbol.proofs.Accepted.{Accepted}
@@ -182,7 +183,7 @@ module _ (n : NewSymbol) (t : IsTyped n) (a : Accepted n) (extra : List ℕ) (fi
   attributes_end : ended (attribute_ends e back) ≡ Ok tt
   attributes_end = rw attributes_there (attributes_is.ended _)
 
-  chain_end_by : (b : Bool) → has n.extended_flags.0 refactor_info_flag ≡ b → ended (if b then refactor.ends back.refactor_infos.bytes (place_in e back.refactor_infos.bytes) else []) ≡ Ok tt
+  chain_end_by : (b : Bool) → has n.extended_flags.0 refactor_info_flag ≡ b → ended (if b then refactor.ends back.refactor_infos.bytes (rest_at e back.refactor_infos.bytes) else []) ≡ Ok tt
   unfolding ended
   chain_end_by true h = rw chain_there (chain_is.ended h _)
   chain_end_by false h = refl

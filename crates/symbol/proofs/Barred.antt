@@ -11,13 +11,13 @@ use Rattle.refusal.specs.declared.Refusal.TheVariants.{TooLong, SectionsDisagree
 use Rattle.attribute.specs.Block as attribute
 use Rattle.refactor.specs.Block as refactor
 use Rattle.writing.specs.Checks.{count_checked, strings_checked, size_checked, entry_checked, IsShort}
-use Rattle.writing.proofs.Entry.{both_passed, count_passed, strings_passed}
+use Rattle.part.proofs.Outcome.{both_passed}
+use Rattle.writing.proofs.Entry.{count_passed, strings_passed}
 use Rattle.symbol.specs.declared.writer.NewSymbol.{NewSymbol}
 use Rattle.symbol.specs.Symbol.{type_guid_flag, attributes_flag, extended_flags_flag, refactor_info_flag}
 use Rattle.symbol.specs.Told.{IsTyped}
 use Rattle.symbol.specs.Writing.{flagged, agree, symbol_bytes, sections_checked, symbol_checked, symbol_written}
-use Rattle.symbol.specs.Writable.{size_of}
-use Rattle.symbol.specs.Barred.{HasGoodParts, GuidAgrees, AttributesAgree, ExtendedAgree, ChainAgrees, IsBarred, name, type_name, comment, count, attributes, refactor_infos, guid, unflagged_attributes, unflagged_word, chain, size, SymbolsBarred}
+use Rattle.symbol.specs.Barred.{size_of, HasGoodParts, GuidAgrees, AttributesAgree, ExtendedAgree, ChainAgrees, IsBarred, name, type_name, comment, count, attributes, refactor_infos, guid, unflagged_attributes, unflagged_word, chain, size, SymbolsBarred}
 use Rattle.symbol.proofs.Accepted.{agreed}
 use Rattle.symbol.proofs.Sections.{same_test}
 use Rattle.symbol.proofs.Writable.{unflagged_none, test_same, none_unflagged, strings_pass, size_is}

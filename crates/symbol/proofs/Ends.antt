@@ -10,15 +10,17 @@ use Rattle.refusal.specs.declared.Refusal.TheVariants.{EndByte}
 use Rattle.attribute.specs.declared.AdsAttribute.{AdsAttribute}
 use Rattle.attribute.specs.Attribute as attribute
 use Rattle.attribute.proofs.Again as attributes
+use Rattle.attribute.proofs.Inside.{attribute_name, attribute_value, attribute_next, attribute_rest}
 use Rattle.attribute.proofs.Laws.{listed_more, listed_stop, listed_none}
 use Rattle.refactor.specs.declared.AdsRefactorInfo.{AdsRefactorInfo}
 use Rattle.refactor.specs.Refactor as refactor
 use Rattle.refactor.proofs.Again as refactors
+use Rattle.refactor.proofs.Inside.{refactor_name, refactor_next, refactor_rest}
 use Rattle.symbol.specs.declared.AdsSymbolInfo.{AdsSymbolInfo}
-use Rattle.symbol.specs.Symbol.{place_in, extended_word, refactor_info_flag, string_ends, attribute_ends, refactor_ends, symbol_ended}
-use Rattle.symbol.specs.Inside.{IsString, IsTail, IsInside}
+use Rattle.symbol.specs.Symbol.{extended_word, refactor_info_flag, string_ends, attribute_ends, refactor_ends, symbol_ended}
+use Rattle.part.specs.End.{IsEnd, IsString, rest_at}
+use Rattle.symbol.specs.Inside.{IsInside}
 use Rattle.symbol.specs.Modes.{end_in, attribute_strings, met, met_names, strings_of}
-use Rattle.symbol.proofs.Lies.{attribute_name, attribute_value, attribute_next, attribute_rest, refactor_name, refactor_next, refactor_rest}
 
 -- the place behind a string, and the byte there
 abbrev pub end_of : Bor (List ℕ) → Bor (List ℕ) → ℕ × ℕ
@@ -30,13 +32,13 @@ end_at e k = (k, get_or e.now k 0)
 string_end : (e s : Bor (List ℕ)) (at : ℕ) → IsString e at s → end_in e s ≡ at + length s.now
 string_end e s at i = omega (arith, ap (λ (q : Bor (List ℕ)). q.ref_ptr.1) i.is)
 
-byte_in : (e s : Bor (List ℕ)) (k : ℕ) → IsTail e s → get_or s.now k 0 ≡ get_or e.now (place_in e s + k) 0
-byte_in e s k a = ap (λ (q : Bor (List ℕ)). get_or q.now k 0) a.is ∙ get_or-drop (place_in e s) e.now k 0
+byte_in : (e s : Bor (List ℕ)) (k : ℕ) → IsEnd e s → get_or s.now k 0 ≡ get_or e.now (rest_at e s + k) 0
+byte_in e s k a = ap (λ (q : Bor (List ℕ)). get_or q.now k 0) a.is ∙ get_or-drop (rest_at e s) e.now k 0
 
 -- counted from an entry's last bytes, or from its start
-end_is : (e s q : Bor (List ℕ)) (k at : ℕ) → IsTail e s → IsString e at q → at + length q.now ≡ place_in e s + k → (place_in e s + k, get_or s.now k 0) ≡ end_of e q
+end_is : (e s q : Bor (List ℕ)) (k at : ℕ) → IsEnd e s → IsString e at q → at + length q.now ≡ rest_at e s + k → (rest_at e s + k, get_or s.now k 0) ≡ end_of e q
 end_is e s q k at a i h =
-    ap (λ (y : ℕ). (place_in e s + k, y)) (byte_in e s k a) ∙ ap (end_at e) (sym h ∙ sym (string_end e q at i))
+    ap (λ (y : ℕ). (rest_at e s + k, y)) (byte_in e s k a) ∙ ap (end_at e) (sym h ∙ sym (string_end e q at i))
 
 attribute_stop : (s : Bor (List ℕ)) (at left : ℕ) (why : Refusal) → attribute.first_of s ≡ Err why → attribute.ends s at (suc left) ≡ []
 unfolding attribute.ends
@@ -54,27 +56,27 @@ two_strings : (a : AdsAttribute) (more : List AdsAttribute) → attribute_string
 unfolding attribute_strings
 two_strings a more = refl
 
-attributes_end_by : (e s : Bor (List ℕ)) (left : ℕ) → IsTail e s → (w : Result (AdsAttribute × Bor (List ℕ)) Refusal) → attribute.first_of s ≡ w
-    → ((q : Bor (List ℕ)) → IsTail e q → attribute.ends q (place_in e q) left ≡ map (end_of e) (attribute_strings (attribute.listed q left)))
-    → attribute.ends s (place_in e s) (suc left) ≡ map (end_of e) (attribute_strings (attribute.listed s (suc left)))
-attributes_end_by e s left a (Err why) h ih = rw (attribute_stop s (place_in e s) left why h, listed_stop s left why h, no_strings) refl
+attributes_end_by : (e s : Bor (List ℕ)) (left : ℕ) → IsEnd e s → (w : Result (AdsAttribute × Bor (List ℕ)) Refusal) → attribute.first_of s ≡ w
+    → ((q : Bor (List ℕ)) → IsEnd e q → attribute.ends q (rest_at e q) left ≡ map (end_of e) (attribute_strings (attribute.listed q left)))
+    → attribute.ends s (rest_at e s) (suc left) ≡ map (end_of e) (attribute_strings (attribute.listed s (suc left)))
+attributes_end_by e s left a (Err why) h ih = rw (attribute_stop s (rest_at e s) left why h, listed_stop s left why h, no_strings) refl
 attributes_end_by e s left a (Ok p) h ih =
     let t = attributes.fits s p h in
     let f = attributes.first_here s t in
     let n = attributes.length_name s t in
     let v = attributes.length_value s t in
     let q : AdsAttribute × Bor (List ℕ) = attributes.here s in
-    let name = end_is e s q.0.name (2 + attributes.n_of s) (place_in e s + 2) a (attribute_name e s a t) (omega (arith, n)) in
-    let value = end_is e s q.0.value (2 + attributes.n_of s + 1 + attributes.v_of s) (place_in e s + 2 + length q.0.name.now + 1) a (attribute_value e s a t) (omega (arith, n, v)) in
-    let next : place_in e s + (2 + attributes.n_of s + 1 + attributes.v_of s) + 1 ≡ place_in e q.1 = omega (arith, n, v, attribute_next e s a t) in
-    attributes.ends_here s (place_in e s) left t
-    ∙ ap₂ (λ (x y : ℕ × ℕ). x ∷ y ∷ attribute.ends q.1 (place_in e s + (2 + attributes.n_of s + 1 + attributes.v_of s) + 1) left) name value
+    let name = end_is e s q.0.name (2 + attributes.n_of s) (rest_at e s + 2) a (attribute_name e s a t) (omega (arith, n)) in
+    let value = end_is e s q.0.value (2 + attributes.n_of s + 1 + attributes.v_of s) (rest_at e s + 2 + length q.0.name.now + 1) a (attribute_value e s a t) (omega (arith, n, v)) in
+    let next : rest_at e s + (2 + attributes.n_of s + 1 + attributes.v_of s) + 1 ≡ rest_at e q.1 = omega (arith, n, v, attribute_next e s a t) in
+    attributes.ends_here s (rest_at e s) left t
+    ∙ ap₂ (λ (x y : ℕ × ℕ). x ∷ y ∷ attribute.ends q.1 (rest_at e s + (2 + attributes.n_of s + 1 + attributes.v_of s) + 1) left) name value
     ∙ ap (λ (k : ℕ). end_of e q.0.name ∷ end_of e q.0.value ∷ attribute.ends q.1 k left) next
     ∙ ap (λ (l : List (ℕ × ℕ)). end_of e q.0.name ∷ end_of e q.0.value ∷ l) (ih q.1 (attribute_rest e s a t))
     ∙ sym (ap (map (end_of e)) (ap attribute_strings (listed_more s left q f) ∙ two_strings q.0 (attribute.listed q.1 left)))
 
-attributes_end : (e s : Bor (List ℕ)) (left : ℕ) → IsTail e s → attribute.ends s (place_in e s) left ≡ map (end_of e) (attribute_strings (attribute.listed s left))
-attributes_end e s zero a = rw (attribute_none s (place_in e s), listed_none s, no_strings) refl
+attributes_end : (e s : Bor (List ℕ)) (left : ℕ) → IsEnd e s → attribute.ends s (rest_at e s) left ≡ map (end_of e) (attribute_strings (attribute.listed s left))
+attributes_end e s zero a = rw (attribute_none s (rest_at e s), listed_none s, no_strings) refl
 attributes_end e s (suc left) a = attributes_end_by e s left a (attribute.first_of s) refl (λ q b. attributes_end e q left b)
 
 abbrev name_of : AdsRefactorInfo → Bor (List ℕ)
@@ -83,27 +85,27 @@ name_of r = r.name
 abbrev met_ends : Bor (List ℕ) → Bor (List ℕ) → ℕ → List (ℕ × ℕ)
 met_ends e s left = map (end_of e) (map name_of (met s left))
 
-chain_on : (e s : Bor (List ℕ)) (left : ℕ) (b : Bool) → refactor.ends_from s (place_in e s) left ≡ met_ends e s left
-    → (if b then refactor.ends_from s (place_in e s) left else []) ≡ map (end_of e) (map name_of (if b then met s left else []))
+chain_on : (e s : Bor (List ℕ)) (left : ℕ) (b : Bool) → refactor.ends_from s (rest_at e s) left ≡ met_ends e s left
+    → (if b then refactor.ends_from s (rest_at e s) left else []) ≡ map (end_of e) (map name_of (if b then met s left else []))
 chain_on e s left true h = h
 chain_on e s left false h = refl
 
-chain_end_by : (e s : Bor (List ℕ)) (left : ℕ) → IsTail e s → (w : Result (AdsRefactorInfo × Bor (List ℕ)) Refusal) → refactor.first_of s ≡ w
-    → ((q : Bor (List ℕ)) → IsTail e q → refactor.ends_from q (place_in e q) left ≡ met_ends e q left)
-    → refactor.ends_from s (place_in e s) (suc left) ≡ met_ends e s (suc left)
+chain_end_by : (e s : Bor (List ℕ)) (left : ℕ) → IsEnd e s → (w : Result (AdsRefactorInfo × Bor (List ℕ)) Refusal) → refactor.first_of s ≡ w
+    → ((q : Bor (List ℕ)) → IsEnd e q → refactor.ends_from q (rest_at e q) left ≡ met_ends e q left)
+    → refactor.ends_from s (rest_at e s) (suc left) ≡ met_ends e s (suc left)
 unfolding refactor.ends_from met
 chain_end_by e s left a (Err why) h ih = simp h
 chain_end_by e s left a (Ok p) h ih =
     let t = refactors.fits s p h in
     let f = refactors.first_here s t in
     let q : AdsRefactorInfo × Bor (List ℕ) = refactors.here s in
-    let name = end_is e s q.0.name (6 + length q.0.name.now) (place_in e s + 6) a (refactor_name e s a t) (omega arith) in
-    let next : place_in e s + (6 + length q.0.name.now) + 1 ≡ place_in e q.1 = omega (arith, refactor_next e s a t) in
-    let rest : (if q.0.next_refactor_info then refactor.ends_from q.1 (place_in e s + (6 + length q.0.name.now) + 1) left else []) ≡ map (end_of e) (map name_of (if q.0.next_refactor_info then met q.1 left else [])) =
+    let name = end_is e s q.0.name (6 + length q.0.name.now) (rest_at e s + 6) a (refactor_name e s a t) (omega arith) in
+    let next : rest_at e s + (6 + length q.0.name.now) + 1 ≡ rest_at e q.1 = omega (arith, refactor_next e s a t) in
+    let rest : (if q.0.next_refactor_info then refactor.ends_from q.1 (rest_at e s + (6 + length q.0.name.now) + 1) left else []) ≡ map (end_of e) (map name_of (if q.0.next_refactor_info then met q.1 left else [])) =
     ap (λ (k : ℕ). if q.0.next_refactor_info then refactor.ends_from q.1 k left else []) next ∙ chain_on e q.1 left q.0.next_refactor_info (ih q.1 (refactor_rest e s a t)) in
     simp f (ap₂ (λ (x : ℕ × ℕ) (l : List (ℕ × ℕ)). x ∷ l) name rest)
 
-chain_end : (e s : Bor (List ℕ)) (left : ℕ) → IsTail e s → refactor.ends_from s (place_in e s) left ≡ met_ends e s left
+chain_end : (e s : Bor (List ℕ)) (left : ℕ) → IsEnd e s → refactor.ends_from s (rest_at e s) left ≡ met_ends e s left
 unfolding refactor.ends_from met
 chain_end e s zero a = refl
 chain_end e s (suc left) a = chain_end_by e s left a (refactor.first_of s) refl (λ q b. chain_end e q left b)
@@ -131,7 +133,7 @@ module _ (e : Bor (List ℕ)) (r : AdsSymbolInfo) (i : IsInside e r) where
       ∙ ap (λ (x : ℕ). end_of e r.name ∷ end_at e x ∷ end_at e (30 + length r.name.now + 1 + length r.type_name.now + 1 + length r.comment.now) ∷ []) t'
       ∙ ap (λ (x : ℕ). end_of e r.name ∷ end_of e r.type_name ∷ end_at e x ∷ []) k'
 
-  chain_by : (b : Bool) → (if b then refactor.ends r.refactor_infos.bytes (place_in e r.refactor_infos.bytes) else []) ≡ map (end_of e) (if b then met_names r.refactor_infos.bytes else [])
+  chain_by : (b : Bool) → (if b then refactor.ends r.refactor_infos.bytes (rest_at e r.refactor_infos.bytes) else []) ≡ map (end_of e) (if b then met_names r.refactor_infos.bytes else [])
   chain_by true = chain_end e r.refactor_infos.bytes (length r.refactor_infos.bytes.now) i.refactor_bytes
   chain_by false = refl
 

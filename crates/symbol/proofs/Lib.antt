@@ -1,11 +1,8 @@
 pub mod Within
 pub mod Laws
-pub mod Tails
 pub mod Lies
 pub mod Ends
 pub mod Modes
-pub mod Shown
-pub mod HeadLaws
 pub mod Sizes
 pub mod Sections
 pub mod Accepted

@@ -18,8 +18,9 @@ use Rattle.refactor.specs.Chains.{IsRefused}
 use Rattle.refactor.specs.Refactor as refactor
 use Rattle.refactor.proofs.Chains.{chains_refused}
 use Rattle.symbol.specs.declared.AdsSymbolInfo.{AdsSymbolInfo}
-use Rattle.symbol.specs.Symbol.{place_in, type_guid_flag, attributes_flag, extended_flags_flag, refactor_info_flag, extended_word, guid_of, attributes_of, extended_of, refactor_infos_of, with_strings, ended_symbol, symbol_of}
-use Rattle.symbol.specs.Inside.{IsTail, behind_guid}
+use Rattle.symbol.specs.Symbol.{type_guid_flag, attributes_flag, extended_flags_flag, refactor_info_flag, extended_word, guid_of, attributes_of, extended_of, refactor_infos_of, with_strings, ended_symbol, symbol_of}
+use Rattle.part.specs.End.{IsEnd, rest_at}
+use Rattle.symbol.specs.Inside.{behind_guid}
 use Rattle.symbol.specs.Kind.{short}
 use Rattle.symbol.specs.ReadOn.{needed, HasStrings, Shows, all, up_to, IsReadOn, SymbolsReadOn}
 use Rattle.symbol.proofs.Laws.{accepted_is, accepted_room}
@@ -98,10 +99,10 @@ read_on e n t k h =
     let x = extended_of a.1 (has w extended_flags_flag) in
     let b : Bool = has (extended_word x.0) refactor_info_flag in
     let from = chain_from x.1 b in
-    let p : place_in e g.1 ≡ behind_guid (with_strings e n t k) = omega (arith, guid_end e n t k h) in
-    let tg : IsTail e g.1 = guid_rest e n t k h in
+    let p : rest_at e g.1 ≡ behind_guid (with_strings e n t k) = omega (arith, guid_end e n t k h) in
+    let tg : IsEnd e g.1 = guid_rest e n t k h in
     record {
-      attributes = rw (← p) (rw (← tg.is) at (shown_there e (place_in e g.1) (has w attributes_flag)));
+      attributes = rw (← p) (rw (← tg.is) at (shown_there e (rest_at e g.1) (has w attributes_flag)));
       chain = λ f count rest m. let c = rw from at m in (chain_count x.1 b f count rest c, chain_rest x.1 b f count rest c);
       dropped = λ why m. let c = refused_chain x.1 b why (rw from at m) in record { none = dropped_count x.1 b why c; unread = dropped_rest x.1 b why c ∙ sym from };
       unflagged = λ f. record { none = unflagged_count x.1 b f; unread = unflagged_rest x.1 b f ∙ sym from };

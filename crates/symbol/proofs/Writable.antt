@@ -18,7 +18,7 @@ use Rattle.attribute.specs.Fit as attribute-fit
 use Rattle.attribute.specs.Block as attribute-block
 use Rattle.attribute.proofs.Again as attribute-again
 use Rattle.attribute.proofs.Fit.{attribute_blocks, attribute_blocks_made}
-use Rattle.attribute.proofs.Inside.{each_more}
+use Rattle.std.proofs.lemmas.List.Elements.{All-cons}
 use Rattle.attribute.proofs.Laws.{listed_more, listed_none, listed_stop}
 use Rattle.refactor.specs.declared.AdsRefactorInfo.{AdsRefactorInfo}
 use Rattle.refactor.specs.Refactor as refactor
@@ -33,7 +33,8 @@ use Rattle.symbol.specs.declared.writer.NewSymbol.{NewSymbol}
 use Rattle.symbol.specs.Symbol.{type_guid_flag, attributes_flag, extended_flags_flag, refactor_info_flag}
 use Rattle.symbol.specs.Told.{IsSixteen, IsTyped}
 use Rattle.symbol.specs.Writing.{flagged, guid_bytes, symbol_bytes, sections_checked, symbol_checked, symbol_written}
-use Rattle.symbol.specs.Writable.{AreAttributes, AreRecords, size_of, IsWritable, AreBytes, SymbolsWritten}
+use Rattle.symbol.specs.Barred.{size_of}
+use Rattle.symbol.specs.Writable.{AreAttributes, AreRecords, IsWritable, AreBytes, SymbolsWritten}
 use Rattle.symbol.proofs.Accepted.{Accepted, accepted_is}
 use Rattle.symbol.proofs.Sections.{same_test}
 use Rattle.symbol.proofs.Sizes.{length_parts, length_sections}
@@ -55,7 +56,7 @@ listed_fit_by s left h (Err why) f ih = rw (listed_stop s left why f) (λ k d l.
 listed_fit_by s left h (Ok p) f ih =
     let t = attribute-again.fits s p f in
     rw (listed_more s left (attribute-again.here s) (attribute-again.first_here s t))
-    (each_more attribute-fit.Fits _ _ (one_fits s h t) (ih (attribute-again.here s).1 (later_bytes s (attribute-again.n_of s + attribute-again.v_of s + 4) h)))
+    (All-cons attribute-fit.Fits _ _ (one_fits s h t) (ih (attribute-again.here s).1 (later_bytes s (attribute-again.n_of s + attribute-again.v_of s + 4) h)))
 
 listed_fit : (s : Bor (List ℕ)) (left : ℕ) → All (λ b. b < 256) s.now → All attribute-fit.Fits (attributes.told (attribute.listed s left))
 listed_fit s zero h = rw (listed_none s) (λ k d l. absurd (omega arith))
@@ -79,7 +80,7 @@ formers_fit_by s left h (Err why) f ih = rw (refactor-inside.listed_stop s left 
 formers_fit_by s left h (Ok p) f ih =
     let t = refactor-again.fits s p f in
     rw (refactor-again.listed_here s left t)
-    (each_more refactor-fit.Fits _ _ (record_fits s h t) (ih (refactor-again.here s).1 (later_bytes s (refactor-again.n_of s + 7) h)))
+    (All-cons refactor-fit.Fits _ _ (record_fits s h t) (ih (refactor-again.here s).1 (later_bytes s (refactor-again.n_of s + 7) h)))
 
 formers_fit : (s : Bor (List ℕ)) (left : ℕ) → All (λ b. b < 256) s.now → All refactor-fit.Fits (formers_of s left)
 formers_fit s zero h = rw (refactor-inside.listed_none s) (λ k d l. absurd (omega arith))

@@ -1,5 +1,5 @@
 -- docs/FORMAT.md, "Writing": by which refusal a symbol is refused that is not written.
-use Rattle.std.specs.Prelude.{◌<◌, ◌≤◌, ◌≡◌, ◌↔◌, false, is_some, Ok, Err, ltb, length}
+use Rattle.std.specs.Prelude.{ℕ, ◌+◌, ◌<◌, ◌≤◌, ◌≡◌, ◌↔◌, false, is_some, Ok, Err, ltb, length, if◌then◌else◌}
 use Rattle.le.specs.Le.{has}
 use Rattle.refusal.specs.Refusal.{limit}
 use Rattle.refusal.specs.declared.Refusal.{Refusal}
@@ -10,7 +10,15 @@ use Rattle.writing.specs.Checks.{IsShort}
 use Rattle.symbol.specs.declared.writer.NewSymbol.{NewSymbol}
 use Rattle.symbol.specs.Told.{IsTyped}
 use Rattle.symbol.specs.Writing.{symbol_written}
-use Rattle.symbol.specs.Writable.{size_of}
+
+-- header, three strings with an end byte each, and the sections: a GUID, a count and the attributes, extended flags, the chain
+abbrev pub size_of : NewSymbol → ℕ
+size_of n =
+    33 + length n.name.now + length n.type_name.now + length n.comment.now
+    + (if has n.flags.0 0x0008 then 16 else 0)
+    + (if has n.flags.0 0x1000 then length n.attributes.bytes.now + 2 else 0)
+    + (if has n.flags.0 0x8000 then 4 else 0)
+    + length n.refactor_infos.bytes.now
 
 module _ (n : NewSymbol) where
   -- strings and a count that 2 bytes hold, and blocks that pass

@@ -1,37 +1,15 @@
 -- docs/FORMAT.md, "Symbol entries": every number of a symbol stands at its place, and every part lies in its entry, in layout order.
-use Rattle.std.specs.Prelude.{ℕ, ◌+◌, ◌-◌, ◌<◌, ◌≤◌, ◌≡◌, Bool, false, List, [], ◌∷◌, Some, None, Ok, is_some, leb, length, take, drop, if◌then◌else◌}
+use Rattle.std.specs.Prelude.{ℕ, ◌+◌, ◌-◌, ◌<◌, ◌≡◌, Bool, false, List, Some, None, Ok, is_some, leb, length, take, drop, if◌then◌else◌}
 use Rattle.std.specs.Borrow.{Bor}
 use Rattle.le.specs.Le.{le2, le4, has}
-use Rattle.part.specs.Slice.{part, after}
+use Rattle.part.specs.End.{IsEnd, IsString, rest_at}
 use Rattle.refusal.specs.declared.Mode.{Mode}
-use Rattle.attribute.specs.declared.AdsAttribute.{AdsAttribute}
 use Rattle.attribute.specs.Attribute as attribute
-use Rattle.refactor.specs.declared.AdsRefactorInfo.{AdsRefactorInfo}
+use Rattle.attribute.specs.Inside.{AttributesLie}
 use Rattle.refactor.specs.Refactor as refactor
+use Rattle.refactor.specs.Inside.{RefactorsLie}
 use Rattle.symbol.specs.declared.AdsSymbolInfo.{AdsSymbolInfo}
-use Rattle.symbol.specs.Symbol.{place_in, symbol_of}
-
--- the bytes of an entry from a place on, in its memory, with an end byte behind them
-pub record IsString (e : Bor (List ℕ)) (at : ℕ) (s : Bor (List ℕ)) : Type 0 where
-  pub is : s ≡ part e at (length s.now)
-  pub within : at + length s.now < length e.now
-
--- the last bytes of an entry, in its memory
-pub record IsTail (e s : Bor (List ℕ)) : Type 0 where
-  pub is : s ≡ after e (place_in e s)
-  pub within : length s.now ≤ length e.now
-
--- attributes, and refactor records, one after another from a place on up to another
-abbrev pub AttributesLie : Bor (List ℕ) → ℕ → List AdsAttribute → ℕ → Type 0
-AttributesLie e at [] to = at ≡ to
-AttributesLie e at (a ∷ more) to =
-    IsString e (at + 2) a.name
-    × IsString e (at + 2 + length a.name.now + 1) a.value
-    × AttributesLie e (at + 2 + length a.name.now + 1 + length a.value.now + 1) more to
-
-abbrev pub RefactorsLie : Bor (List ℕ) → ℕ → List AdsRefactorInfo → ℕ → Type 0
-RefactorsLie e at [] to = at ≡ to
-RefactorsLie e at (r ∷ more) to = IsString e (at + 6) r.name × RefactorsLie e (at + 6 + length r.name.now + 1) more to
+use Rattle.symbol.specs.Symbol.{symbol_of}
 
 -- where what follows the strings begins, the GUID, and the attributes that are shown
 abbrev pub behind_strings : AdsSymbolInfo → ℕ
@@ -41,7 +19,7 @@ abbrev pub behind_guid : AdsSymbolInfo → ℕ
 behind_guid r = behind_strings r + (if is_some r.guid then 16 else 0)
 
 abbrev pub behind_attributes : Bor (List ℕ) → AdsSymbolInfo → ℕ
-behind_attributes e r = place_in e (attribute.after_listed r.attributes.bytes r.attributes.count)
+behind_attributes e r = rest_at e (attribute.after_listed r.attributes.bytes r.attributes.count)
 
 -- a section is there where its bit is set in the flags and so many bytes are left from a place on
 abbrev pub is_there : Bor (List ℕ) → ℕ → ℕ → ℕ → Bool
@@ -64,15 +42,15 @@ pub record IsInside (e : Bor (List ℕ)) (r : AdsSymbolInfo) : Type 0 where
   pub comment : IsString e (32 + length r.name.now + length r.type_name.now) r.comment
   pub guid : r.guid ≡ (if is_there e 0x0008 (behind_strings r) 16 then Some (take 16 (drop (behind_strings r) e.now)) else None)
   -- behind their count
-  pub attributes_at : place_in e r.attributes.bytes ≡ behind_guid r + (if is_there e 0x1000 (behind_guid r) 2 then 2 else 0)
-  pub attributes : AttributesLie e (place_in e r.attributes.bytes) (attribute.listed r.attributes.bytes r.attributes.count) (behind_attributes e r)
+  pub attributes_at : rest_at e r.attributes.bytes ≡ behind_guid r + (if is_there e 0x1000 (behind_guid r) 2 then 2 else 0)
+  pub attributes : AttributesLie e (rest_at e r.attributes.bytes) (attribute.listed r.attributes.bytes r.attributes.count) (behind_attributes e r)
   pub extended_flags : r.extended_flags ≡ (if is_there e 0x8000 (behind_attributes e r) 4 then Some (record { 0 = le4 e.now (behind_attributes e r) }) else None)
-  pub chain_at : place_in e r.refactor_infos.bytes ≡ behind_attributes e r + (if is_some r.extended_flags then 4 else 0)
-  pub refactor_infos : RefactorsLie e (place_in e r.refactor_infos.bytes) (refactor.listed r.refactor_infos.bytes r.refactor_infos.count) (place_in e r.unread)
-  pub unread : IsTail e r.unread
+  pub chain_at : rest_at e r.refactor_infos.bytes ≡ behind_attributes e r + (if is_some r.extended_flags then 4 else 0)
+  pub refactor_infos : RefactorsLie e (rest_at e r.refactor_infos.bytes) (refactor.listed r.refactor_infos.bytes r.refactor_infos.count) (rest_at e r.unread)
+  pub unread : IsEnd e r.unread
   -- the bytes that the two lists are read from reach to the entry's end
-  pub attribute_bytes : IsTail e r.attributes.bytes
-  pub refactor_bytes : IsTail e r.refactor_infos.bytes
+  pub attribute_bytes : IsEnd e r.attributes.bytes
+  pub refactor_bytes : IsEnd e r.refactor_infos.bytes
 
 -- whatever the mode
 abbrev pub SymbolsInside : Type 0

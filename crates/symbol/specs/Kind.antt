@@ -1,18 +1,15 @@
--- docs/FORMAT.md, "Walking": what a walk asks of a kind of entry, of symbols and of their heads.
-use Rattle.std.proofs.Common.{ℕ, ◌<◌, ◌≤◌, ◌≡◌, refl, sym, ap, ◌∙◌, List, length, arith, Bor}
-use Rattle.std.specs.Prelude.{false, Result, Ok, Err}
+-- docs/FORMAT.md, "Walking": what a walk asks of a kind of entry, of symbols.
+use Rattle.std.proofs.Common.{ℕ, ◌<◌, ◌≤◌, ◌≡◌, List, length, arith, Bor}
+use Rattle.std.specs.Prelude.{false, Ok, Err}
 use borrow.Author.Tests.{lt-ltb}
 use Rattle.refusal.specs.declared.Mode.{Mode}
 use Rattle.refusal.specs.declared.Mode.TheVariants.{Present, Checked}
 use Rattle.refusal.specs.declared.Refusal.{Refusal}
 use Rattle.refusal.specs.declared.Refusal.TheVariants.{TooShort}
 use Rattle.walk.specs.Zero.{is_zero}
-use Rattle.walk.specs.Mapped.{map_ok}
 use Rattle.walk.proofs.Own.{ended_own}
 use Rattle.symbol.specs.declared.AdsSymbolInfo.{AdsSymbolInfo}
-use Rattle.symbol.specs.declared.SymbolHead.{SymbolHead}
 use Rattle.symbol.specs.Symbol.{symbol_ended, ended_symbol, with_strings, symbol_of}
-use Rattle.symbol.specs.Head.{head, head_of}
 
 pub four : 4 < 30
 four = omega arith
@@ -42,28 +39,3 @@ ended_symbol_own Checked e r why h = grind (arith, tested_own)
 pub never_zero : (mode : Mode) (e : Bor (List ℕ)) (why : Refusal) → symbol_of mode e ≡ Err why → is_zero why ≡ false
 unfolding symbol_of
 never_zero mode e why h = grind (arith, ended_symbol_own)
-
--- a head is accepted as its symbol is
-headed : (t : Result AdsSymbolInfo Refusal) (r : SymbolHead) → map_ok head t ≡ Ok r → (s : AdsSymbolInfo) × ((t ≡ Ok s) × (head s ≡ r))
-headed (Ok s) r h = (s, (refl, cc))
-headed (Err why) r h = cc
-
-head_refused : (t : Result AdsSymbolInfo Refusal) (why : Refusal) → map_ok head t ≡ Err why → t ≡ Err why
-head_refused (Ok s) why h = cc
-head_refused (Err w) why h = cc
-
-pub head_long : (mode : Mode) (e : Bor (List ℕ)) (r : SymbolHead) → head_of mode e ≡ Ok r → r.length ≡ length e.now
-unfolding head_of
-head_long mode e r h = let s = headed (symbol_of mode e) r h in ap (λ r. r.length) (sym s.1.1) ∙ long mode e s.0 s.1.0
-
-pub head_room : (mode : Mode) (e : Bor (List ℕ)) (r : SymbolHead) → head_of mode e ≡ Ok r → 30 ≤ length e.now
-unfolding head_of
-head_room mode e r h = let s = headed (symbol_of mode e) r h in room mode e s.0 s.1.0
-
-pub head_short : (mode : Mode) (e : Bor (List ℕ)) → length e.now < 30 → head_of mode e ≡ Err (TooShort 30 (length e.now))
-unfolding head_of
-head_short mode e h = simp (short mode e h)
-
-pub head_never_zero : (mode : Mode) (e : Bor (List ℕ)) (why : Refusal) → head_of mode e ≡ Err why → is_zero why ≡ false
-unfolding head_of
-head_never_zero mode e why h = never_zero mode e why (head_refused (symbol_of mode e) why h)

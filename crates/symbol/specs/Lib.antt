@@ -2,8 +2,6 @@ pub mod Symbol
 pub mod Laws
 pub mod Inside
 pub mod Modes
-pub mod Shown
-pub mod Head
 pub mod Kind
 pub mod Writing
 pub mod Told

@@ -1,8 +1,9 @@
 -- docs/FORMAT.md, "Symbol entries": a header of 30 bytes; name, type and comment, each with one end byte; then the sections that its flags name.
-use Rattle.std.specs.Prelude.{ℕ, ◌+◌, ◌-◌, ◌≤◌, Bool, List, [], ◌∷◌, Option, Some, None, Result, Ok, Err, ltb, leb, length, take, get_or, if◌then◌else◌}
+use Rattle.std.specs.Prelude.{ℕ, ◌+◌, ◌≤◌, Bool, List, [], ◌∷◌, Option, Some, None, Result, Ok, Err, ltb, leb, length, take, get_or, if◌then◌else◌}
 use Rattle.std.specs.Borrow.{Bor}
 use Rattle.le.specs.Le.{le2, le4, has}
 use Rattle.part.specs.Slice.{part, after}
+use Rattle.part.specs.End.{rest_at}
 use Rattle.part.specs.Outcome.{outcome, and_then}
 use Rattle.refusal.specs.EndBytes.{ended, in_mode}
 use Rattle.refusal.specs.declared.Mode.{Mode}
@@ -92,9 +93,6 @@ pub record IsWithin (e : Bor (List ℕ)) (r : AdsSymbolInfo) : Type 0 where
   pub refactor_infos : length r.refactor_infos.bytes.now ≤ length e.now
 
 -- its end bytes, with their places, in the order in which they are met: the strings', the attributes', the chain's, also of a chain that is dropped
-abbrev pub place_in : Bor (List ℕ) → Bor (List ℕ) → ℕ
-place_in e s = length e.now - length s.now
-
 abbrev pub string_ends : Bor (List ℕ) → AdsSymbolInfo → List (ℕ × ℕ)
 string_ends e r =
     let n : ℕ = 30 + length r.name.now in
@@ -103,11 +101,11 @@ string_ends e r =
     (n, get_or e.now n 0) ∷ (t, get_or e.now t 0) ∷ (k, get_or e.now k 0) ∷ []
 
 abbrev pub attribute_ends : Bor (List ℕ) → AdsSymbolInfo → List (ℕ × ℕ)
-attribute_ends e r = attribute.ends r.attributes.bytes (place_in e r.attributes.bytes) r.attributes.count
+attribute_ends e r = attribute.ends r.attributes.bytes (rest_at e r.attributes.bytes) r.attributes.count
 
 abbrev pub refactor_ends : Bor (List ℕ) → AdsSymbolInfo → List (ℕ × ℕ)
 refactor_ends e r =
-    if has (extended_word r.extended_flags) refactor_info_flag then refactor.ends r.refactor_infos.bytes (place_in e r.refactor_infos.bytes) else []
+    if has (extended_word r.extended_flags) refactor_info_flag then refactor.ends r.refactor_infos.bytes (rest_at e r.refactor_infos.bytes) else []
 
 -- the first of them that is not 0 is refused
 unfoldable pub symbol_ended : Bor (List ℕ) → AdsSymbolInfo → Result Unit Refusal

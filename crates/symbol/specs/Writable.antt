@@ -1,5 +1,5 @@
 -- docs/FORMAT.md, "Writing": which symbols are written, by what they hold and not by what is tested.
-use Rattle.std.specs.Prelude.{ℕ, ◌+◌, ◌<◌, ◌≤◌, ◌≡◌, false, List, is_some, Ok, ltb, length, if◌then◌else◌}
+use Rattle.std.specs.Prelude.{ℕ, ◌<◌, ◌≤◌, ◌≡◌, false, List, Ok, length}
 use Rattle.std.specs.List.{All}
 use Rattle.le.specs.Le.{has}
 use Rattle.refusal.specs.Refusal.{limit}
@@ -11,6 +11,7 @@ use Rattle.writing.specs.Checks.{IsShort}
 use Rattle.symbol.specs.declared.writer.NewSymbol.{NewSymbol}
 use Rattle.symbol.specs.Told.{IsTyped}
 use Rattle.symbol.specs.Writing.{symbol_bytes, symbol_written}
+use Rattle.symbol.specs.Barred.{size_of, GuidAgrees, AttributesAgree, ExtendedAgree, ChainAgrees}
 
 -- so many attributes one after another, each within its length fields
 pub record AreAttributes (count : ℕ) (block : List ℕ) : Type 0 where
@@ -27,25 +28,16 @@ pub record AreRecords (count : ℕ) (block : List ℕ) : Type 0 where
   pub last : has (refactor.last_count all) follower ≡ false
   pub bytes : block ≡ refactor.chain_bytes all
 
--- header, three strings with an end byte each, and the sections: a GUID, a count and the attributes, extended flags, the chain
-abbrev pub size_of : NewSymbol → ℕ
-size_of n =
-    33 + length n.name.now + length n.type_name.now + length n.comment.now
-    + (if has n.flags.0 0x0008 then 16 else 0)
-    + (if has n.flags.0 0x1000 then length n.attributes.bytes.now + 2 else 0)
-    + (if has n.flags.0 0x8000 then 4 else 0)
-    + length n.refactor_infos.bytes.now
-
 pub record IsWritable (n : NewSymbol) : Type 0 where
   pub short : IsShort n.name.now n.type_name.now n.comment.now
   pub few : n.attributes.count ≤ 65535
   pub attributes : AreAttributes n.attributes.count n.attributes.bytes.now
   pub refactor_infos : AreRecords n.refactor_infos.count n.refactor_infos.bytes.now
   -- each section is flagged where it is given, a GUID and a chain also given where they are flagged
-  pub guid_flagged : is_some n.guid ≡ has n.flags.0 0x0008
-  pub attributes_flagged : has n.flags.0 0x1000 ≡ false → length n.attributes.bytes.now ≡ 0
-  pub extended_flagged : has n.flags.0 0x8000 ≡ false → n.extended_flags.0 ≡ 0
-  pub chain_flagged : ltb 0 n.refactor_infos.count ≡ has n.extended_flags.0 0x0004
+  pub guid_flagged : GuidAgrees n
+  pub attributes_flagged : AttributesAgree n
+  pub extended_flagged : ExtendedAgree n
+  pub chain_flagged : ChainAgrees n
   pub within : size_of n ≤ limit
 
 -- what a symbol's types say of its blocks

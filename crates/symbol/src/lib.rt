@@ -6,8 +6,7 @@ ghost use Rattle.le.specs.Le.{has};
 ghost use Rattle.part.specs.Slice.{part, after};
 ghost use Rattle.symbol.specs.Symbol.{type_guid_flag, attributes_flag, extended_flags_flag, refactor_info_flag, guid_of, attributes_of, extended_of, refactor_infos_of, extended_word, IsWithin, with_strings, refactor_ends, symbol_ended, strings_there, symbol_of};
 ghost use Rattle.refusal.specs.EndBytes.{ended};
-ghost use Rattle.symbol.specs.Head.{head_of};
-ghost use Rattle.symbol.specs.Kind.{four, long, room, short, never_zero, head_long, head_room, head_short, head_never_zero};
+ghost use Rattle.symbol.specs.Kind.{four, long, room, short, never_zero};
 
 pub mod theorems;
 mod writer;
@@ -18,7 +17,7 @@ use flags::index_offset::IndexOffset;
 use flags::symbol_flags::{AdsSymbol2Flags, AdsSymbolFlags};
 use refactor::RefactorInfos;
 use refusal::{Mode, Refusal};
-use walk::{Entry, Walker};
+use walk::{Accepts, Entry, Walker};
 pub use writer::NewSymbol;
 
 /// A symbol: a variable of the controller (docs/FORMAT.md, "Symbol entries"). Strings are Windows-1252, without their end bytes.
@@ -82,7 +81,8 @@ fn read_attributes(rest: &[u8], flagged: bool) -> (Attributes<'_>, &[u8])
         };
         return (none, rest);
     }
-    attribute::list(&rest[2..], le::u16_at(rest, 0) as usize)
+    let found = attribute::list(&rest[2..], le::u16_at(rest, 0) as usize);
+    (found.attributes, found.rest)
 }
 
 #[inline(always)]
@@ -253,63 +253,14 @@ impl<'a> Entry<'a> for AdsSymbolInfo<'a> {
     }
 }
 
-/// The pieces of an upload of symbols.
-pub type Symbols<'a> = Walker<'a, AdsSymbolInfo<'a>>;
-
-/// What the index and finding look at of a symbol: in the present mode its sections are not read.
-#[derive(Clone, Copy, Debug)]
-pub struct SymbolHead<'a> {
-    /// The entry's length in bytes.
-    pub length: usize,
-    /// The name.
-    pub name: &'a [u8],
-}
-
-// The head of an entry's own bytes whose name has this length.
-#[inline(always)]
-fn head_with(own: &[u8], size: usize) -> SymbolHead<'_>
-    requires { 30 + size ≤ length own.now }
-    ensures whole { result.length ≡ length own.now }
-    ensures named { result.name ≡ part own.entry 30 size }
-{
-    SymbolHead {
-        length: own.len(),
-        name: string_at(own, 30, size),
-    }
-}
-
-impl<'a> Entry<'a> for SymbolHead<'a> {
-    ghost HEADER = { 30 };
-
-    ghost read = { head_of };
-
-    ghost length_of = { λ r. r.length };
-
-    ghost four = { four };
-
-    ghost long = { head_long };
-
-    ghost room = { head_room };
-
-    ghost short = { head_short };
-
-    ghost never_zero = { head_never_zero };
-
-    fn header() -> usize
-        ensures { result ≡ 30 }
-    {
-        AdsSymbolInfo::MIN_LENGTH
-    }
-
-    #[tactic(auto, unfolding(crate::specs::Head::head_of, crate::specs::Symbol::symbol_of, crate::specs::Symbol::ended_symbol, crate::specs::Symbol::with_strings))]
+impl<'a> Accepts<'a> for AdsSymbolInfo<'a> {
+    // In the present mode no section is looked at.
+    #[tactic(auto, unfolding(crate::specs::Symbol::symbol_of, crate::specs::Symbol::ended_symbol))]
     #[inline(always)]
-    fn read(own: &'a [u8], mode: Mode) -> Result<Self, Refusal> {
+    fn accepts(own: &'a [u8], mode: Mode) -> Result<(), Refusal> {
         if mode == Mode::Checked {
-            let symbol = AdsSymbolInfo::read(own, mode)?;
-            return Ok(SymbolHead {
-                length: symbol.length,
-                name: symbol.name,
-            });
+            AdsSymbolInfo::read(own, mode)?;
+            return Ok(());
         }
         let length = own.len();
         if length < 30 {
@@ -321,8 +272,9 @@ impl<'a> Entry<'a> for SymbolHead<'a> {
         let name = le::u16_at(own, 24) as usize;
         let type_name = le::u16_at(own, 26) as usize;
         let comment = le::u16_at(own, 28) as usize;
-        let needed = 33 + name + type_name + comment;
-        check_strings(needed, length)?;
-        Ok(head_with(own, name))
+        check_strings(33 + name + type_name + comment, length)
     }
 }
+
+/// The pieces of an upload of symbols.
+pub type Symbols<'a> = Walker<'a, AdsSymbolInfo<'a>>;

@@ -2,8 +2,6 @@
 ghost use Rattle.symbol.specs.Laws.{SymbolsWhole};
 ghost use Rattle.symbol.specs.Inside.{SymbolsInside};
 ghost use Rattle.symbol.specs.Modes.{SymbolsModes};
-ghost use Rattle.symbol.specs.Shown.{SymbolsShown, SymbolsNamed};
-ghost use Rattle.symbol.specs.Head.{HeadsRead};
 ghost use Rattle.symbol.specs.Told.{IsTyped, SymbolsAnywhere};
 ghost use Rattle.symbol.specs.Writable.{HoldsBytes, SymbolsWritten};
 ghost use Rattle.symbol.specs.Barred.{SymbolsBarred};
@@ -12,7 +10,8 @@ ghost use Rattle.symbol.specs.ReadBack.{SymbolsReadBack};
 
 use crate::NewSymbol;
 
-/// A symbol that is accepted has room for its strings and lists, and shows as many attributes as it counts.
+/// A symbol that is accepted has room for its strings and lists, and shows as many attributes and refactor records as it counts:
+/// none of these is refused by its number.
 pub fn symbols_whole()
     ensures { SymbolsWhole }
 {}
@@ -23,25 +22,10 @@ pub fn symbols_inside()
     ensures { SymbolsInside }
 {}
 
-/// A head is read exactly where its symbol is, with the same length and name, and refused alike.
-pub fn heads_read()
-    ensures { HeadsRead }
-{}
-
 /// The checked mode accepts what the present mode accepts where 0 follows every string that is met, and reads it alike; what
 /// the present mode refuses it refuses alike, and anything else by the first end byte that is not 0.
 pub fn symbols_modes()
     ensures { SymbolsModes }
-{}
-
-/// An attribute and a refactor record below the count are given by number; past it the number is refused with 14.
-pub fn symbols_shown()
-    ensures { SymbolsShown }
-{}
-
-/// An attribute's name gives the first that has it, and 13 where none has.
-pub fn symbols_named()
-    ensures { SymbolsNamed }
 {}
 
 /// What the theorems ask of the numbers of a symbol that is written, and of its GUID, every `NewSymbol` has.

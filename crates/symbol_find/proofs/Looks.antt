@@ -16,11 +16,9 @@ use Rattle.names.specs.Names.{same_name}
 use Rattle.names.specs.Near.{low, ends_near}
 use Rattle.names.proofs.Laws.{other_length, ends_differ, ends_none, ends_last, low_small, unless}
 use Rattle.entry.specs.Entry.{claim_at}
-use Rattle.walk.specs.Mapped.{map_ok}
 use Rattle.walk.specs.Step.{step_at}
 use Rattle.symbol.specs.declared.AdsSymbolInfo.{AdsSymbolInfo}
 use Rattle.symbol.specs.Symbol.{symbol_of, ended_symbol, with_strings}
-use Rattle.symbol.specs.Head.{head, head_of}
 use Rattle.symbol_find.specs.Looks.{look_of, looks_named}
 use Rattle.symbol_find.specs.Find.{has_name, is_named}
 
@@ -109,11 +107,10 @@ module _ (mode : Mode) (e : Bor (List ℕ)) (name : List ℕ) where
       by (Err why) f = refl
       by (Ok r) f = let w = stands_of mode e r f in simp w.name (carried e.now name w.strings ∙ simp (l, h))
 
-  pub named_is : looks_named e.now name ≡ true → same_name (part e.now 30 (length name)) name ≡ true → has_name name (Some (symbol_of mode e)) ≡ is_ok (head_of mode e)
-  unfolding head_of
+  pub named_is : looks_named e.now name ≡ true → same_name (part e.now 30 (length name)) name ≡ true → has_name name (Some (symbol_of mode e)) ≡ is_ok (symbol_of mode e)
   named_is l h = by (symbol_of mode e) refl
     where
-      by : (t : Result AdsSymbolInfo Refusal) → symbol_of mode e ≡ t → has_name name (Some t) ≡ is_ok (map_ok head t)
+      by : (t : Result AdsSymbolInfo Refusal) → symbol_of mode e ≡ t → has_name name (Some t) ≡ is_ok t
       by (Err other) f = refl
       by (Ok r) f = let w = stands_of mode e r f in simp w.name (carried e.now name w.strings ∙ simp l (simp h))
 

@@ -17,15 +17,14 @@ use Rattle.walk.proofs.Theorems.{reads}
 use Rattle.walk.proofs.Back.{steps_back}
 use Rattle.symbol.specs.declared.AdsSymbolInfo.{AdsSymbolInfo}
 use Rattle.symbol.specs.Symbol.{symbol_of}
-use Rattle.symbol.specs.Head.{head_of}
 use Rattle.symbol.specs.Kind as kind
 use Rattle.index.specs.Index.{indexing}
 use Rattle.index.specs.Steps.{gives, BySteps}
+use Rattle.index.proofs.Steps.{by_steps_of}
 use Rattle.index.proofs.Meaning.{built}
 use Rattle.symbol_find.specs.Find.{has_name, is_named, find, find_indexed}
 use Rattle.symbol_find.specs.Meaning.{HasName, Nowhere, Finds, Answers, FoundIsFirst, RefusedIsNowhere, FindMeant, AnyCase, SameFind}
 use Rattle.symbol_find.proofs.Named.{same_of, answer_either, named_record}
-use Rattle.symbol_find.proofs.Alike.{gives_alike, heads, symbols}
 
 -- the first of some places that passes a test
 record IsFirst (test : ℕ → Bool) (places : List ℕ) (at : ℕ) : Type 0 where
@@ -196,18 +195,14 @@ named_gives : (mode : Mode) (s : Bor (List ℕ)) (name : List ℕ) (at : ℕ) �
 unfolding is_named
 named_gives mode s name at = named_record name (step_at (symbol_of mode) s at).answer
 
-module _ {R : Type 0} (read : Bor (List ℕ) → Result R Refusal) (by_steps : BySteps read) (mode : Mode) (s : Bor (List ℕ)) (name : List ℕ)
-    (accepts : (at : ℕ) → is_named mode s name at ≡ true → gives read s at ≡ true) where
-  same_by : (old new : List ℕ) (n : ℕ) → Writes (indexing read s) old new (Ok n) → find_indexed mode s (take n new) name ≡ find mode s name
-  unfolding find find_indexed
-  same_by old new n w =
-      let b = built read s old new n w in
-      let slots : take n new ≡ filter (gives read s) (steps s.now) = b.first ∙ by_steps.starts-are s in
-      let none : list_any (stands s.now) (steps s.now) ≡ false = sym (by_steps.stopped-is s) ∙ b.none_stood in
-      simp (le-ltb limit (length s.now) b.small, none, slots, first_filter (is_named mode s name) (gives read s) accepts (steps s.now))
+pub symbols_by_steps : (mode : Mode) → BySteps (symbol_of mode)
+symbols_by_steps mode = by_steps_of (symbol_of mode) 30 kind.four (kind.short mode) (kind.never_zero mode)
 
 pub same_find : SameFind
-same_find = record {
-  symbols = λ mode s old new n w name. same_by (symbol_of mode) (symbols mode) mode s name (named_gives mode s name) old new n w;
-  heads = λ mode s old new n w name. same_by (head_of mode) (heads mode) mode s name (λ at h. gives_alike mode s at ∙ named_gives mode s name at h) old new n w;
-}
+unfolding find find_indexed
+same_find mode s old new n w name =
+    let steps_are = symbols_by_steps mode in
+    let b = built (symbol_of mode) s old new n w in
+    let slots : take n new ≡ filter (gives (symbol_of mode) s) (steps s.now) = b.first ∙ steps_are.starts-are s in
+    let none : list_any (stands s.now) (steps s.now) ≡ false = sym (steps_are.stopped-is s) ∙ b.none_stood in
+    simp (le-ltb limit (length s.now) b.small, none, slots, first_filter (is_named mode s name) (gives (symbol_of mode) s) (named_gives mode s name) (steps s.now))

@@ -2,4 +2,3 @@ pub mod Find
 pub mod Unread
 pub mod Looks
 pub mod Meaning
-pub mod Alike

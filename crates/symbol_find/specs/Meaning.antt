@@ -13,7 +13,6 @@ use Rattle.writing.specs.Writing.{Writes}
 use Rattle.walk.specs.Step.{parse_of}
 use Rattle.symbol.specs.declared.AdsSymbolInfo.{AdsSymbolInfo}
 use Rattle.symbol.specs.Symbol.{symbol_of}
-use Rattle.symbol.specs.Head.{head_of}
 use Rattle.index.specs.Index.{indexing}
 use Rattle.symbol_find.specs.Find.{find, find_indexed}
 
@@ -72,7 +71,6 @@ pub record UselessShutOut : Type 0 where
   pub answers_slots : (at : ℕ) (walked : Mode → Bor (List ℕ) → List ℕ → Result ℕ Refusal) → FoundIsFirst walked (λ mode s slots name. Ok at) → ⊥
   pub answers_first : (why : Refusal) (walked : Mode → Bor (List ℕ) → List ℕ → Result ℕ Refusal) → FoundIsFirst walked (λ mode s slots name. ok_or (first_of (λ at. true) slots) why) → ⊥
 
--- through an index that was built, of the symbols or of their heads, a name is found as without one
-pub record SameFind : Type 0 where
-  pub symbols : (mode : Mode) (s : Bor (List ℕ)) (old new : List ℕ) (n : ℕ) → Writes (indexing (symbol_of mode) s) old new (Ok n) → (name : List ℕ) → find_indexed mode s (take n new) name ≡ find mode s name
-  pub heads : (mode : Mode) (s : Bor (List ℕ)) (old new : List ℕ) (n : ℕ) → Writes (indexing (head_of mode) s) old new (Ok n) → (name : List ℕ) → find_indexed mode s (take n new) name ≡ find mode s name
+-- through an index that was built a name is found as without one
+abbrev pub SameFind : Type 0
+SameFind = (mode : Mode) (s : Bor (List ℕ)) (old new : List ℕ) (n : ℕ) → Writes (indexing (symbol_of mode) s) old new (Ok n) → (name : List ℕ) → find_indexed mode s (take n new) name ≡ find mode s name

@@ -3,16 +3,14 @@
 
 ghost use Rattle.std.specs.Prelude.{◌≡◌, Some, drop, is_ok, length, true};
 ghost use Rattle.symbol.specs.Symbol.{symbol_of};
-ghost use Rattle.symbol.specs.Head.{head_of};
 ghost use Rattle.symbol_find.specs.Looks.{look_of, looks_named};
 ghost use Rattle.symbol_find.specs.Unread.{unread_of, four, long, room, short, never_zero};
 ghost use Rattle.symbol_find.specs.Find.{has_name, is_named, find, find_indexed};
 ghost use Rattle.symbol_find.specs.Meaning.{FoundIsFirst, RefusedIsNowhere, FindMeant, AnyCase, SameFind, UselessShutOut};
-ghost use Rattle.symbol_find.specs.Alike.{IndexedAlike};
 
 use refusal::{LIMIT, Mode, Refusal};
-use symbol::SymbolHead;
-use walk::{Cursor, Entry, Walker};
+use symbol::AdsSymbolInfo;
+use walk::{Accepts, Entry, Walker};
 
 // An entry whose header is there, before it is read.
 #[derive(Clone, Copy, Debug)]
@@ -109,9 +107,9 @@ fn looks_named(bytes: &[u8], at: usize, name: &[u8]) -> bool
 
 // Whether an entry's own bytes give a symbol.
 fn is_symbol(own: &[u8], mode: Mode) -> bool
-    ensures { result ≡ is_ok (head_of mode own.entry) }
+    ensures { result ≡ is_ok (symbol_of mode own.entry) }
 {
-    SymbolHead::read(own, mode).is_ok()
+    AdsSymbolInfo::accepts(own, mode).is_ok()
 }
 
 // Whether an entry's own bytes give a symbol of that name. The rest of the entry is read only where the name stands in it.
@@ -219,11 +217,6 @@ pub fn any_case()
 /// Through an index that was built a name is found as without one.
 pub fn same_find()
     ensures { SameFind }
-{}
-
-/// `index::build::<SymbolHead>` builds the index of the symbols.
-pub fn indexed_alike()
-    ensures { IndexedAlike }
 {}
 
 /// Finding that refuses every name, or answers a place unseen, is not what these theorems allow.

@@ -25,15 +25,13 @@ use Rattle.attribute.specs.Attribute.{listed, named}
 use Rattle.attribute.specs.Told as attributes
 use Rattle.symbol.specs.declared.AdsSymbolInfo.{AdsSymbolInfo}
 use Rattle.symbol.specs.Symbol.{symbol_of}
-use Rattle.symbol.specs.Head.{head_of}
 use Rattle.symbol.specs.Told.{Told, told_of}
 use Rattle.symbol.specs.Kind as kind
 use Rattle.symbol.proofs.Anywhere.{symbols_anywhere}
 use Rattle.symbol_find.specs.Find.{has_name, is_named, find, find_indexed}
 use Rattle.symbol_find.specs.Meaning.{HasName}
-use Rattle.symbol_find.proofs.Meaning.{found_is_first, same_find}
-use Rattle.symbol_find.proofs.Alike.{symbols as by_symbols, heads as by_heads}
-use Rattle.symbols_damaged.specs.Finding.{IsIndex, symbols, heads, attribute_told, SameThere, FindingStays}
+use Rattle.symbol_find.proofs.Meaning.{found_is_first, symbols_by_steps, same_find}
+use Rattle.symbols_damaged.specs.Finding.{IsIndex, built as built_of, attribute_told, SameThere, FindingStays}
 
 -- the first of some places that passes one test, or another that agrees with it there
 first_alike : (f g : ℕ → Bool) (l : List ℕ) → ((x : ℕ) → among l x ≡ true → f x ≡ g x) → first_of f l ≡ first_of g l
@@ -80,16 +78,12 @@ among_middle (x ∷ before) at behind = among_rest x (before ++ (at ∷ behind))
 
 module _ (mode : Mode) (s : Bor (List ℕ)) where
   slots_are : {a : List ℕ} → IsIndex mode s a → (x : ℕ) → among a x ≡ true → among (steps s.now) x ≡ true
-  slots_are (symbols {old} {new} {n} w) x h =
-      let is = (built (symbol_of mode) s old new n w).first ∙ (by_symbols mode).starts-are s in
+  slots_are (built_of {old} {new} {n} w) x h =
+      let is = (built (symbol_of mode) s old new n w).first ∙ (symbols_by_steps mode).starts-are s in
       among_filter (gives (symbol_of mode) s) (steps s.now) x (ap (λ (l : List ℕ). among l x) (sym is) ∙ h)
-  slots_are (heads {old} {new} {n} w) x h =
-      let is = (built (head_of mode) s old new n w).first ∙ (by_heads mode).starts-are s in
-      among_filter (gives (head_of mode) s) (steps s.now) x (ap (λ (l : List ℕ). among l x) (sym is) ∙ h)
 
   as_without : (name : List ℕ) {a : List ℕ} → IsIndex mode s a → find_indexed mode s a name ≡ find mode s name
-  as_without name (symbols {old} {new} {n} w) = same_find.symbols mode s old new n w name
-  as_without name (heads {old} {new} {n} w) = same_find.heads mode s old new n w name
+  as_without name (built_of {old} {new} {n} w) = same_find mode s old new n w name
 
 -- what the first attribute with a name tells is that of the first told one with it
 named_told : List attributes.Told → List ℕ → Result attributes.Told Refusal
@@ -180,7 +174,7 @@ module _ (mode : Mode) (s t : Bor (List ℕ)) (places name : List ℕ) (d : Diff
       let f = found_is_first.walk mode s name at h in
       let off = elsewhere at (among places at) refl f.has in
       let r : among (steps s.now) at ≡ true = ap (λ (l : List ℕ). among l at) f.among ∙ among_middle f.before at f.behind in
-      let stay = stays_anywhere_of (λ (r : AdsSymbolInfo). r.length) told_of 30 (omega arith) (symbol_of mode) (by_symbols mode) (kind.long mode) (symbols_anywhere mode) in
+      let stay = stays_anywhere_of (λ (r : AdsSymbolInfo). r.length) told_of 30 (omega arith) (symbol_of mode) (symbols_by_steps mode) (kind.long mode) (symbols_anywhere mode) in
       record {
         elsewhere = off;
         symbol = (stay.step s t places d).other at (inl r) off;

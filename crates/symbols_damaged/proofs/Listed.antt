@@ -10,7 +10,7 @@ use Rattle.walk.specs.declared.Piece.{Piece}
 use Rattle.walk.specs.Pieces.{pieces}
 use Rattle.symbol.specs.declared.AdsSymbolInfo.{AdsSymbolInfo}
 use Rattle.symbol.specs.Symbol.{symbol_of}
-use Rattle.symbol_find.proofs.Alike.{symbols as by_symbols}
+use Rattle.symbol_find.proofs.Meaning.{symbols_by_steps}
 use Rattle.damage.proofs.Theorems.{stays_in_place_of}
 use Rattle.listing.specs.Listing.{row, rows, ok_of, lying, longest, line_text, header, lines_text, listing}
 use Rattle.entry.specs.Alike.{among}
@@ -37,7 +37,7 @@ flat_map-rows line (p ∷ ps) = ap (λ (l : List ℕ). row line p ++ l) (flat_ma
 
 pub listing_stays : ListingStays rows_of
 listing_stays mode line s t places d =
-    let p = (stays_in_place_of 30 (omega arith) (symbol_of mode) (by_symbols mode)).piece (0, 0) s t places d in
+    let p = (stays_in_place_of 30 (omega arith) (symbol_of mode) (symbols_by_steps mode)).piece (0, 0) s t places d in
     let same : others (λ p. p.start) places (pieces (symbol_of mode) (lying s)) ≡ others (λ p. p.start) places (pieces (symbol_of mode) (lying t)) = sym (map-id _) ∙ p.other ∙ map-id _ in
     record {
       starts = map-starts line (pieces (symbol_of mode) (lying s)) ∙ p.starts ∙ sym (map-starts line (pieces (symbol_of mode) (lying t)));

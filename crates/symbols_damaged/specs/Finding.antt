@@ -13,14 +13,12 @@ use Rattle.attribute.specs.Attribute.{listed, named}
 use Rattle.attribute.specs.Told as attributes
 use Rattle.symbol.specs.declared.AdsSymbolInfo.{AdsSymbolInfo}
 use Rattle.symbol.specs.Symbol.{symbol_of}
-use Rattle.symbol.specs.Head.{head_of}
 use Rattle.symbol.specs.Told.{told_of}
 use Rattle.symbol_find.specs.Meaning.{HasName}
 
--- the slots that index building wrote for an upload, of its symbols or of their heads
+-- the slots that index building wrote for an upload
 pub data IsIndex (mode : Mode) (s : Bor (List ℕ)) : List ℕ → Type 0 where
-  symbols : {old new : List ℕ} {n : ℕ} → Writes (indexing (symbol_of mode) s) old new (Ok n) → IsIndex mode s (take n new)
-  heads : {old new : List ℕ} {n : ℕ} → Writes (indexing (head_of mode) s) old new (Ok n) → IsIndex mode s (take n new)
+  built : {old new : List ℕ} {n : ℕ} → Writes (indexing (symbol_of mode) s) old new (Ok n) → IsIndex mode s (take n new)
 
 -- what a step tells of a symbol's attribute of some name: its name and value, or 13
 abbrev pub attribute_told : List ℕ → Option (Result AdsSymbolInfo Refusal) → Option (Result attributes.Told Refusal)

@@ -5,7 +5,6 @@ ghost use Rattle.refusal.specs.declared.Mode.{Mode};
 ghost use Rattle.salvage.specs.Meaning.{SalvageMeant, CoverOnce};
 ghost use Rattle.symbol.specs.Symbol.{symbol_of};
 ghost use Rattle.symbol.specs.Told.{Told, told_of};
-ghost use Rattle.symbols_salvaged.specs.Alike.{SalvagedAlike};
 ghost use Rattle.symbols_salvaged.specs.Kind.{Reason, too_short, mismatch, alike, own};
 
 use salvage::Salvageable;
@@ -48,8 +47,3 @@ pub fn symbols_covered_once()
 {
     salvage::cover_once::<SalvagedSymbols>()
 }
-
-/// `salvage::salvage::<SymbolHead>` salvages the symbols.
-pub fn salvaged_alike()
-    ensures { SalvagedAlike }
-{}

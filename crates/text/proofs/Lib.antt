@@ -1,7 +1,6 @@
 pub mod Table
 pub mod Utf8
 pub mod Laws
-pub mod Exact
 pub mod Byte
 pub mod Back
 pub mod Theory

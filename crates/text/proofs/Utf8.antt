@@ -1,18 +1,10 @@
--- Laws of the encoder and the decoder of UTF-8. Assumes nothing.
-use Rattle.std.specs.Prelude.{if◌then◌else◌}
-use mathlib.Core.Path.{◌≡◌, refl, ap}
-use mathlib.Core.Logic.{◌⊎◌, inl, inr, ⊎_elim}
-use mathlib.Core.List.{List, [], ◌∷◌}
-use Prim.Native.Nat.{ℕ, zero, suc, zero-le, suc-le-suc, ◌+◌, ◌-◌, ◌*◌, ◌/◌, ◌%◌, ◌≤◌, ◌<◌}
-use native.Mathlib.Numerals.{add-one, sub-one}
-use native.Mathlib.Omega.{arith}
-use lib.Dec.{eqb}
-use lib.ListN.{length, drop, get_or, drop_of_length-le}
-use lib.Seq.{drop-cons}
-use borrow.Author.Tests.{lt-ltb, le-ltb, le-leb, lt-leb}
-use Rattle.text.specs.Utf8.{within, following, scalar_of}
-use Rattle.std.specs.Char.{encode_utf8}
-use Rattle.text.specs.declared.Scalar.TheVariants.{Point, Bad}
+-- Laws of std's UTF-8: the bytes of a code point, and the longest front that is UTF-8. Assumes nothing.
+use Rattle.std.proofs.Common.{◌≡◌, refl, sym, ap, ◌∙◌, subst, ◌⊎◌, inl, inr, ⊎_elim, ℕ, zero, suc, zero-le, suc-le-suc, ◌+◌, ◌-◌, ◌/◌, ◌%◌, ◌≤◌, ◌<◌, ◌&&◌, Bool, true, false, true≢false, List, [], ◌∷◌, ◌++◌, append_assoc, length, take, drop, get_or, IsUtf8, chars, encode_utf8_all, if◌then◌else◌, add-one, arith, length-append, length-take-le, take-append-drop, drop-cons, lt-ltb, le-ltb}
+use Rattle.std.specs.Char.{IsScalar, encode_utf8}
+use lib.Utf8.{scalar}
+use Rattle.std.specs.Str.{is_utf8, all_scalars}
+use Rattle.std.specs.Str.Lossy.{valid_len_up_to, utf8_valid_len}
+use Rattle.std.proofs.lemmas.Str.{IsUtf8-nil, IsUtf8-encode, IsUtf8-append, IsUtf8-past_char, IsUtf8-from_is_utf8, is_utf8-from_IsUtf8, utf8_valid_len_le, chars_past_char}
 
 pub le_or_lt : (a b : ℕ) → (a ≤ b) ⊎ (b < a)
 le_or_lt zero b = inl zero-le
@@ -31,85 +23,116 @@ pub utf8_3 : {p : ℕ} → 2048 ≤ p → p < 65536 → encode_utf8 p ≡ (224 +
 unfolding encode_utf8
 utf8_3 {p} h k = rw (le-ltb p 128 (omega arith), le-ltb p 2048 h, lt-ltb p 65536 k)
 
-pub utf8_4 : {p : ℕ} → 65536 ≤ p → encode_utf8 p ≡ (240 + p / 262144) ∷ (128 + p / 4096 % 64) ∷ (128 + p / 64 % 64) ∷ (128 + p % 64) ∷ []
+utf8_4 : {p : ℕ} → 65536 ≤ p → encode_utf8 p ≡ (240 + p / 262144) ∷ (128 + p / 4096 % 64) ∷ (128 + p / 64 % 64) ∷ (128 + p % 64) ∷ []
 unfolding encode_utf8
 utf8_4 {p} h = rw (le-ltb p 128 (omega arith), le-ltb p 2048 (omega arith), le-ltb p 65536 h)
 
 -- ---- how many bytes a code point takes
-pub utf8_some : (p : ℕ) → 1 ≤ length (encode_utf8 p)
-utf8_some p =
-    ⊎_elim (λ h. ⊎_elim (λ i. ⊎_elim (λ j. omega (arith, ap length (utf8_4 j))) (λ j. omega (arith, ap length (utf8_3 i j))) (le_or_lt 65536 p)) (λ i. omega (arith, ap length (utf8_2 h i))) (le_or_lt 2048 p))
-    (λ h. omega (arith, ap length (utf8_1 h))) (le_or_lt 128 p)
+pub utf8_long : (p : ℕ) → (1 ≤ length (encode_utf8 p)) × (length (encode_utf8 p) ≤ 4) × (p < 65536 → length (encode_utf8 p) ≤ 3)
+utf8_long p =
+    ⊎_elim (λ h. ⊎_elim (λ i. ⊎_elim (λ j. let e = ap length (utf8_4 j) in (omega arith, omega arith, λ k. omega arith)) (λ j. let e = ap length (utf8_3 i j) in (omega arith, omega arith, λ k. omega arith)) (le_or_lt 65536 p))
+    (λ i. let e = ap length (utf8_2 h i) in (omega arith, omega arith, λ k. omega arith)) (le_or_lt 2048 p))
+    (λ h. let e = ap length (utf8_1 h) in (omega arith, omega arith, λ k. omega arith)) (le_or_lt 128 p)
 
-pub utf8_most : (p : ℕ) → p < 65536 → length (encode_utf8 p) ≤ 3
-utf8_most p k = ⊎_elim (λ h. ⊎_elim (λ i. omega (arith, ap length (utf8_3 i k))) (λ i. omega (arith, ap length (utf8_2 h i))) (le_or_lt 2048 p)) (λ h. omega (arith, ap length (utf8_1 h))) (le_or_lt 128 p)
-
--- ---- the decoder at a first byte
-module _ (b : ℕ) (l : List ℕ) where
-  pub lead_1 : b < 128 → scalar_of (b ∷ l) ≡ Point b 1
-  unfolding scalar_of
-  lead_1 h = simp (lt-ltb b 128 h)
-
-  pub lead_2 : 194 ≤ b → b < 224 → scalar_of (b ∷ l) ≡ following 1 0x80 0xBF (b % 32) 1 l
-  unfolding scalar_of
-  lead_2 h k = simp (le-ltb b 128 (omega arith), le-leb 194 b h, le-leb b 223 (omega arith))
-
-  pub lead_3 : 224 ≤ b → b < 240 → scalar_of (b ∷ l) ≡ following 2 (if eqb b 0xE0 then 0xA0 else 0x80) (if eqb b 0xED then 0x9F else 0xBF) (b % 16) 1 l
-  unfolding scalar_of
-  lead_3 h k = simp (le-ltb b 128 (omega arith), le-leb 194 b (omega arith), lt-leb b 223 (omega arith), le-leb 224 b h, le-leb b 239 (omega arith))
-
-  pub lead_4 : 240 ≤ b → b < 245 → scalar_of (b ∷ l) ≡ following 3 (if eqb b 0xF0 then 0x90 else 0x80) (if eqb b 0xF4 then 0x8F else 0xBF) (b % 8) 1 l
-  unfolding scalar_of
-  lead_4 h k = simp (le-ltb b 128 (omega arith), le-leb 194 b (omega arith), lt-leb b 223 (omega arith), le-leb 224 b (omega arith), lt-leb b 239 (omega arith), le-leb 240 b h, le-leb b 244 (omega arith))
-
-  pub lead_low : 128 ≤ b → b < 194 → scalar_of (b ∷ l) ≡ Bad
-  unfolding scalar_of
-  lead_low h k = simp (le-ltb b 128 h, lt-leb 194 b k, lt-leb 224 b (omega arith), lt-leb 240 b (omega arith))
-
-  pub lead_over : 245 ≤ b → scalar_of (b ∷ l) ≡ Bad
-  unfolding scalar_of
-  lead_over h = simp (le-ltb b 128 (omega arith), le-leb 194 b (omega arith), lt-leb b 223 (omega arith), le-leb 224 b (omega arith), lt-leb b 239 (omega arith), le-leb 240 b (omega arith), lt-leb b 244 (omega arith))
-
--- ---- the decoder inside a sequence, at a place of a list
 pub at_front : (s : List ℕ) (at : ℕ) → at < length s → drop at s ≡ get_or s at 0 ∷ drop (at + 1) s
 at_front s at h = rw (add-one, drop-cons s at 0)
 
--- a code point that has room for the six bits of each byte that is needed
-unfoldable pub room : ℕ → ℕ
-room zero = 4294967296
-room (suc needed) = room needed / 64
+-- ---- the longest front that is UTF-8: it is so, and none longer is
+choice : (P : ℕ → Type 0) (b : Bool) (x y : ℕ) → (b ≡ true → P x) → P y → P (if b then x else y)
+choice P true x y f g = f refl
+choice P false x y f g = g
 
-pub room_first : (needed p : ℕ) → needed ≤ 3 → p < 32 → p < room needed
-unfolding room
-room_first zero p h k = omega arith
-room_first (suc zero) p h k = omega arith
-room_first (suc (suc zero)) p h k = omega arith
-room_first (suc (suc (suc zero))) p h k = omega arith
-room_first (suc (suc (suc (suc n)))) p h k = absurd (omega arith)
+front_by : (l : List ℕ) (m : ℕ) → IsUtf8 (take (valid_len_up_to l m) l)
+front_by l zero = IsUtf8-nil
+front_by l (suc m) = choice (λ (n : ℕ). IsUtf8 (take n l)) (is_utf8 (take (suc m) l)) (suc m) (valid_len_up_to l m) (λ e. IsUtf8-from_is_utf8 (take (suc m) l) e) (front_by l m)
 
-pub room_next : (needed p b : ℕ) → 0 < needed → p < room needed → p * 64 + b % 64 < room (needed - 1)
-unfolding room
-room_next zero p b h k = absurd (omega arith)
-room_next (suc n) p b h k = simp sub-one (omega arith)
+longest_by : (l : List ℕ) (m k : ℕ) → valid_len_up_to l m < k → k ≤ m → IsUtf8 (take k l) → ⊥
+longest_by l zero k h i u = omega arith
+longest_by l (suc m) k h i u = by (is_utf8 (take (suc m) l)) refl (λ g j. longest_by l m k g j u) h
+  where
+    by : (b : Bool) → is_utf8 (take (suc m) l) ≡ b → (valid_len_up_to l m < k → k ≤ m → ⊥) → (if b then suc m else valid_len_up_to l m) < k → ⊥
+    by true e below g = omega arith
+    by false e below g = ⊎_elim (λ j. below g j) (λ j.
+        let q : k ≡ suc m = omega arith in
+        let z : true ≡ false = sym (is_utf8-from_IsUtf8 (take (suc m) l) (subst (λ (n : ℕ). IsUtf8 (take n l)) q u)) ∙ e in
+        absurd (true≢false z)) (le_or_lt k m)
 
-pub room_most : (needed : ℕ) → room needed ≤ 4294967296
-unfolding room
-room_most zero = omega arith
-room_most (suc n) = omega (arith, room_most n)
+pub valid_front : (l : List ℕ) → IsUtf8 (take (utf8_valid_len l) l)
+unfolding utf8_valid_len
+valid_front l = front_by l (length l)
 
-module _ (s : List ℕ) (at lower upper p seen : ℕ) where
-  pub following_end : (needed : ℕ) → 0 < needed → length s ≤ at → following needed lower upper p seen (drop at s) ≡ Bad
-  unfolding following
-  following_end zero h k = absurd (omega arith)
-  following_end (suc n) h k = simp (drop_of_length-le s k)
+longest : (l : List ℕ) (k : ℕ) → utf8_valid_len l < k → k ≤ length l → IsUtf8 (take k l) → ⊥
+unfolding utf8_valid_len
+longest l k h i u = longest_by l (length l) k h i u
 
-  pub following_byte : (needed : ℕ) → 0 < needed → at < length s → following needed lower upper p seen (drop at s)
-      ≡ (if within lower upper (get_or s at 0) then following (needed - 1) 0x80 0xBF (p * 64 + get_or s at 0 % 64) (seen + 1) (drop (at + 1) s) else Bad)
-  unfolding following
-  following_byte zero h k = absurd (omega arith)
-  following_byte (suc n) h k = simp (at_front s at k, sub-one)
+valid_is : (l : List ℕ) (n : ℕ) → n ≤ length l → IsUtf8 (take n l) → ((k : ℕ) → n < k → k ≤ length l → IsUtf8 (take k l) → ⊥) → utf8_valid_len l ≡ n
+valid_is l n h u none =
+    ⊎_elim (λ i. ⊎_elim (λ j. omega arith) (λ j. absurd (longest l n j h u)) (le_or_lt n (utf8_valid_len l)))
+    (λ i. absurd (none (utf8_valid_len l) i (utf8_valid_len_le l) (valid_front l))) (le_or_lt (utf8_valid_len l) n)
 
-  pub following_done : (needed : ℕ) → needed ≤ 0 → (l : List ℕ) → following needed lower upper p seen l ≡ Point p seen
-  unfolding following
-  following_done zero h l = refl
-  following_done (suc n) h l = absurd (omega arith)
+-- ---- a character at the front of a text, and what comes after it
+take_past : (bs r : List ℕ) (n : ℕ) → take (length bs + n) (bs ++ r) ≡ bs ++ take n r
+take_past [] r n = let e : 0 + n ≡ n = omega arith in rw e
+take_past (b ∷ bs) r n = let e : suc (length bs) + n ≡ suc (length bs + n) = omega arith in rw e (ap (λ (l : List ℕ). b ∷ l) (take_past bs r n))
+
+pub drop_past : (bs r : List ℕ) (n : ℕ) → drop (length bs + n) (bs ++ r) ≡ drop n r
+drop_past [] r n = let e : 0 + n ≡ n = omega arith in rw e
+drop_past (b ∷ bs) r n = let e : suc (length bs) + n ≡ suc (length bs + n) = omega arith in rw e (drop_past bs r n)
+
+module _ (c : ℕ) (r : List ℕ) (v : IsScalar c) where
+  more_front : IsUtf8 (take (length (encode_utf8 c) + utf8_valid_len r) (encode_utf8 c ++ r))
+  more_front = subst IsUtf8 (sym (take_past (encode_utf8 c) r (utf8_valid_len r))) (IsUtf8-append (encode_utf8 c) (take (utf8_valid_len r) r) (IsUtf8-encode c v) (valid_front r))
+
+  pub valid_more : utf8_valid_len (encode_utf8 c ++ r) ≡ length (encode_utf8 c) + utf8_valid_len r
+  valid_more =
+      let bs : List ℕ = encode_utf8 c in
+      let n : ℕ = length bs + utf8_valid_len r in
+      valid_is (bs ++ r) n (omega (arith, length-append bs r, utf8_valid_len_le r)) more_front (λ k h i u.
+      let q : length bs + (k - length bs) ≡ k = omega arith in
+      let e : take k (bs ++ r) ≡ bs ++ take (k - length bs) r = ap (λ (m : ℕ). take m (bs ++ r)) (sym q) ∙ take_past bs r (k - length bs) in
+      longest r (k - length bs) (omega arith) (omega (arith, length-append bs r)) (IsUtf8-past_char (take k (bs ++ r)) (take (k - length bs) r) c u e))
+
+  pub chars_more : chars (take (length (encode_utf8 c) + utf8_valid_len r) (encode_utf8 c ++ r)) ≡ c ∷ chars (take (utf8_valid_len r) r)
+  chars_more = chars_past_char _ _ c more_front (take_past (encode_utf8 c) r (utf8_valid_len r))
+
+both_true : (a b : Bool) → (a && b) ≡ true → (a ≡ true) × (b ≡ true)
+both_true true b e = (refl, e)
+both_true false b e = absurd (true≢false (sym e))
+
+-- a text begins with a character, or none of it is UTF-8
+pub record Opens (l : List ℕ) : Type 0 where
+  pub char : ℕ
+  pub after : List ℕ
+  pub scalar : IsScalar char
+  pub is : l ≡ encode_utf8 char ++ after
+
+pub opens : (l : List ℕ) → (utf8_valid_len l ≡ 0) ⊎ Opens l
+opens l = let u = valid_front l in by u.0 u.1.0 u.1.1
+  where
+    by : (cs : List ℕ) → all_scalars cs ≡ true → encode_utf8_all cs ≡ take (utf8_valid_len l) l → (utf8_valid_len l ≡ 0) ⊎ Opens l
+    by [] s e = inl (omega (arith, ap length e, length-take-le (utf8_valid_len l) l (utf8_valid_len_le l)))
+    by (c ∷ cs) s e = inr record {
+      char = c;
+      after = encode_utf8_all cs ++ drop (utf8_valid_len l) l;
+      scalar = (both_true (scalar c) (all_scalars cs) s).0;
+      is = sym (take-append-drop (utf8_valid_len l) l) ∙ ap (λ (x : List ℕ). x ++ drop (utf8_valid_len l) l) (sym e) ∙ append_assoc (encode_utf8 c) (encode_utf8_all cs) (drop (utf8_valid_len l) l);
+    }
+
+pub opened : {l : List ℕ} → Opens l → 0 < utf8_valid_len l
+opened {l} o = omega (arith, ap utf8_valid_len o.is, valid_more o.char o.after o.scalar, (utf8_long o.char).0)
+
+-- four bytes show whether a text begins with a character
+pub four_show : (l : List ℕ) → (utf8_valid_len (take 4 l) ≡ 0 → utf8_valid_len l ≡ 0) × (utf8_valid_len l ≡ 0 → utf8_valid_len (take 4 l) ≡ 0)
+four_show l = (λ e. ⊎_elim (λ z. z) (λ o. absurd (short o e)) (opens l), λ e. ⊎_elim (λ z. z) (λ o. absurd (long o e)) (opens (take 4 l)))
+  where
+    short : Opens l → utf8_valid_len (take 4 l) ≡ 0 → ⊥
+    short o e =
+        let bs : List ℕ = encode_utf8 o.char in
+        let q : 4 ≡ length bs + (4 - length bs) = omega (arith, (utf8_long o.char).1) in
+        let is : take 4 l ≡ bs ++ take (4 - length bs) o.after = ap (take 4) o.is ∙ ap (λ (n : ℕ). take n (bs ++ o.after)) q ∙ take_past bs o.after (4 - length bs) in
+        omega (arith, opened (record { char = o.char; after = take (4 - length bs) o.after; scalar = o.scalar; is = is }), e)
+
+    long : Opens (take 4 l) → utf8_valid_len l ≡ 0 → ⊥
+    long o e =
+        let is : l ≡ encode_utf8 o.char ++ (o.after ++ drop 4 l) = sym (take-append-drop 4 l) ∙ ap (λ (x : List ℕ). x ++ drop 4 l) o.is ∙ append_assoc (encode_utf8 o.char) o.after (drop 4 l) in
+        omega (arith, opened (record { char = o.char; after = o.after ++ drop 4 l; scalar = o.scalar; is = is }), e)

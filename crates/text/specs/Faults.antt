@@ -3,8 +3,6 @@ use Rattle.std.specs.Prelude.{ℕ, List, [], ◌∷◌, ◌++◌, Ok, Err, ◌�
 use Rattle.std.specs.Char.{IsScalar}
 use Rattle.refusal.specs.declared.Refusal.{Refusal}
 use Rattle.refusal.specs.declared.Refusal.TheVariants.{TooLarge, BadText}
-use Rattle.text.specs.declared.Scalar.TheVariants.{Point}
-use Rattle.text.specs.Utf8.{scalar_of}
 use Rattle.text.specs.Text.{decoding, encoding}
 use Rattle.text.specs.RoundTrip.{IsWindows1252, IsWithin}
 
@@ -13,10 +11,6 @@ pub record StartsWith (l : List ℕ) (p w : ℕ) : Type 0 where
   pub scalar : IsScalar p
   pub wide : w ≡ length (encode_utf8 p)
   pub here : l ≡ encode_utf8 p ++ drop w l
-
--- the decoder gives a scalar value and its width exactly where the list starts with its bytes
-abbrev pub Utf8Meant : Type 0
-Utf8Meant = (l : List ℕ) (p w : ℕ) → (scalar_of l ≡ Point p w) ↔ StartsWith l p w
 
 -- what is no character of Windows-1252: the bytes of no scalar value, or of one that has no byte
 abbrev pub IsNoUtf8 : List ℕ → Type 0

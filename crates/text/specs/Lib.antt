@@ -1,4 +1,3 @@
-pub mod Utf8
 pub mod Text
 pub mod RoundTrip
 pub mod Faults

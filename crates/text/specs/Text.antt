@@ -1,15 +1,10 @@
--- docs/FORMAT.md, "Text": Windows-1252 bytes to UTF-8 text and back, with their refusals.
-use Rattle.std.specs.Prelude.{None, Option, Some}
-use Rattle.std.specs.Prelude.{Err, Ok, Result}
-use Rattle.refusal.specs.declared.Refusal.{Refusal}
-use Rattle.std.specs.Prelude.{List, [], ◌∷◌, ◌++◌, ℕ, zero, suc, ◌+◌, ◌-◌, ltb, eqb, length, get_or, encode_utf8, if◌then◌else◌}
+-- docs/FORMAT.md, "Text": Windows-1252 bytes to UTF-8 text and back, with their refusals. UTF-8 is std's.
+use Rattle.std.specs.Prelude.{ℕ, ◌+◌, ◌-◌, ◌<◌, ◌≡◌, Option, None, Some, Result, Ok, Err, List, [], ◌∷◌, ◌++◌, ltb, length, take, drop, map, find, get_or, ◌==◌, chars, encode_utf8, encode_utf8_all, if◌then◌else◌}
+use Rattle.std.specs.List.{range_with_len}
+use Rattle.std.specs.Str.Lossy.{utf8_valid_len}
 use Rattle.refusal.specs.Refusal.{limit}
+use Rattle.refusal.specs.declared.Refusal.{Refusal}
 use Rattle.refusal.specs.declared.Refusal.TheVariants.{TooLarge, BadText}
-use Rattle.text.specs.declared.Scalar.{Scalar}
-use Rattle.text.specs.declared.Scalar.TheVariants.{Point, Bad}
-use Rattle.text.specs.declared.Char.{Char}
-use Rattle.text.specs.declared.Char.TheVariants.{Is, Wrong}
-use Rattle.text.specs.Utf8.{scalar_of}
 
 -- the code points of the bytes 80 to 9F
 unfoldable pub points : List ℕ
@@ -21,10 +16,12 @@ points =
 unfoldable pub code_point : ℕ → ℕ
 code_point b = if ltb b 0x80 then b else if ltb b 0xA0 then get_or points (b - 0x80) 0 else b
 
--- a byte string as text
+-- a byte as text, and a byte string
+abbrev pub text_of : ℕ → List ℕ
+text_of b = encode_utf8 (code_point b)
+
 unfoldable pub decoded : List ℕ → List ℕ
-decoded [] = []
-decoded (b ∷ s) = encode_utf8 (code_point b) ++ decoded s
+decoded s = encode_utf8_all (map code_point s)
 
 -- refusal 5 comes before all else
 abbrev pub limited : List ℕ → Result (List ℕ) Refusal → Result (List ℕ) Refusal
@@ -33,45 +30,53 @@ limited s w = if ltb limit (length s) then Err (TooLarge (length s)) else w
 unfoldable pub decoding : List ℕ → Result (List ℕ) Refusal
 decoding s = limited s (Ok (decoded s))
 
--- the byte that has the code point p, looked for among so many bytes from b on
-unfoldable pub seek : ℕ → ℕ → ℕ → Option ℕ
-seek zero b p = None
-seek (suc n) b p = if eqb (code_point b) p then Some b else seek n (b + 1) p
+-- the byte that has the code point p, among so many from a byte on, and among all
+abbrev pub byte_among : ℕ → ℕ → ℕ → Option ℕ
+byte_among count from p = find (λ (b : ℕ). code_point b == p) (range_with_len from count)
 
 unfoldable pub byte_of : ℕ → Option ℕ
-byte_of p = seek 256 0 p
-
--- what stands at the front of a text: a byte and the width of its character, or a fault, 1 not UTF-8 or 2 no Windows-1252 byte
-abbrev pub byte_in : Option ℕ → ℕ → Char
-byte_in (Some b) width = Is b width
-byte_in None width = Wrong 2
-
-abbrev pub char_in : Scalar → Char
-char_in (Point p width) = byte_in (byte_of p) width
-char_in Bad = Wrong 1
-
-unfoldable pub char_of : List ℕ → Char
-char_of l = char_in (scalar_of l)
+byte_of p = byte_among 256 0 p
 
 abbrev pub before : ℕ → Result (List ℕ) Refusal → Result (List ℕ) Refusal
 before b (Ok bs) = Ok (b ∷ bs)
 before b (Err why) = Err why
 
--- a character at a place, with what comes after the bytes that it takes
-abbrev pub and_on : Char → ℕ → (ℕ → Result (List ℕ) Refusal) → Result (List ℕ) Refusal
-and_on (Is b width) place on = before b (on width)
-and_on (Wrong kind) place on = Err (BadText place kind)
+-- a character's byte before those that come after it, or the fault of kind 2 at its place
+abbrev pub and_on : Option ℕ → ℕ → Result (List ℕ) Refusal → Result (List ℕ) Refusal
+and_on (Some b) place rest = before b rest
+and_on None place rest = Err (BadText place 2)
 
--- the text from a place on, its first `skip` bytes being of the character before: its bytes, or its first fault
-unfoldable pub encoded_from : ℕ → ℕ → List ℕ → Result (List ℕ) Refusal
-encoded_from skip place [] = Ok []
-encoded_from (suc skip) place (x ∷ l) = encoded_from skip (place + 1) l
-encoded_from zero place (x ∷ l) = and_on (char_of (x ∷ l)) place (λ (width : ℕ). encoded_from (width - 1) (place + 1) l)
+-- the bytes of characters that stand from a place of the text on, with what comes after the last
+unfoldable pub bytes_of : ℕ → List ℕ → Result (List ℕ) Refusal → Result (List ℕ) Refusal
+bytes_of place [] rest = rest
+bytes_of place (c ∷ cs) rest = and_on (byte_of c) place (bytes_of (place + length (encode_utf8 c)) cs rest)
+
+-- what is left where no more characters stand: nothing, or the fault of kind 1
+abbrev pub ended : ℕ → List ℕ → Result (List ℕ) Refusal
+ended place [] = Ok []
+ended place (b ∷ l) = Err (BadText place 1)
+
+-- a text from a place on: the characters of its longest front that is UTF-8, and what is left
+unfoldable pub encoded_from : ℕ → List ℕ → Result (List ℕ) Refusal
+encoded_from place t = let n = utf8_valid_len t in bytes_of place (chars (take n t)) (ended (place + n) (drop n t))
 
 unfoldable pub encoding : List ℕ → Result (List ℕ) Refusal
-encoding s = limited s (encoded_from 0 0 s)
+encoding t = limited t (encoded_from 0 t)
 
 -- the answer where enough is lent, after so many bytes
 abbrev pub counted : ℕ → Result (List ℕ) Refusal → Result ℕ Refusal
 counted n (Ok bs) = Ok (n + length bs)
 counted n (Err why) = Err why
+
+-- a text begins with the character of a byte; a number is that byte, or 0 where there is none
+pub record Begins (t : List ℕ) (b : ℕ) : Type 0 where
+  pub byte : b < 256
+  pub here : t ≡ text_of b ++ drop (length (text_of b)) t
+
+pub record Leads (t : List ℕ) (b : ℕ) : Type 0 where
+  pub some : (b ≡ 0 → ⊥) → Begins t b
+  pub none : b ≡ 0 → (other : ℕ) → Begins t other → ⊥
+
+-- why no byte leads a text
+abbrev pub fault_kind : List ℕ → ℕ
+fault_kind t = if utf8_valid_len t == 0 then 1 else 2

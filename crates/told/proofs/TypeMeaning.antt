@@ -2,6 +2,7 @@
 use Rattle.std.proofs.Common.{ℕ, suc, ◌+◌, ◌-◌, ◌*◌, ◌≤◌, ◌≡◌, refl, sym, ap, ◌∙◌, subst, List, [], ◌∷◌, length, get_or, Ok, Err, Result, arith, Bor, ⊎_elim}
 use Rattle.std.specs.Prelude.{Some, None, Option, ok_or, slice_get}
 use Rattle.std.proofs.lemmas.Bool.{cases_lt}
+use native.Mathlib.Nat.{add-zero}
 use Rattle.le.specs.Le.{le2}
 use Rattle.part.specs.Slice.{part, after}
 use Rattle.part.specs.Outcome.{and_then}
@@ -16,7 +17,8 @@ use Rattle.data_type.specs.declared.array.AdsArrayInfo.{AdsArrayInfo}
 use Rattle.data_type.specs.declared.array.ArrayInfos.{ArrayInfos}
 use Rattle.data_type.specs.declared.members.Member.{Member}
 use Rattle.data_type.specs.declared.members.Position.{Position}
-use Rattle.data_type.specs.Accepted.{and_then_ok}
+use Rattle.part.proofs.Outcome.{both_passed}
+use Rattle.part.proofs.Slice.{part_after}
 use Rattle.data_type.specs.Array as array
 use Rattle.data_type.specs.DataType.{levels, arrays_of, type_of}
 use Rattle.data_type.specs.Members.{members_of, numbered}
@@ -26,7 +28,6 @@ use Rattle.data_type.proofs.Meant.{types_meant}
 use Rattle.data_type.proofs.Numbers.{arrays_meant}
 use Rattle.told.specs.Slots.{field_slots}
 use Rattle.told.proofs.Meaning.{field_told}
-use Rattle.told.proofs.Parts.{part_after}
 use Rattle.told.specs.declared.types.ReadMember.{ReadMember}
 use Rattle.told.specs.Asked.{type_member}
 use Rattle.told.specs.TypeSlots.{arrays_at, type_slots, type_guid, array_slots, member_slots, member_guid, path_slots}
@@ -59,7 +60,7 @@ types_told mode e r h =
     ∙ ap (λ (n : ℕ). part (after e (45 + length r.field.name.now + length r.field.type_name.now + length r.field.comment.now)) 0 (8 * n)) (sym count) in
     record {
       as_of_field = f;
-      arrays = sym (bytes ∙ part_after e (45 + length r.field.name.now + length r.field.type_name.now + length r.field.comment.now) 0 (45 + length r.field.name.now + length r.field.type_name.now + length r.field.comment.now) (8 * r.arrays.count) (omega arith));
+      arrays = sym (bytes ∙ part_after e (45 + length r.field.name.now + length r.field.type_name.now + length r.field.comment.now) 0 (8 * r.arrays.count) ∙ ap (λ (k : ℕ). part e k (8 * r.arrays.count)) (add-zero (45 + length r.field.name.now + length r.field.type_name.now + length r.field.comment.now)));
       array_count = count ∙ c.1;
       item_count = sym (ap (λ (x : AdsDataTypeInfo). x.sub_items.count) a.is) ∙ c.2;
       member_count = sym (counted mode e r h);
@@ -74,7 +75,7 @@ array_not w why a h k = cc
 -- an array record with a number
 pub arrays_told : ArraysTold
 arrays_told mode s number a h =
-    let r = and_then_ok (parse_of 42 (type_of mode) s) _ a h in
+    let r = both_passed (parse_of 42 (type_of mode) s) h in
     let m = arrays_meant mode s r.0 r.1.0 in
     ⊎_elim
     (λ k. array_is (array.numbered r.0.arrays number) _ a (m.told number k) r.1.1)
@@ -118,8 +119,8 @@ module _ (mode : Mode) (s : Bor (List ℕ)) (r : AdsDataTypeInfo) (accepted : pa
 
   told : (number : ℕ) (m : ReadMember) → type_member mode s number ≡ Ok m → MemberTold s r number m (λ k. get_or (member_slots m) k 0) (λ k. get_or (path_slots m) k 0) (member_guid m)
   told number m h =
-      let x = and_then_ok (numbered r number) _ m (of_accepted number m h) in
-      let t = and_then_ok (type_of mode x.0.own) _ m x.1.1 in
+      let x = both_passed (numbered r number) (of_accepted number m h) in
+      let t = both_passed (type_of mode x.0.own) x.1.1 in
       let is : record { position = x.0.position; data_type = t.0 } ≡ m = cc t.1.1 in
       let found : slice_get (members_of r) number ≡ Some x.0 = numbered_at (slice_get (members_of r) number) _ x.0 x.1.0 in
       let stands = (types_meant mode s r accepted).stands number x.0 found in

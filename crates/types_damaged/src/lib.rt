@@ -5,9 +5,9 @@ ghost use Rattle.refusal.specs.declared.Mode.{Mode};
 ghost use Rattle.damage.specs.Theorems.{StaysInPlace, StaysAnywhere};
 ghost use Rattle.field.specs.Field.{field_of};
 ghost use Rattle.field.specs.Told.{Told as FieldTold, told_of as field_told};
-ghost use Rattle.types_regrown.specs.Told.{Told as TypeTold, told_of as type_told};
-ghost use Rattle.types_damaged.specs.TypesAnywhere.{types_anywhere};
-ghost use Rattle.types_damaged.specs.Anywhere.{fields_anywhere};
+ghost use Rattle.field.proofs.Anywhere.{fields_anywhere};
+ghost use Rattle.data_type.specs.Told.{Told as TypeTold, told_of as type_told};
+ghost use Rattle.data_type.proofs.Anywhere.{types_anywhere};
 ghost use Rattle.data_type.specs.DataType.{type_of};
 
 use damage::Telling;

@@ -12,7 +12,8 @@ use Rattle.field.specs.Told.{IsTyped, Agrees}
 use Rattle.field.specs.Writing.{numbers_bytes, header_bytes, guid_bytes, mask_bytes, sections_bytes, field_bytes, attributes_checked, field_checked, field_written}
 use Rattle.fields_regrown.specs.Kind.{IsFit}
 use Rattle.data_type.specs.declared.AdsDataTypeInfo.{AdsDataTypeInfo}
-use Rattle.types_regrown.specs.Told.{told_of, meant}
+use Rattle.data_type.specs.Told.{told_of}
+use Rattle.types_regrown.specs.Told.{meant}
 use Rattle.types_regrown.specs.Theorems.{TypesShutOut}
 
 -- every number 0, no flag set, no name

@@ -21,7 +21,8 @@ use Rattle.data_type.specs.DataType.{type_of}
 use Rattle.data_type.specs.Members.{members_of}
 use Rattle.data_type.specs.Array.{listed}
 use Rattle.data_type.proofs.Steps.{none_left}
-use Rattle.types_regrown.specs.Told.{told_member, told_of, meant}
+use Rattle.data_type.specs.Told.{told_member, told_of}
+use Rattle.types_regrown.specs.Told.{meant}
 use Rattle.types_regrown.specs.Plain.{plain, plain_at}
 
 -- what is told of a record with no array record and no sub-item

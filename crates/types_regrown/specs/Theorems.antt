@@ -14,7 +14,8 @@ use Rattle.field.specs.Writing.{field_bytes}
 use Rattle.fields_regrown.specs.Kind.{IsFit}
 use Rattle.data_type.specs.declared.AdsDataTypeInfo.{AdsDataTypeInfo}
 use Rattle.data_type.specs.DataType.{type_at, type_of}
-use Rattle.types_regrown.specs.Told.{told_of, meant}
+use Rattle.data_type.specs.Told.{told_of}
+use Rattle.types_regrown.specs.Told.{meant}
 use Rattle.types_regrown.specs.Plain.{plain}
 
 -- fit fields, written one after another, come back from the walk over data types, in whatever mode, with no array record and no member

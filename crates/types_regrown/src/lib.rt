@@ -4,7 +4,8 @@
 ghost use Rattle.field.specs.declared.writer.NewField.{NewField};
 ghost use Rattle.field.specs.Writing.{field_bytes};
 ghost use Rattle.fields_regrown.specs.Kind.{IsFit};
-ghost use Rattle.types_regrown.specs.Told.{Told, told_of, meant};
+ghost use Rattle.data_type.specs.Told.{Told, told_of};
+ghost use Rattle.types_regrown.specs.Told.{meant};
 ghost use Rattle.types_regrown.specs.Kind.{reads_back};
 ghost use Rattle.types_regrown.specs.Theorems.{TypesComeBack, TypesShutOut, PlainEntries};
 

@@ -37,7 +37,7 @@ use flags::symbol_flags::{AdsSymbol2Flags, AdsSymbolFlags};
 use flags::type_flags::AdsTypeFlags;
 use refactor::AdsRefactorInfo;
 use refusal::{Mode, Refusal};
-use symbol::{AdsSymbolInfo, NewSymbol, SymbolHead};
+use symbol::{AdsSymbolInfo, NewSymbol};
 use writing::Block;
 
 // The number of this interface changes with the arguments or the slots of any call, which no linker sees. So it stands in names, which a linker
@@ -461,7 +461,6 @@ pub extern "C" fn vindaskot_room(length: usize, answer: &mut [u64; 2]) -> u32
 
 // By heads, which read no section in the present mode.
 #[unsafe(no_mangle)]
-#[tactic(auto, using(symbol_find::proofs::Alike::indexed_alike))]
 pub extern "C" fn vindaskot_index_build(
     bytes: &[u8],
     slots: &mut [u32],
@@ -470,7 +469,7 @@ pub extern "C" fn vindaskot_index_build(
     ensures { WritesTold (indexing (symbol_of Present) bytes.entry) slots.old slots.new result answer.new }
 {
     told::number(
-        index::build::<SymbolHead>(bytes, Mode::Present, slots),
+        index::build::<AdsSymbolInfo>(bytes, Mode::Present, slots),
         answer,
     )
 }

@@ -13,7 +13,7 @@ ghost use Rattle.told.specs.Told.{Tells, WritesTold, WritesBothTold, mode_of, nu
 ghost use Rattle.told.specs.Slots.{slots_after, step_after, symbol_slots, symbol_guid, field_slots, field_guid, attribute_slots, refactor_slots};
 
 use field::AdsFieldInfo;
-use symbol::{AdsSymbolInfo, SymbolHead};
+use symbol::AdsSymbolInfo;
 use told::mode;
 
 #[unsafe(no_mangle)]
@@ -230,7 +230,6 @@ pub extern "C" fn vindaskot_chain_record_in(
 }
 
 #[unsafe(no_mangle)]
-#[tactic(auto, using(symbol_find::proofs::Alike::indexed_alike))]
 pub extern "C" fn vindaskot_index_build_in(
     bytes: &[u8],
     checked: bool,
@@ -240,7 +239,7 @@ pub extern "C" fn vindaskot_index_build_in(
     ensures { WritesTold (indexing (symbol_of (mode_of checked)) bytes.entry) slots.old slots.new result answer.new }
 {
     told::number(
-        index::build::<SymbolHead>(bytes, mode(checked), slots),
+        index::build::<AdsSymbolInfo>(bytes, mode(checked), slots),
         answer,
     )
 }
@@ -284,7 +283,7 @@ pub extern "C" fn vindaskot_salvage_in(
     ensures { WritesBothTold (salvaging (symbol_of (mode_of checked)) bytes.entry) out.old runs.old out.new runs.new result answer.new }
 {
     told::salvaged(
-        salvage::salvage::<SymbolHead>(bytes, mode(checked), out, runs),
+        salvage::salvage::<AdsSymbolInfo>(bytes, mode(checked), out, runs),
         answer,
     )
 }

@@ -16,6 +16,9 @@ ghost use Rattle.walk.specs.Direct.{ParsesMeant};
 ghost use Rattle.walk.specs.Pieces.{piece_at, pieces, walker_left, NextGives};
 ghost use Rattle.walk.specs.Theorems.{cursor_of, StepsRead, PiecesAreSteps, PiecesTellSteps, BehindIsUnread};
 
+mod accepted;
+
+pub use accepted::{Accepted, Accepts};
 use entry::Walked;
 use refusal::{Mode, Refusal};
 use std::marker::PhantomData;

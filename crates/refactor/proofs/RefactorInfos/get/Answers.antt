@@ -1,18 +1,15 @@
-use Rattle.std.proofs.Common.{ℕ, Err, sym, ap, ◌∙◌, subst, arith}
-use Rattle.std.specs.Iterator.{Yields}
-use Rattle.refusal.specs.declared.Refusal.TheVariants.{NoSuchNumber}
-use Rattle.refactor.specs.Refactor.{NextGives}
-use Rattle.refactor.proofs.Left.{next_is, none_is}
+use Rattle.std.proofs.Common.{refl}
+use Rattle.std.proofs.lemmas.Iterator.Consumers.{nth_from_yields_List, count_from_yields_List}
+use Rattle.std.proofs.lemmas.Iterator.Adapters.{option_map_id}
+use Rattle.refactor.proofs.Left.{all_given}
 use Rattle.refactor.proofs.RefactorInfos.get.Goals as goal
 
-pub returns-then-count-number : goal.returns-then-count-number
-returns-then-count-number c =
-    let h = c.loop-info in
-    let given = subst (λ a. Yields NextGives a h.yielded h.info-iterator) c.into_iter-info-iterator.ensures.into_iter_gives h.yielded_by in
-    next_is _ _ _ h.yielded c.args.number given c.in-Some.info (subst (λ r. NextGives h.info-iterator r c.next.new.self) c.in-Some.is c.next.ensures.steps) (sym h.invariant.counted ∙ c.if-count-number.true)
+pub returns-in-Some : goal.returns-in-Some
+returns-in-Some c =
+    let road = nth_from_yields_List _ _ _ c.nth.ensures.ran (all_given c.args.self) in
+    rw (← road, option_map_id, c.in-Some.is) refl
 
-pub returns : goal.returns
-returns c =
-    let h = c.loop-info in
-    let given = subst (λ a. Yields NextGives a h.yielded h.info-iterator) c.into_iter-info-iterator.ensures.into_iter_gives h.yielded_by in
-    ap (λ (n : ℕ). Err (NoSuchNumber n c.args.number)) h.invariant.counted ∙ none_is _ _ _ h.yielded c.args.number given (subst (λ r. NextGives h.info-iterator r c.next.new.self) c.in-None.is c.next.ensures.steps) (omega arith)
+pub returns-in-None : goal.returns-in-None
+returns-in-None c =
+    let road = nth_from_yields_List _ _ _ c.nth.ensures.ran (all_given c.args.self) in
+    rw (← road, option_map_id, c.in-None.is, count_from_yields_List _ _ c.count.ensures.ran (all_given c.args.self)) refl

@@ -1,0 +1,298 @@
+//! The arguments.
+
+use crate::failure::Failure;
+use refusal::Mode;
+use std::alloc::{AllocError, Global};
+use upload::Form;
+
+/// What is asked for.
+#[derive(Drop)]
+pub enum Request<'a> {
+    /// The help text.
+    Help,
+    /// The version.
+    Version,
+    /// The slots of an upload of which nothing but its length is known.
+    Room {
+        /// In bytes.
+        length: usize,
+    },
+    /// Something of a file.
+    Run(Run<'a>),
+}
+
+/// What is asked of a file.
+#[derive(Drop)]
+pub struct Run<'a> {
+    /// Its path, or `-` for standard input.
+    pub file: &'a str,
+    /// The form that was told, or `None` to look at the content.
+    pub form: Option<Form>,
+    /// How entries are read.
+    pub mode: Mode,
+    /// What is asked.
+    pub asked: Asked<'a>,
+}
+
+/// The words for a file, with what belongs to each.
+#[derive(Drop)]
+pub enum Asked<'a> {
+    Find {
+        name: &'a str,
+        attribute: Option<&'a str>,
+    },
+    Show {
+        name: &'a str,
+    },
+    List {
+        json: bool,
+    },
+    /// Data types, all or the first of a name.
+    Type {
+        name: Option<&'a str>,
+        json: bool,
+    },
+    Check,
+    Compare {
+        /// The file that the first is held against.
+        with: &'a str,
+        json: bool,
+    },
+    Salvage {
+        /// Where what is kept is written to.
+        to: &'a str,
+    },
+}
+
+// The word that says what to do.
+#[derive(Clone, Copy, Debug, PartialEq, Eq)]
+enum Command {
+    Find,
+    Show,
+    List,
+    Type,
+    Check,
+    Compare,
+    Salvage,
+    Room,
+}
+
+impl Command {
+    fn of(word: &str) -> Option<Command> {
+        match word {
+            "find" => Some(Command::Find),
+            "show" => Some(Command::Show),
+            "list" => Some(Command::List),
+            "type" => Some(Command::Type),
+            "check" => Some(Command::Check),
+            "compare" => Some(Command::Compare),
+            "salvage" => Some(Command::Salvage),
+            "room" => Some(Command::Room),
+            _ => None,
+        }
+    }
+}
+
+#[derive(Clone, Copy, Debug)]
+struct Options {
+    form: Option<Form>,
+    mode: Mode,
+    json: bool,
+}
+
+fn usage<T>(alloc: Global, why: &str) -> Result<T, Failure> {
+    Err(Failure::Usage(String::from_str(alloc, why)?))
+}
+
+impl Options {
+    fn new() -> Self {
+        Options {
+            form: None,
+            mode: Mode::Present,
+            json: false,
+        }
+    }
+
+    fn tell(&mut self, alloc: Global, form: Form) -> Result<(), Failure> {
+        if self.form.is_some_and(|before| before != form) {
+            return usage(alloc, "a file is not both --binary and --hex");
+        }
+        self.form = Some(form);
+        Ok(())
+    }
+
+    // Refuses one that is not for this command.
+    fn suit(&self, alloc: Global, command: Command, word: &str) -> Result<(), Failure> {
+        if self.json && !matches!(command, Command::List | Command::Type | Command::Compare) {
+            return Err(Failure::Usage(format!(in alloc; "--json is for list, type and compare, not for {word}")?));
+        }
+        if command != Command::Room {
+            return Ok(());
+        }
+        match (self.form, self.mode) {
+            (Some(Form::Binary), _) => usage(alloc, "--binary is for a file, not for room"),
+            (Some(Form::Hexadecimal), _) => usage(alloc, "--hex is for a file, not for room"),
+            (None, Mode::Checked) => usage(alloc, "--checked is for a file, not for room"),
+            (None, Mode::Present) => Ok(()),
+        }
+    }
+
+    // One that begins with two dashes, with a value behind `=` or without. Help and the version, once asked for, are all that is done.
+    fn take_long<'a>(&mut self, alloc: Global, word: &str) -> Result<Option<Request<'a>>, Failure> {
+        let (name, value) = match word.split_once('=') {
+            Some((name, value)) => (name, Some(value)),
+            None => (word, None),
+        };
+        match name {
+            "--help" => return Ok(Some(Request::Help)),
+            "--version" => return Ok(Some(Request::Version)),
+            "--binary" => self.tell(alloc, Form::Binary)?,
+            "--hex" => self.tell(alloc, Form::Hexadecimal)?,
+            "--checked" => self.mode = Mode::Checked,
+            "--json" => self.json = true,
+            _ => return Err(Failure::Usage(format!(in alloc; "invalid option '{name}'")?)),
+        }
+        match value {
+            None => Ok(None),
+            Some(value) => Err(Failure::Usage(format!(in alloc; "unexpected argument for option '{name}': {value:?}")?)),
+        }
+    }
+
+    // A word of options.
+    fn take<'a>(&mut self, alloc: Global, word: &str) -> Result<Option<Request<'a>>, Failure> {
+        if word.starts_with("--") {
+            return self.take_long(alloc, word);
+        }
+        match word.chars().nth(1) {
+            Some('h') => Ok(Some(Request::Help)),
+            Some('V') => Ok(Some(Request::Version)),
+            Some(letter) => Err(Failure::Usage(format!(in alloc; "invalid option '-{letter}'")?)),
+            None => Ok(None),
+        }
+    }
+}
+
+/// What the words of the command line ask for.
+pub fn read<'a>(alloc: Global, line: &'a [String]) -> Result<Request<'a>, Failure> {
+    let mut options = Options::new();
+    let mut words: Vec<&'a str> = Vec::new(alloc);
+    let mut are_options = true;
+    for word in line.iter().skip(1) {
+        let word = word.as_str();
+        if !are_options || word == "-" || !word.starts_with('-') {
+            words.push(word).map_err(AllocError::from)?;
+        } else if word == "--" {
+            are_options = false;
+        } else if let Some(request) = options.take(alloc, word)? {
+            return Ok(request);
+        }
+    }
+    let mut words = Words {
+        alloc,
+        words,
+        next: 0,
+    };
+    words.request(options)
+}
+
+// The words that are no options, and how many of them were looked at.
+#[derive(Drop)]
+struct Words<'a> {
+    alloc: Global,
+    words: Vec<&'a str>,
+    next: usize,
+}
+
+impl<'a> Words<'a> {
+    fn next(&mut self) -> Option<&'a str> {
+        let word = self.words.as_slice().get(self.next).copied();
+        self.next = self.next.saturating_add(1);
+        word
+    }
+
+    fn need(&mut self, what: &str) -> Result<&'a str, Failure> {
+        match self.next() {
+            Some(word) => Ok(word),
+            None => {
+                let command = self.words.as_slice().first().copied().unwrap_or_default();
+                Err(Failure::Usage(format!(in self.alloc; "{command} needs {what}")?))
+            }
+        }
+    }
+
+    fn request(&mut self, options: Options) -> Result<Request<'a>, Failure> {
+        let alloc = self.alloc;
+        let Some(word) = self.next() else {
+            return usage(alloc, "it is not said what to do");
+        };
+        let Some(command) = Command::of(word) else {
+            return Err(Failure::Usage(format!(in alloc; "there is no command {word:?}")?));
+        };
+        options.suit(alloc, command, word)?;
+        let request = match command {
+            Command::Room => Request::Room {
+                length: self.length()?,
+            },
+            _ => Request::Run(self.run(command, options)?),
+        };
+        match self.next() {
+            None => Ok(request),
+            Some(extra) => Err(Failure::Usage(format!(in alloc; "{word} does not take {extra:?} as well")?)),
+        }
+    }
+
+    fn run(&mut self, command: Command, options: Options) -> Result<Run<'a>, Failure> {
+        let file = self.need("a file, or - for standard input")?;
+        let json = options.json;
+        let asked = match command {
+            Command::Find => Asked::Find {
+                name: self.need("the name of a symbol")?,
+                attribute: self.next(),
+            },
+            Command::Show => Asked::Show {
+                name: self.need("the name of a symbol")?,
+            },
+            Command::List => Asked::List { json },
+            Command::Type => Asked::Type {
+                name: self.next(),
+                json,
+            },
+            Command::Compare => Asked::Compare {
+                with: self.other_file(file)?,
+                json,
+            },
+            Command::Salvage => Asked::Salvage {
+                to: self.need("a path that what is kept is written to")?,
+            },
+            Command::Check | Command::Room => Asked::Check,
+        };
+        Ok(Run {
+            file,
+            form: options.form,
+            mode: options.mode,
+            asked,
+        })
+    }
+
+    // A second file. Standard input can't be both.
+    fn other_file(&mut self, file: &str) -> Result<&'a str, Failure> {
+        let other = self.need("a second file, or - for standard input")?;
+        if file == "-" && other == "-" {
+            return usage(self.alloc, "compare reads standard input once, for one of A and B");
+        }
+        Ok(other)
+    }
+
+    // A number of bytes in decimal digits. Zeros may stand before it, since scripts pad their numbers; a plus sign may not.
+    fn length(&mut self) -> Result<usize, Failure> {
+        let word = self.need("the length of an upload")?;
+        let alloc = self.alloc;
+        if word.is_empty() || !word.bytes().all(|byte| byte.is_ascii_digit()) {
+            return Err(Failure::Usage(format!(in alloc; "room needs the length of an upload in digits, not {word:?}")?));
+        }
+        match word.parse::<usize>() {
+            Ok(length) => Ok(length),
+            Err(_) => Err(Failure::Usage(format!(in alloc; "room needs a length of at most 64 bits, not {word:?}")?)),
+        }
+    }
+}

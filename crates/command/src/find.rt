@@ -1,0 +1,165 @@
+//! `find`: a symbol by its name, an attribute by its name.
+
+use crate::failure::Failure;
+use refusal::{Mode, Refusal};
+use report::Upload;
+use std::alloc::Global;
+use std::fmt::Display;
+use std::io::Write;
+use symbol::{AdsSymbolInfo, Symbols};
+use walk::Entry;
+use wording::InWords;
+use wording::text::{Exact, Shown};
+
+/// A failure about an upload, with what it was read as: a wrong guess is the first thing to rule out.
+pub fn refused<D: Display>(alloc: Global, upload: &Upload<'_>, why: &D) -> Failure {
+    match format!(in alloc; "{upload}: {why}") {
+        Ok(text) => Failure::Refused(text),
+        Err(_) => Failure::Memory,
+    }
+}
+
+/// An argument as an upload would have it.
+pub fn windows_1252(alloc: Global, argument: &str) -> Result<Vec<u8>, Failure> {
+    let mut bytes = vec![in alloc; 0u8; argument.len()]?;
+    match text::encode(argument.as_bytes(), bytes.as_mut_slice()) {
+        Ok(length) => {
+            bytes.truncate(length);
+            Ok(bytes)
+        }
+        Err(why) => {
+            let why = InWords(&why);
+            Err(Failure::Refused(format!(in alloc;
+                "{argument}: {why}; a name is asked for in UTF-8 and looked up in Windows-1252"
+            )?))
+        }
+    }
+}
+
+/// A symbol and where it starts in the upload.
+#[derive(Drop)]
+pub struct Found<'a> {
+    /// In bytes from the start of the upload.
+    pub at: usize,
+    /// The symbol.
+    pub symbol: AdsSymbolInfo<'a>,
+}
+
+/// The first symbol of a name.
+pub fn named<'a>(alloc: Global, upload: &Upload<'a>, name: &str) -> Result<Found<'a>, Failure> {
+    let asked = windows_1252(alloc, name)?;
+    let asked = asked.as_slice();
+    let bytes = upload.bytes;
+    match symbol_find::find(bytes, upload.mode, asked) {
+        Ok(at) => match walk::parse::<AdsSymbolInfo>(&bytes[at.min(bytes.len())..], upload.mode) {
+            Ok(symbol) => Ok(Found { at, symbol }),
+            Err(why) => Err(refused(alloc, upload, &InWords(&why))),
+        },
+        Err(Refusal::NameNotFound) => no_symbol(alloc, upload, asked),
+        Err(why) => Err(refused(alloc, upload, &InWords(&why))),
+    }
+}
+
+/// A line with the place of the first symbol of a name and its type, or with the value of one of its attributes alone.
+pub fn find<W: Write>(
+    alloc: Global,
+    upload: &Upload<'_>,
+    name: &str,
+    attribute: Option<&str>,
+    out: &mut W,
+) -> Result<(), Failure> {
+    let found = named(alloc, upload, name)?;
+    match attribute {
+        None => {
+            let at = found.at;
+            let type_name = Exact(found.symbol.type_name);
+            writeln!(out, "{at} {type_name}")?;
+        }
+        Some(attribute) => {
+            let asked = windows_1252(alloc, attribute)?;
+            match found.symbol.attributes.named(asked.as_slice()) {
+                Ok(one) => {
+                    let value = Exact(one.value);
+                    writeln!(out, "{value}")?;
+                }
+                Err(_) => return no_attribute(alloc, upload, &found.symbol, asked.as_slice()),
+            }
+        }
+    }
+    Ok(())
+}
+
+fn no_attribute(
+    alloc: Global,
+    upload: &Upload<'_>,
+    symbol: &AdsSymbolInfo<'_>,
+    asked: &[u8],
+) -> Result<(), Failure> {
+    let mut there = String::new(alloc);
+    let mut is_first = true;
+    for one in symbol.attributes {
+        let one = Shown(one.name);
+        if !is_first {
+            there.push_str(", ")?;
+        }
+        write!(there, "{one}")?;
+        is_first = false;
+    }
+    if is_first {
+        there.push_str("none")?;
+    }
+    let name = Shown(symbol.name);
+    let asked = Shown(asked);
+    Err(Failure::Refused(format!(in alloc;
+        "{upload}: refusal 13, name not found: {name} has no attribute {asked}; it has {there}"
+    )?))
+}
+
+// That no symbol has a name, and why: one that has it was refused in the checked mode, or one differs in the case of
+// accented letters, and whoever types a name in another case does not expect that these alone are told apart.
+fn no_symbol<'a>(alloc: Global, upload: &Upload<'a>, asked: &[u8]) -> Result<Found<'a>, Failure> {
+    let shown = Shown(asked);
+    if let Some((at, why)) = refused_for_its_end(upload, asked) {
+        let why = InWords(&why);
+        return Err(Failure::Refused(format!(in alloc;
+            "{upload}: refusal 13, name not found: {shown} at {at} was refused, {why}"
+        )?));
+    }
+    let small = small(alloc, asked)?;
+    for piece in Symbols::new(upload.bytes, upload.mode) {
+        if let Ok(symbol) = piece.answer {
+            if is_alike(alloc, symbol.name, &small)? {
+                let name = Shown(symbol.name);
+                return Err(Failure::Refused(format!(in alloc;
+                    "{upload}: refusal 13, name not found: no symbol is {shown}, but one is {name}"
+                )?));
+            }
+        }
+    }
+    Err(Failure::Refused(format!(in alloc;
+        "{upload}: refusal 13, name not found: no symbol is {shown}"
+    )?))
+}
+
+/// A name in small letters, accented ones too.
+pub fn small(alloc: Global, name: &[u8]) -> Result<String, Failure> {
+    let exact = Exact(name);
+    let text = format!(in alloc; "{exact}")?;
+    Ok(text.as_str().to_lowercase(alloc)?)
+}
+
+/// Whether a name is one in small letters but for the case of its own.
+pub fn is_alike(alloc: Global, name: &[u8], small_name: &String) -> Result<bool, Failure> {
+    let own = small(alloc, name)?;
+    Ok(own.as_str() == small_name.as_str())
+}
+
+// The first symbol of a name that the present mode accepts, where the upload's own refuses it.
+fn refused_for_its_end(upload: &Upload<'_>, asked: &[u8]) -> Option<(usize, Refusal)> {
+    let bytes = upload.bytes;
+    let at = symbol_find::find(bytes, Mode::Present, asked).ok()?;
+    match walk::parse::<AdsSymbolInfo>(&bytes[at.min(bytes.len())..], upload.mode) {
+        Ok(_) => None,
+        Err(why) => Some((at, why)),
+    }
+}

@@ -1,0 +1,87 @@
+//! The help text.
+
+pub const HELP: &str = r#"vindaskot: any TwinCAT symbol upload, in words
+
+  vindaskot find FILE NAME              where the symbol starts in the upload, and its type
+  vindaskot find FILE NAME ATTRIBUTE    the value of its attribute, and nothing else
+  vindaskot show FILE NAME              everything of one symbol, and a picture of its bytes
+  vindaskot list FILE [--json]          a table of the entries, or a line of JSON for each
+  vindaskot type FILE [NAME] [--json]   data types with their members as trees, all or the first of a name
+  vindaskot check FILE                  how many entries there are, what was refused, and where
+  vindaskot compare A B [--json]        which entries of two uploads differ and in which parts, and what else moved
+  vindaskot salvage FILE OUT            the accepted entries as a new upload in OUT, and a table of what was dropped
+  vindaskot room LENGTH                 how many slots the index of an upload of so many bytes can need
+
+FILE is a path, or - for standard input: up to 16,777,216 bytes, binary or hexadecimal text. Digits are of either case,
+with white space and line ends of any kind between them. Which it is, the first four bytes tell: four characters of text
+would be the length of an entry above that limit, so they are hexadecimal. show, list, type, check, compare and salvage
+say which, and so does every refusal of what was read. It is an upload of symbols, for type one of data types.
+Words of the command line are UTF-8; a file of another name is read from standard input.
+
+type prints a tree: members stand below what they are members of, two columns further to the right. Of each, the offset
+within what it is a member of is told, and the offset from the start of the whole data type, the sum of the offsets on the
+way down to it; array bounds are as IEC 61131-3 has them. Offsets and sizes are in bytes, and the member's data lie there,
+where nothing stands under mark, in JSON in marks:
+  bits         its offset and size are in bits
+  static       its data do not lie there
+  property     code reads and writes it: no data lie there
+  reference    a reference lies there, and the data of its members where it leads
+  in ..        it stands in a member of that mark, so that its offset from the start is no place
+What stands in an array is told of its first element. A data type is refused as a whole where one of its members is, with
+that member's own figures, and where they stand in each other more than 16 deep.
+
+A and B are each as FILE is, and one of them at most is -. The table of compare has a line for each part in which an
+entry differs, under the name that the part has beside the picture of show; what is told there is what A has and what B
+has. Where that is the same in both, the first byte in which they differ is told. Lengths of strings are not told beside
+the strings. Under refusal stands why an entry is refused in one of them, or in both for other reasons or with other
+bytes. Entries that one has alone are told as such. Where B has an entry at another place, a line says by how much, once
+for it and all that follows. An entry of A is the same one as an entry of B by the first of these that finds it:
+  the same name, in any case of A to Z, at the same place and as long
+  the same name anywhere, of several the first with the first; what is refused has no name, so its bytes are taken
+  at the same place, and as long or refused in one of them
+  as long, and right behind the same entry
+So damage in an entry that leaves its first four bytes, its length, as they were is told of that entry alone. In JSON a
+and b are null where the entry is not there, and later_in_b is by how many bytes B has it at a later place.
+
+OUT is a path where nothing stands yet: nothing is written over, the file that is read least of all. It is binary,
+whatever FILE is, and it is there whole or not at all: it gets its name once it is whole, by a hard link. FAT and other
+file systems that have none refuse it; write it elsewhere and copy it. A run that is killed can leave a file by the name
+of .vindaskot-, its process number and another number beside OUT, which nothing reads: remove it.
+
+The accepted entries stand in OUT unchanged and in order; each refused one is a line of the table, with its place, its
+length and the reason. From a length of 0 on, and from one that leaves the upload, all is dropped. Read as FILE was,
+with --checked or without, nothing in OUT is refused.
+
+LENGTH is a number of bytes in decimal digits, with or without zeros before it. Nothing is read, and the number of slots
+is printed alone: whatever the upload will be, with --checked or without, its index needs no more, and some upload of
+that length needs all of them.
+
+  --binary, --hex    the file is binary, or hexadecimal, whatever it looks like
+  --checked          an entry is refused where a name, a value or another string does not end in a byte of 0: it may have
+                     been cut there. Without this, such an entry is shown as it is
+  --json             list and type: a line of JSON an entry; compare: one for each that differs, and one where the
+                     distance to B's places changes
+  --help, -h         this text
+  --version, -V      the version
+
+A symbol or a data type is found by its name in any case of A to Z, and its name is printed as the upload has it.
+Accented letters, and an attribute's name, must be typed as the upload has them.
+
+Examples:
+  vindaskot find rig.bin MAIN.stLens ZoomCurveEnd
+  vindaskot show rig.bin MAIN.stLens
+  vindaskot list rig.hex | less -S
+  vindaskot type types.bin ST_LensTable
+  xxd -p rig.bin | vindaskot check -
+  vindaskot compare yesterday.bin today.bin
+  vindaskot salvage --checked capture.bin rehearsal.bin
+  vindaskot room 1400000
+
+Status: 0 done, of compare that the two are alike; 1 refused, not found or different; 2 the arguments, a file or the
+output. Messages go to standard error, with the number of the refusal (docs/FORMAT.md has the table). Of salvage it is,
+whether or not anybody reads its table:
+  0    everything was kept, and OUT is there
+  1    something was dropped, and OUT is there; or FILE was refused as a whole, and OUT is not there
+  2    nothing was written, unless it was the table that could not be printed
+Colour is for a terminal, unless NO_COLOR is set.
+"#;

@@ -1,0 +1,88 @@
+//! `compare --json`: a line a finding.
+use crate::differences::{Difference, differences};
+use crate::pairs::Row;
+use crate::pieces::Piece;
+use refusal::Mode;
+use report::json::RefusedEntry;
+use std::alloc::Global;
+use std::io::Write;
+use std::{fmt, io};
+use values::AsJson;
+use wording::text::Quoted;
+
+/// Writes the lines; whether there is none.
+pub(crate) fn write<W: Write>(
+    alloc: Global,
+    rows: &[Row<'_>],
+    mode: Mode,
+    out: &mut W,
+) -> io::Result<bool> {
+    let mut before = 0;
+    let mut is_alike = true;
+    for row in rows {
+        if let Some(moved) = row.moved(before) {
+            before = moved.later;
+            is_alike = false;
+            let (in_a, in_b) = (moved.place_in_a, moved.place_in_b);
+            writeln!(
+                out,
+                "{{\"later_in_b\":{before},\"a\":{{\"place\":{in_a}}},\"b\":{{\"place\":{in_b}}}}}"
+            )?;
+        }
+        if !row.is_alike() {
+            is_alike = false;
+            write_entry(alloc, row, mode, out)?;
+        }
+    }
+    Ok(is_alike)
+}
+
+fn write_entry<W: Write>(alloc: Global, row: &Row<'_>, mode: Mode, out: &mut W) -> io::Result<()> {
+    match row.name() {
+        Some(name) => {
+            let name = Quoted(name);
+            write!(out, "{{\"name\":{name}")?;
+        }
+        None => write!(out, "{{\"name\":null")?,
+    }
+    let a = Side(&row.a);
+    let b = Side(&row.b);
+    write!(out, ",\"a\":{a},\"b\":{b},\"parts\":[")?;
+    if let (Some(a), Some(b)) = (&row.a, &row.b) {
+        let all = differences(alloc, a, b, mode)?;
+        write_differences(all.as_slice(), out)?;
+    }
+    writeln!(out, "]}}")
+}
+
+fn write_differences<W: Write>(all: &[Difference<'_>], out: &mut W) -> io::Result<()> {
+    let mut comma = "";
+    for one in all {
+        let in_a = AsJson(one.in_a);
+        let in_b = AsJson(one.in_b);
+        match one.part {
+            Some(part) => write!(out, "{comma}{{\"part\":\"{part}\"")?,
+            None => write!(out, "{comma}{{\"part\":\"refusal\"")?,
+        }
+        write!(out, ",\"a\":{in_a},\"b\":{in_b}}}")?;
+        comma = ",";
+    }
+    Ok(())
+}
+
+// What one upload has of an entry.
+#[derive(Clone, Copy)]
+struct Side<'p, 'a>(&'p Option<Piece<'a>>);
+
+impl fmt::Display for Side<'_, '_> {
+    fn fmt<W: fmt::Write>(&self, f: &mut fmt::Formatter<W>) -> fmt::Result {
+        let Some(piece) = self.0 else {
+            return write!(f, "null")
+        };
+        let place = piece.place;
+        match &piece.name {
+            Ok(_) => write!(f, "{{\"place\":{place}}}"),
+            Err(why) => RefusedEntry { place, why }.fmt(f),
+        }
+    }
+}

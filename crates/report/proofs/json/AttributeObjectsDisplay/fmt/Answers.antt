@@ -1,0 +1,12 @@
+use Rattle.std.proofs.Common.{[], ◌++◌, sym, ap, rules}
+use Rattle.std.proofs.Output.{has_written_of_eq}
+use Rattle.report.specs.Json.{attributes_text}
+use Rattle.report.proofs.json.AttributeObjectsDisplay.fmt.Goals as goal
+
+pub returns-in-None-clause-writes : goal.returns-in-None-clause-writes
+unfolding attributes_text
+returns-in-None-clause-writes g c = λ plain ok. has_written_of_eq _ _ _ _ _ (ap attributes_text (sym c.in-None.ensures.steps.0.0)) (search rules)
+
+pub returns-in-Some-clause-writes : goal.returns-in-Some-clause-writes
+unfolding attributes_text
+returns-in-Some-clause-writes g c = λ plain ok. has_written_of_eq _ _ _ _ _ (ap attributes_text (sym c.in-Some.ensures.steps.0)) (c.write.ensures.writes plain ok)

@@ -1,0 +1,4 @@
+pub mod Marks
+pub mod Node
+pub mod Json
+pub mod Letters

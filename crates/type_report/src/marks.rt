@@ -1,0 +1,125 @@
+//! Marks: why the offsets of an entry are not those of its bytes.
+ghost use Rattle.std.specs.Prelude.{◌≡◌, Some};
+ghost use Rattle.type_report.specs.Marks.{within, any_word, word_text, words_text, marks_text};
+
+use flags::type_flags::AdsTypeFlags;
+use std::fmt;
+
+/// Why an entry's offsets are not those of its bytes: by its own flags, and by those of what it stands in.
+#[derive(Clone, Copy, Debug)]
+pub struct Marks {
+    /// The entry's own flags.
+    pub own: AdsTypeFlags,
+    /// All flags of what it stands in.
+    pub around: AdsTypeFlags,
+}
+
+impl Marks {
+    /// Those of what stands in this entry, with flags of its own.
+    pub fn within(self, own: AdsTypeFlags) -> Marks
+        ensures { result ≡ within self own }
+    {
+        Marks {
+            own,
+            around: AdsTypeFlags(self.around.0 | self.own.0),
+        }
+    }
+}
+
+/// What stands between marks, and on either side of each.
+#[derive(Clone, Copy)]
+pub struct Style {
+    /// Between two.
+    pub between: &'static str,
+    /// Before and after each.
+    pub quote: &'static str,
+}
+
+/// Marks, with what stands between them.
+#[derive(Clone, Copy)]
+pub struct Marked {
+    /// The marks.
+    pub marks: Marks,
+    /// How they are told.
+    pub style: Style,
+}
+
+impl fmt::Display for Marked {
+    ghost output = { λ m. Some (marks_text m.style.between.now m.style.quote.now m.marks) };
+
+    #[tactic(auto, unfolding(crate::specs::Marks::marks_text))]
+    fn fmt<W: fmt::Write>(&self, f: &mut fmt::Formatter<W>) -> fmt::Result {
+        let own = Words {
+            flags: self.marks.own,
+            prefix: "",
+            style: self.style,
+            follows: false,
+        };
+        let around = Words {
+            flags: self.marks.around,
+            prefix: "in ",
+            style: self.style,
+            follows: own.is_any(),
+        };
+        write!(f, "{own}{around}")
+    }
+}
+
+// The words of one flag word, behind others or not.
+#[derive(Clone, Copy)]
+struct Words {
+    flags: AdsTypeFlags,
+    prefix: &'static str,
+    style: Style,
+    follows: bool,
+}
+
+impl Words {
+    fn is_any(self) -> bool
+        ensures { result ≡ any_word self.flags }
+    {
+        let flags = self.flags;
+        flags.is_bit_values()
+            || flags.is_static()
+            || flags.is_reference_to()
+            || flags.is_prop_item()
+    }
+}
+
+impl fmt::Display for Words {
+    ghost output = { λ w. Some (words_text w.style.between.now w.style.quote.now w.follows w.prefix.now w.flags) };
+
+    #[tactic(auto, unfolding(crate::specs::Marks::words_text))]
+    fn fmt<W: fmt::Write>(&self, f: &mut fmt::Formatter<W>) -> fmt::Result {
+        let flags = self.flags;
+        let before = self.follows;
+        let bits = Word(self, flags.is_bit_values(), before, "bits");
+        let before = before || flags.is_bit_values();
+        let fixed = Word(self, flags.is_static(), before, "static");
+        let before = before || flags.is_static();
+        let reference = Word(self, flags.is_reference_to(), before, "reference");
+        let before = before || flags.is_reference_to();
+        let property = Word(self, flags.is_prop_item(), before, "property");
+        write!(f, "{bits}{fixed}{reference}{property}")
+    }
+}
+
+// One of them: whether it is set, whether it is behind another, and its text.
+#[derive(Clone, Copy)]
+struct Word<'a>(&'a Words, bool, bool, &'static str);
+
+impl fmt::Display for Word<'_> {
+    ghost output = { λ w. Some (word_text w.0.now.style.between.now w.0.now.style.quote.now w.1 w.2 w.0.now.prefix.now w.3.now) };
+
+    #[tactic(auto, unfolding(crate::specs::Marks::word_text))]
+    fn fmt<W: fmt::Write>(&self, f: &mut fmt::Formatter<W>) -> fmt::Result {
+        let Word(words, is_set, follows, text) = *self;
+        if !is_set {
+            return write!(f, "");
+        }
+        let between = if follows { words.style.between } else { "" };
+        let quote = words.style.quote;
+        let prefix = words.prefix;
+        write!(f, "{between}{quote}{prefix}{text}{quote}")
+    }
+}

@@ -1,2 +1,0 @@
-pub mod Anywhere
-pub mod TypesAnywhere
