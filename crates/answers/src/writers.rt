@@ -12,7 +12,7 @@ use writing::Block;
 fn attribute(case: &Case, out: &mut [u8]) -> Result<usize, Refusal> {
     let name = case.bytes(0);
     let value = case.bytes(1);
-    AdsAttribute { name, value }.to_vec(out)
+    AdsAttribute { name, value }.write(out)
 }
 
 fn refactor(case: &Case, out: &mut [u8]) -> Result<usize, Refusal> {
@@ -22,7 +22,7 @@ fn refactor(case: &Case, out: &mut [u8]) -> Result<usize, Refusal> {
         next_refactor_info: has_next,
         name: case.bytes(2),
     };
-    record.to_vec_with_next(has_next, out)
+    record.write_with_next(has_next, out)
 }
 
 fn number_at(bytes: &[u8], at: usize) -> u32 {
@@ -53,14 +53,14 @@ fn field(case: &Case, out: &mut [u8]) -> Result<usize, Refusal> {
         guid,
         attributes,
     };
-    field.to_vec(out)
+    field.write(out)
 }
 
 fn write(case: &Case, out: &mut [u8]) -> Option<Result<usize, Refusal>> {
     match case.kind {
         b'A' => Some(attribute(case, out)),
         b'R' => Some(refactor(case, out)),
-        b'C' => Some(refactor::entries_to_vec(case.number(0) as usize, case.bytes(1), out)),
+        b'C' => Some(refactor::write_entries(case.number(0) as usize, case.bytes(1), out)),
         b'I' => Some(field(case, out)),
         b't' => Some(text::decode(case.bytes(0), out)),
         b'u' => Some(text::encode(case.bytes(0), out)),

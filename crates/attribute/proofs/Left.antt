@@ -1,15 +1,13 @@
 -- What is left of an iterator: all of it is given, one by one, and then no more.
-use Rattle.std.proofs.Common.{ℕ, zero, suc, ◌-◌, ◌≤◌, ◌≡◌, List, [], length, Ok, Err, Result, refl, ap, ◌∙◌, arith, Bor}
+use Rattle.std.proofs.Common.{ℕ, zero, suc, ◌-◌, ◌≡◌, List, [], length, Ok, Err, refl, ap, arith, Bor}
 use borrow.Author.Tests.{ne_eqb}
-use Rattle.std.specs.Prelude.{Option, Some, None, ok_or}
-use Rattle.std.specs.Iterator.{Yields}
+use Rattle.std.specs.Prelude.{Some, None}
 use Rattle.std.proofs.lemmas.Iterator.{YieldsList}
-use Rattle.std.proofs.lemmas.Iterator.Consumers.{YieldsList-from_shown, YieldsList-end, nth_from_yields_List}
+use Rattle.std.proofs.lemmas.Iterator.Consumers.{YieldsList-from_shown}
 use Rattle.refusal.specs.declared.Refusal.{Refusal}
-use Rattle.refusal.specs.declared.Refusal.TheVariants.{NoSuchNumber}
 use Rattle.attribute.specs.declared.AdsAttribute.{AdsAttribute}
 use Rattle.attribute.specs.declared.Attributes.{Attributes}
-use Rattle.attribute.specs.Attribute.{first_of, listed, left, after_next, NextGives, numbered}
+use Rattle.attribute.specs.Attribute.{first_of, listed, left, after_next, NextGives}
 use Rattle.attribute.proofs.Laws.{listed_step}
 
 -- where none can be read, none is given, and none is counted from then on

@@ -1,12 +1,15 @@
 //! The writer of a single attribute.
-ghost use Rattle.std.specs.Prelude.{◌≡◌, ◌≤◌, Ok, OnOk, length};
+ghost use Rattle.std.specs.Prelude.{◌≡◌, ◌≤◌, Ok, MatchResult, OnOk, length};
 ghost use Rattle.part.specs.Outcome.{and_then};
 ghost use Rattle.writing.specs.Writing.{Writes};
+ghost use Rattle.writing.specs.Owned.{NotWritten};
 ghost use Rattle.attribute.specs.Told.{told_of};
 ghost use Rattle.attribute.specs.Writing.{length_checked, lengths_checked, attribute_writing};
 
 use crate::AdsAttribute;
 use refusal::Refusal;
+use std::alloc::Allocator;
+use writing::WriteError;
 
 /// What a length of 1 byte holds at most.
 const MOST: usize = 255;
@@ -42,7 +45,7 @@ impl<'a> AdsAttribute<'a> {
 
     /// Writes it from place 0 of a lent buffer, and tells in how many bytes. Refuses by 7 as `wire_size` does, then by 6,
     /// with the buffer left as it was.
-    pub fn to_vec(&self, out: &mut [u8]) -> Result<usize, Refusal>
+    pub fn write(&self, out: &mut [u8]) -> Result<usize, Refusal>
         ensures { Writes (attribute_writing (told_of self.now)) out.old out.new result }
     {
         self.check_lengths()?;
@@ -57,5 +60,15 @@ impl<'a> AdsAttribute<'a> {
         let d = le::put_u8(out, c, 0);
         let e = le::put_bytes(out, d, self.value);
         Ok(le::put_u8(out, e, 0))
+    }
+
+    /// The attribute, in memory of its own. Refuses as `wire_size` does, and where there is no memory for it.
+    pub fn to_vec<A: Allocator>(&self, alloc: A) -> Result<Vec<u8, A>, WriteError>
+        ensures { MatchResult result (λ v. attribute_writing (told_of self.now) ≡ Ok v.items) (NotWritten (attribute_writing (told_of self.now))) }
+    {
+        let size = self.wire_size()?;
+        let mut out = vec![in alloc; 0; size]?;
+        self.write(&mut out)?;
+        Ok(out)
     }
 }

@@ -124,7 +124,9 @@ impl Options {
     // Refuses one that is not for this command.
     fn suit(&self, alloc: Global, command: Command, word: &str) -> Result<(), Failure> {
         if self.json && !matches!(command, Command::List | Command::Type | Command::Compare) {
-            return Err(Failure::Usage(format!(in alloc; "--json is for list, type and compare, not for {word}")?));
+            return Err(Failure::Usage(format!(in alloc;
+                "--json is for list, type and compare, not for {word}"
+            )?));
         }
         if command != Command::Room {
             return Ok(());
@@ -154,7 +156,9 @@ impl Options {
         }
         match value {
             None => Ok(None),
-            Some(value) => Err(Failure::Usage(format!(in alloc; "unexpected argument for option '{name}': {value:?}")?)),
+            Some(value) => Err(Failure::Usage(format!(in alloc;
+                "unexpected argument for option '{name}': {value:?}"
+            )?)),
         }
     }
 
@@ -237,7 +241,9 @@ impl<'a> Words<'a> {
         };
         match self.next() {
             None => Ok(request),
-            Some(extra) => Err(Failure::Usage(format!(in alloc; "{word} does not take {extra:?} as well")?)),
+            Some(extra) => Err(Failure::Usage(format!(in alloc;
+                "{word} does not take {extra:?} as well"
+            )?)),
         }
     }
 
@@ -278,7 +284,10 @@ impl<'a> Words<'a> {
     fn other_file(&mut self, file: &str) -> Result<&'a str, Failure> {
         let other = self.need("a second file, or - for standard input")?;
         if file == "-" && other == "-" {
-            return usage(self.alloc, "compare reads standard input once, for one of A and B");
+            return usage(
+                self.alloc,
+                "compare reads standard input once, for one of A and B",
+            );
         }
         Ok(other)
     }
@@ -288,11 +297,15 @@ impl<'a> Words<'a> {
         let word = self.need("the length of an upload")?;
         let alloc = self.alloc;
         if word.is_empty() || !word.bytes().all(|byte| byte.is_ascii_digit()) {
-            return Err(Failure::Usage(format!(in alloc; "room needs the length of an upload in digits, not {word:?}")?));
+            return Err(Failure::Usage(format!(in alloc;
+                "room needs the length of an upload in digits, not {word:?}"
+            )?));
         }
         match word.parse::<usize>() {
             Ok(length) => Ok(length),
-            Err(_) => Err(Failure::Usage(format!(in alloc; "room needs a length of at most 64 bits, not {word:?}")?)),
+            Err(_) => Err(Failure::Usage(format!(in alloc;
+                "room needs a length of at most 64 bits, not {word:?}"
+            )?)),
         }
     }
 }

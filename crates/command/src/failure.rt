@@ -1,9 +1,9 @@
 //! How the program ends where it does not do what was asked.
 
-use std::alloc::AllocError;
+use std::alloc::{AllocError, Global};
+use std::io;
 use std::io::ErrorKind;
 use std::process::ExitCode;
-use std::{fmt, io};
 
 /// A message in a sentence, by the status that it ends with.
 #[derive(Debug, Drop)]
@@ -48,7 +48,7 @@ impl Failure {
     }
 
     /// Says it on standard error; the status.
-    pub fn tell(&self, rt: &impl Eprint) -> ExitCode {
+    pub fn tell(&self, rt: &HostRuntime) -> ExitCode {
         if self.is_unread() {
             return ExitCode::SUCCESS;
         }
@@ -63,10 +63,14 @@ impl Failure {
             Failure::File(why) => {
                 let _ = eprintln!(rt; "vindaskot: {why}.");
             }
-            Failure::Output(why) => {
-                let why = InWords(why);
-                let _ = eprintln!(rt; "vindaskot: standard output can't be written: {why}.");
-            }
+            Failure::Output(why) => match in_words(rt.alloc(), why) {
+                Ok(why) => {
+                    let _ = eprintln!(rt; "vindaskot: standard output can't be written: {why}.");
+                }
+                Err(_) => {
+                    let _ = eprintln!(rt; "vindaskot: standard output can't be written.");
+                }
+            },
             Failure::Memory => {
                 let _ = eprintln!(rt; "vindaskot: there is no memory left.");
             }
@@ -75,21 +79,34 @@ impl Failure {
     }
 }
 
-/// An error of the system, with no number: it says nothing to a reader, and a refusal has one of its own.
-#[derive(Clone, Copy)]
-pub struct InWords<'a>(pub &'a io::Error);
-
-impl fmt::Display for InWords<'_> {
-    fn fmt<W: fmt::Write>(&self, f: &mut fmt::Formatter<W>) -> fmt::Result {
-        match self.0.kind() {
-            ErrorKind::NotFound => write!(f, "there is no such file"),
-            ErrorKind::PermissionDenied => write!(f, "there is no permission to read it"),
-            ErrorKind::IsADirectory => write!(f, "it is a directory"),
-            ErrorKind::StorageFull => write!(f, "no space is left"),
-            _ => {
-                let why = self.0;
-                write!(f, "{why}")
-            }
-        }
+fn known(kind: ErrorKind) -> Option<&'static str> {
+    match kind {
+        ErrorKind::NotFound => Some("there is no such file"),
+        ErrorKind::PermissionDenied => Some("there is no permission to read it"),
+        ErrorKind::IsADirectory => Some("it is a directory"),
+        ErrorKind::StorageFull => Some("no space is left"),
+        _ => None,
     }
+}
+
+/// An error of the system, with no number: it says nothing to a reader, and a refusal has one of its own.
+pub fn in_words(alloc: Global, why: &io::Error) -> Result<String, AllocError> {
+    if let Some(words) = known(why.kind()) {
+        return String::from_str(alloc, words);
+    }
+    let told = format!(in alloc; "{why}")?;
+    let words = match told.as_str().split_once(" (os error ") {
+        Some((words, _)) => words,
+        None => told.as_str(),
+    };
+    let mut small = String::new(alloc);
+    for letter in words.chars() {
+        let is_first = small.is_empty();
+        small.push(if is_first {
+            letter.to_ascii_lowercase()
+        } else {
+            letter
+        })?;
+    }
+    Ok(small)
 }

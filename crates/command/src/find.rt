@@ -1,6 +1,7 @@
 //! `find`: a symbol by its name, an attribute by its name.
 
 use crate::failure::Failure;
+use finding::Found;
 use refusal::{Mode, Refusal};
 use report::Upload;
 use std::alloc::Global;
@@ -36,25 +37,12 @@ pub fn windows_1252(alloc: Global, argument: &str) -> Result<Vec<u8>, Failure> {
     }
 }
 
-/// A symbol and where it starts in the upload.
-#[derive(Drop)]
-pub struct Found<'a> {
-    /// In bytes from the start of the upload.
-    pub at: usize,
-    /// The symbol.
-    pub symbol: AdsSymbolInfo<'a>,
-}
-
 /// The first symbol of a name.
 pub fn named<'a>(alloc: Global, upload: &Upload<'a>, name: &str) -> Result<Found<'a>, Failure> {
     let asked = windows_1252(alloc, name)?;
     let asked = asked.as_slice();
-    let bytes = upload.bytes;
-    match symbol_find::find(bytes, upload.mode, asked) {
-        Ok(at) => match walk::parse::<AdsSymbolInfo>(&bytes[at.min(bytes.len())..], upload.mode) {
-            Ok(symbol) => Ok(Found { at, symbol }),
-            Err(why) => Err(refused(alloc, upload, &InWords(&why))),
-        },
+    match finding::named(upload, asked) {
+        Ok(found) => Ok(found),
         Err(Refusal::NameNotFound) => no_symbol(alloc, upload, asked),
         Err(why) => Err(refused(alloc, upload, &InWords(&why))),
     }
@@ -70,18 +58,11 @@ pub fn find<W: Write>(
 ) -> Result<(), Failure> {
     let found = named(alloc, upload, name)?;
     match attribute {
-        None => {
-            let at = found.at;
-            let type_name = Exact(found.symbol.type_name);
-            writeln!(out, "{at} {type_name}")?;
-        }
+        None => finding::write_place(&found, out)?,
         Some(attribute) => {
             let asked = windows_1252(alloc, attribute)?;
             match found.symbol.attributes.named(asked.as_slice()) {
-                Ok(one) => {
-                    let value = Exact(one.value);
-                    writeln!(out, "{value}")?;
-                }
+                Ok(one) => finding::write_value(&one, out)?,
                 Err(_) => return no_attribute(alloc, upload, &found.symbol, asked.as_slice()),
             }
         }

@@ -6,9 +6,9 @@ mod compare;
 mod failure;
 mod find;
 mod help;
-mod room;
-mod salvage;
+mod salvaged;
 mod show;
+mod slots;
 mod source;
 mod types;
 mod written;
@@ -64,15 +64,11 @@ fn ended(end: Result<bool, Failure>, printed: Result<(), Failure>) -> Result<boo
     }
 }
 
-fn answer<W: Write>(
-    rt: &HostRuntime,
-    request: &Request<'_>,
-    out: &mut W,
-) -> Result<bool, Failure> {
+fn answer<W: Write>(rt: &HostRuntime, request: &Request<'_>, out: &mut W) -> Result<bool, Failure> {
     match request {
         Request::Help => out.write_all(help::HELP.as_bytes())?,
         Request::Version => writeln!(out, "vindaskot 0.1.0")?,
-        Request::Room { length } => room::room(rt.alloc(), *length, out)?,
+        Request::Room { length } => slots::room(rt.alloc(), *length, out)?,
         Request::Run(run) => return answer_of_a_file(rt, run, out),
     }
     Ok(true)
@@ -85,7 +81,7 @@ fn answer_of_a_file<W: Write>(
 ) -> Result<bool, Failure> {
     let alloc = rt.alloc();
     if let Asked::Salvage { to } = &run.asked {
-        salvage::is_free(rt, to, run.file)?;
+        salvaged::is_free(rt, to, run.file)?;
     }
     let source = source::read(rt, run.file, run.form, run.mode)?;
     let upload = source.upload();
@@ -105,7 +101,7 @@ fn answer_of_a_file<W: Write>(
             let other = source::read(rt, with, run.form, run.mode)?;
             return compare::compare(alloc, &upload, &other.upload(), *json, out);
         }
-        Asked::Salvage { to } => salvage::salvage(rt, &upload, to, out)?,
+        Asked::Salvage { to } => salvaged::salvage(rt, &upload, to, out)?,
         Asked::Type { name, json } => types::print(alloc, &upload, *name, *json, out)?,
     }
     Ok(true)

@@ -1,6 +1,6 @@
 //! The file that is read, or standard input.
 
-use crate::failure::{Failure, InWords};
+use crate::failure::{Failure, in_words};
 use refusal::Mode;
 use report::Upload;
 use std::alloc::{AllocError, Global};
@@ -52,7 +52,7 @@ pub fn read<'a>(
     match read {
         Ok(taken) => Ok(Source { path, mode, taken }),
         Err(ReadError::Failed(why)) => {
-            let why = InWords(&why);
+            let why = in_words(alloc, &why)?;
             Err(Failure::File(format!(in alloc; "{path} can't be read: {why}")?))
         }
         Err(ReadError::Refused(fault)) => Err(Failure::Refused(refused(alloc, path, fault)?)),

@@ -1,6 +1,6 @@
 //! A file that is written whole or not at all, and never over another.
 
-use crate::failure::{Failure, InWords};
+use crate::failure::{Failure, in_words};
 use std::alloc::AllocError;
 use std::fs::File;
 use std::io::{ErrorKind, Write};
@@ -58,7 +58,7 @@ fn unwritable(rt: &HostRuntime, path: &str, why: &io::Error) -> Result<Failure, 
             "its file system has no hard links, by which a file gets its name once it is whole"
         }
         _ => {
-            let why = InWords(why);
+            let why = in_words(rt.alloc(), why)?;
             return Ok(Failure::File(format!(in rt.alloc(); "{path} can't be written: {why}")?));
         }
     };

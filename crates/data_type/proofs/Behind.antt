@@ -9,8 +9,10 @@ use Rattle.refusal.specs.declared.Refusal.{Refusal}
 use Rattle.attribute.specs.declared.AdsAttribute.{AdsAttribute}
 use Rattle.attribute.specs.Attribute.{first_of, listed, ends, ends_of, next_place}
 use Rattle.field.specs.declared.front.Front.{Front}
-use Rattle.field.specs.Tail.{guid_of, sections_of, attribute_ends}
-use Rattle.field.proofs.Within.{end_guid, end_mask, end_methods, is_list}
+use Rattle.layout.specs.Layout.{guid_of}
+use Rattle.field.specs.Tail.{sections_of, attribute_ends}
+use Rattle.layout.proofs.Guid.{end_guid}
+use Rattle.field.proofs.Within.{end_mask, end_methods, is_list}
 use Rattle.data_type.specs.declared.AdsDataTypeInfo.{AdsDataTypeInfo}
 use Rattle.data_type.specs.declared.reader.ReadSubItems.{ReadSubItems}
 use Rattle.data_type.specs.DataType.{ItemReader, items_from}

@@ -18,7 +18,8 @@ use Rattle.walk.specs.Step.{parse_of}
 use Rattle.field.specs.declared.front.Front.{Front}
 use Rattle.field.specs.declared.tail.Tail.{Tail}
 use Rattle.field.specs.Front.{with_strings, front_of}
-use Rattle.field.specs.Tail.{guid_of, after_mask, after_methods, attributes_of, tail_of}
+use Rattle.layout.specs.Layout.{guid_of}
+use Rattle.field.specs.Tail.{after_mask, after_methods, attributes_of, tail_of}
 use Rattle.data_type.specs.declared.AdsDataTypeInfo.{AdsDataTypeInfo}
 use Rattle.data_type.specs.declared.reader.ReadSubItems.{ReadSubItems}
 use Rattle.field.specs.Field.{joined}

@@ -2,7 +2,7 @@
 use Rattle.std.proofs.Common.{ℕ, suc, ◌+◌, ◌-◌, ◌<◌, ◌≤◌, ◌≡◌, refl, sym, ap, ◌∙◌, List, [], ◌∷◌, ◌++◌, append_assoc, append-nil, length, take, set, get_or, arith, Bor, length-take}
 use Rattle.std.specs.Prelude.{Some, None, true, eqb}
 use Rattle.std.proofs.Math.Seq.{take-suc, take-suc-set}
-use borrow.Author.Tests.{eqb-true}
+use borrow.Author.Tests.{eqb-true, lt-ltb}
 use Rattle.data_type.specs.declared.level.Level.{Level}
 use Rattle.data_type.specs.declared.members.Member.{Member}
 use Rattle.data_type.specs.declared.members.Position.{Position}
@@ -26,12 +26,17 @@ left_last s n above (k ∷ ls) l =
     ap (λ (ms : List Member). ms ++ level_left n above s k) (left_last s (n - 1) next ls l ∙ ap (λ (m : ℕ). level_left m (standing next ls) s l ++ stack_left (n - 1) next s ls) z)
     ∙ append_assoc (level_left (n - suc (length ls)) (standing next ls) s l) (stack_left (n - 1) next s ls) (level_left n above s k)
 
--- one further down
-pub standing_next : (ls : List Level) (i : ℕ) (d : Level) (p q : Position) → i < length ls → p ≡ standing root (take i ls) → q ≡ below p (get_or ls i d).place (get_or ls i d).offset → q ≡ standing root (take (i + 1) ls)
-standing_next ls i d p q h k m =
+-- one further down, part by part
+pub standing_next : (ls : List Level) (i : ℕ) (d : Level) (path : List ℕ) (offset : ℕ) → i < length ls → i < 15 → record { path = path; depth = i + 1; offset = offset } ≡ standing root (take i ls)
+    → record { path = set path i (get_or ls i d).place; depth = i + 1 + 1; offset = offset + (get_or ls i d).offset } ≡ standing root (take (i + 1) ls)
+unfolding below
+standing_next ls i d path offset h small k =
     let u : suc i ≡ i + 1 = omega arith in
     let l : Level = get_or ls i d in
-    m ∙ ap (λ (x : Position). below x l.place l.offset) k ∙ sym (standing_last root (take i ls) l) ∙ ap (standing root) (sym (take-suc ls i d h)) ∙ ap (λ (j : ℕ). standing root (take j ls)) u
+    let p : Position = record { path = path; depth = i + 1; offset = offset } in
+    let z : i + 1 - 1 ≡ i = omega arith in
+    let b : below p l.place l.offset ≡ record { path = set path i l.place; depth = i + 1 + 1; offset = offset + l.offset } = simp (lt-ltb (i + 1) 16 (omega arith), z) in
+    sym b ∙ ap (λ (x : Position). below x l.place l.offset) k ∙ sym (standing_last root (take i ls) l) ∙ ap (standing root) (sym (take-suc ls i d h)) ∙ ap (λ (j : ℕ). standing root (take j ls)) u
 
 module _ (s : Bor (List ℕ)) (ls : List Level) where
   abbrev above : ℕ → Position
@@ -75,21 +80,19 @@ module _ (s : Bor (List ℕ)) (ls : List Level) where
     last_stepped : take used stepped ≡ take (used - 1) ls ++ (new ∷ [])
     last_stepped = let u : suc (used - 1) ≡ used = omega arith in ap (λ (i : ℕ). take i stepped) (sym u) ∙ take-suc-set ls (used - 1) new (omega arith)
 
-    pub step_none : (p : Position) → p ≡ above (used - 1) → Gives p s (get_or ls (used - 1) d) new None → left (used - 1) ≡ left used
-    step_none p h g =
-        sym (popped used d some there room ∙ ap (λ (q : Position). level_left (suc (15 - used)) q s (get_or ls (used - 1) d) ++ left (used - 1)) (sym h) ∙ ap (λ (ms : List Member). ms ++ left (used - 1)) (g (suc (15 - used))))
+    pub step_none : Gives s (get_or ls (used - 1) d) new None → left (used - 1) ≡ left used
+    step_none g = sym (popped used d some there room ∙ ap (λ (ms : List Member). ms ++ left (used - 1)) (g (suc (15 - used)) (above (used - 1))))
 
-    pub step_some : (p : Position) (m : Member) (held : Level) → p ≡ above (used - 1) → Gives p s (get_or ls (used - 1) d) new (Some (m, held))
-        → left used ≡ m ∷ (level_left (15 - used) (standing root (take used stepped)) s held ++ stack_left 15 root s (take used stepped))
-    step_some p m held h g =
+    pub step_some : (own : Bor (List ℕ)) (held : Level) → Gives s (get_or ls (used - 1) d) new (Some (own, held))
+        → left used ≡ record { position = standing root (take used stepped); own = own } ∷ (level_left (15 - used) (standing root (take used stepped)) s held ++ stack_left 15 root s (take used stepped))
+    step_some own held g =
         let n : 15 - (used - 1) ≡ suc (15 - used) = omega arith in
-        let at : standing root (take used stepped) ≡ m.position = ap (standing root) last_stepped ∙ standing_last root (take (used - 1) ls) new ∙ ap (λ (q : Position). below q new.place new.offset) (sym h) ∙ sym g.0 in
+        let p : Position = below (above (used - 1)) new.place new.offset in
+        let at : standing root (take used stepped) ≡ p = ap (standing root) last_stepped ∙ standing_last root (take (used - 1) ls) new in
         let kept : stack_left 15 root s (take used stepped) ≡ level_left (suc (15 - used)) (above (used - 1)) s new ++ left (used - 1) =
         and_one (used - 1) new (take used stepped) (omega arith) last_stepped ∙ ap (λ (i : ℕ). level_left i (above (used - 1)) s new ++ left (used - 1)) n in
         popped used d some there room
-        ∙ ap (λ (q : Position). level_left (suc (15 - used)) q s (get_or ls (used - 1) d) ++ left (used - 1)) (sym h)
-        ∙ ap (λ (ms : List Member). ms ++ left (used - 1)) (g.1 (15 - used))
-        ∙ ap (λ (ms : List Member). m ∷ ms) (append_assoc (level_left (15 - used) m.position s held) (level_left (suc (15 - used)) p s new) (left (used - 1))
-        ∙ ap (λ (q : Position). level_left (15 - used) m.position s held ++ (level_left (suc (15 - used)) q s new ++ left (used - 1))) h
-        ∙ ap (λ (ms : List Member). level_left (15 - used) m.position s held ++ ms) (sym kept)
-        ∙ ap (λ (p : Position). level_left (15 - used) p s held ++ stack_left 15 root s (take used stepped)) (sym at))
+        ∙ ap (λ (ms : List Member). ms ++ left (used - 1)) (g (15 - used) (above (used - 1)))
+        ∙ ap (λ (ms : List Member). record { position = p; own = own } ∷ ms) (append_assoc (level_left (15 - used) p s held) (level_left (suc (15 - used)) (above (used - 1)) s new) (left (used - 1))
+        ∙ ap (λ (ms : List Member). level_left (15 - used) p s held ++ ms) (sym kept))
+        ∙ ap (λ (q : Position). record { position = q; own = own } ∷ (level_left (15 - used) q s held ++ stack_left 15 root s (take used stepped))) (sym at)

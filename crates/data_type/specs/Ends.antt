@@ -13,7 +13,8 @@ use Rattle.attribute.specs.Attribute as attribute
 use Rattle.entry.specs.Entry.{claim_of}
 use Rattle.walk.specs.Step.{parse_of}
 use Rattle.part.specs.Slice.{part, after}
-use Rattle.field.specs.Tail.{guid_of, sections_of}
+use Rattle.layout.specs.Layout.{guid_of}
+use Rattle.field.specs.Tail.{sections_of}
 use Rattle.data_type.specs.declared.AdsDataTypeInfo.{AdsDataTypeInfo}
 use Rattle.data_type.specs.DataType.{ItemReader, taken, items_from, too_deep, item_by, type_at, type_of}
 use Rattle.data_type.specs.Layout.{strings_end, arrays_end, string_bytes, front}

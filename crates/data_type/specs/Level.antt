@@ -15,9 +15,9 @@ cut s at stop = let end : ℕ = min stop (length s.now) in part s (min at end) (
 abbrev pub level_left : ℕ → Position → Bor (List ℕ) → Level → List Member
 level_left levels above s l = members_below levels above l.end (cut s l.at l.stop) l.count
 
--- a step: nothing is left, or a member, then what it holds, then what is left after it
-abbrev pub Gives : Position → Bor (List ℕ) → Level → Level → Option (Member × Level) → Type 0
-Gives above s old new None = (levels : ℕ) → level_left levels above s old ≡ []
-Gives above s old new (Some p) =
-    (p.0.position ≡ below above new.place new.offset)
-    × ((levels : ℕ) → level_left (suc levels) above s old ≡ p.0 ∷ (level_left levels p.0.position s p.1 ++ level_left (suc levels) above s new))
+-- a step, wherever the entry stands: nothing is left, or a member, which stands by what the level keeps of it, then what it holds, then what is left after it
+abbrev pub Gives : Bor (List ℕ) → Level → Level → Option (Bor (List ℕ) × Level) → Type 0
+Gives s old new None = (levels : ℕ) (above : Position) → level_left levels above s old ≡ []
+Gives s old new (Some p) =
+    (levels : ℕ) (above : Position)
+    → let at : Position = below above new.place new.offset in level_left (suc levels) above s old ≡ record { position = at; own = p.0 } ∷ (level_left levels at s p.1 ++ level_left (suc levels) above s new)

@@ -1,9 +1,9 @@
 //! What is left to give of the members of one entry.
 #![tactic(auto)]
 
-ghost use Rattle.std.specs.Prelude.{ℕ, ◌≡◌, ◌≤◌, ◌*◌, eqb};
+ghost use Rattle.std.specs.Prelude.{ℕ, ◌≡◌, eqb};
 
-use crate::members::{Member, Position, item_in};
+use crate::members::item_in;
 
 /// Sub-items of an entry, within the bytes that the sub-items of the data type fill.
 #[derive(Clone, Copy, Debug)]
@@ -49,16 +49,11 @@ impl Level {
         self.count == 0
     }
 
-    /// The next member, and what it holds in turn, where the entry stands at a position.
+    /// The own bytes of the next sub-item, and what it holds in turn.
     #[tactic(auto, using(crate::proofs::Steps::lies, crate::proofs::Steps::none_left, crate::proofs::Steps::refused_left))]
     #[inline(always)]
-    pub(crate) fn step<'a>(
-        &mut self,
-        above: Position,
-        bytes: &'a [u8],
-    ) -> Option<(Member<'a>, Level)>
-        requires { above.offset ≤ above.depth * 4294967296 }
-        ensures { Gives above bytes.entry self.old self.new result }
+    pub(crate) fn step<'a>(&mut self, bytes: &'a [u8]) -> Option<(&'a [u8], Level)>
+        ensures { Gives bytes.entry self.old self.new result }
     {
         if self.count == 0 {
             return None;
@@ -68,18 +63,12 @@ impl Level {
         let rest = part::part_of(bytes, at, stop - at);
         let Ok(item) = item_in(rest) else { return None };
         let place = self.end.saturating_sub(rest.len());
-        let mut position = above;
-        position.descend(place, item.offset);
         let behind = at + item.own.len();
         self.place = place;
         self.offset = item.offset;
         self.at = behind;
         self.stop = stop;
         self.count -= 1;
-        let member = Member {
-            position,
-            own: item.own,
-        };
         let held = Level {
             place: 0,
             offset: 0,
@@ -88,6 +77,6 @@ impl Level {
             end: place + item.own.len(),
             count: item.sub_items.count,
         };
-        Some((member, held))
+        Some((item.own, held))
     }
 }

@@ -1,8 +1,8 @@
 //! The members of a data type: its sub-items and all that they hold, parents before children.
 #![tactic(auto)]
 
-ghost use Rattle.std.specs.Prelude.{◌≡◌, ◌≤◌, ◌*◌, ◌-◌, ◌++◌, take};
-ghost use Rattle.data_type.specs.Members.{root, below, place_of, item_in};
+ghost use Rattle.std.specs.Prelude.{◌≡◌, ◌≤◌, ◌-◌, ◌++◌, take};
+ghost use Rattle.data_type.specs.Members.{root, place_of, item_in};
 
 use crate::level::Level;
 use crate::reader::{read_arrays, taken};
@@ -35,22 +35,6 @@ impl Position {
             depth: 1,
             offset: 0,
         }
-    }
-
-    /// Goes down to a sub-item at a place, with this offset in what stands here. At the deepest level it stays.
-    #[tactic(auto, unfolding(crate::specs::Members::below))]
-    #[inline(always)]
-    pub(crate) fn descend(&mut self, place: usize, offset: u32)
-        requires { self.old.offset ≤ self.old.depth * 4294967296 }
-        ensures value { self.new ≡ below self.old place offset }
-        ensures small { self.new.offset ≤ self.new.depth * 4294967296 }
-    {
-        if self.depth >= 16 {
-            return;
-        }
-        self.path[self.depth.saturating_sub(1)] = place;
-        self.depth += 1;
-        self.offset += offset as u64;
     }
 
     /// The last place of the path: that of the member itself.
@@ -120,18 +104,23 @@ impl<'a> Members<'a> {
     ghost use Rattle.data_type.specs.Level.{level_left};
     ghost use Rattle.data_type.specs.Left.{standing, stack_left, members_left};
 
-    // The position of the entry that has the sub-items of a level.
+    // Where the sub-item stands that was given last by the innermost of so many levels; with none, where the data type itself does.
     #[inline(always)]
-    fn above(&self, level: usize) -> Position
-        requires { level ≤ 15 }
-        ensures value { result ≡ standing root (take level self.now.levels) }
-        ensures small { result.offset ≤ result.depth * 4294967296 }
+    fn standing(&self, levels: usize) -> Position
+        requires { levels ≤ 15 }
+        ensures { result ≡ standing root (take levels self.now.levels) }
     {
-        let mut above = Position::root();
-        for outer in 0..level {
-            above.descend(self.levels[outer].place, self.levels[outer].offset);
+        let mut path = [0; 15];
+        let mut offset = 0;
+        for level in 0..levels {
+            path[level] = self.levels[level].place;
+            offset += self.levels[level].offset as u64;
         }
-        above
+        Position {
+            path,
+            depth: levels + 1,
+            offset,
+        }
     }
 
     // Lays a level on the first so many. There is nothing below the deepest.
@@ -165,11 +154,11 @@ impl<'a> Iterator for Members<'a> {
         let mut used = self.used.min(15);
         while used > 0 {
             let top = used - 1;
-            let above = self.above(top);
             let bytes = self.bytes;
-            if let Some((member, held)) = self.levels[top].step(above, bytes) {
+            if let Some((own, held)) = self.levels[top].step(bytes) {
+                let position = self.standing(used);
                 self.push(used, held);
-                return Some(member);
+                return Some(Member { position, own });
             }
             used = top;
         }

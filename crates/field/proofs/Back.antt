@@ -17,8 +17,9 @@ use Rattle.field.specs.declared.front.Front.{Front}
 use Rattle.field.specs.declared.tail.Tail.{Tail}
 use Rattle.field.specs.declared.writer.NewField.{NewField}
 use Rattle.field.specs.Skip.{after_items}
-use Rattle.field.specs.Front.{with_strings, string_ends, front_of}
-use Rattle.field.specs.Tail.{type_guid_flag, copy_mask_flag, method_infos_flag, attributes_flag, guid_of, after_mask, after_methods, attributes_of, tail_of}
+use Rattle.field.specs.Front.{with_strings, front_of}
+use Rattle.layout.specs.Layout.{guid_of, string_ends}
+use Rattle.field.specs.Tail.{type_guid_flag, copy_mask_flag, method_infos_flag, attributes_flag, after_mask, after_methods, attributes_of, tail_of}
 use Rattle.field.specs.Field.{joined, behind_items, field_of}
 use Rattle.field.specs.Told.{IsTyped, Agrees, told_of, meant}
 use Rattle.field.proofs.Accepted.{Accepted}
@@ -84,13 +85,13 @@ module _ (p : NewField) (t : IsTyped p) (a : Accepted p) (g : Agrees p) (extra :
   unfolding with_strings
   flags_is = let f : le4 e.now 28 ≡ p.flags.0 = rw is (header.flags p t a.short extra fits) in simp f
 
-  strings_end : ended (string_ends e.now (length p.name.now) (length p.type_name.now) (length p.comment.now)) ≡ Ok tt
+  strings_end : ended (string_ends e.now 42 (length p.name.now) (length p.type_name.now) (length p.comment.now)) ≡ Ok tt
   unfolding ended
   strings_end =
       let l = header.laid p t a.short extra fits in
       let x : get_or e.now (42 + length p.name.now) 0 ≡ 0 = rw is (laid.name_end l) in
-      let y : get_or e.now (43 + length p.name.now + length p.type_name.now) 0 ≡ 0 = rw is (ap (λ (k : ℕ). get_or (header.e p t a.short extra fits) k 0) (omega arith) ∙ laid.type_end l) in
-      let z : get_or e.now (44 + length p.name.now + length p.type_name.now + length p.comment.now) 0 ≡ 0 = rw is (ap (λ (k : ℕ). get_or (header.e p t a.short extra fits) k 0) (omega arith) ∙ laid.comment_end l) in
+      let y : get_or e.now (42 + length p.name.now + 1 + length p.type_name.now) 0 ≡ 0 = rw is (laid.type_end l) in
+      let z : get_or e.now (42 + length p.name.now + 1 + length p.type_name.now + 1 + length p.comment.now) 0 ≡ 0 = rw is (laid.comment_end l) in
       simp (x, y, z)
 
   in_whatever_mode : (mode : Mode) (test : Result Unit Refusal) → test ≡ Ok tt → in_mode mode test ≡ Ok tt

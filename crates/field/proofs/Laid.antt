@@ -22,7 +22,8 @@ use Rattle.attribute.proofs.Laws.{listed_more, listed_stop, after_more, after_no
 use Rattle.field.specs.declared.front.Front.{Front}
 use Rattle.field.specs.Skip.{ahead, after_items}
 use Rattle.field.specs.Front.{with_strings, front_by_header}
-use Rattle.field.specs.Tail.{type_guid_flag, copy_mask_flag, method_infos_flag, attributes_flag, guid_of, after_mask, after_methods, attributes_of, complete}
+use Rattle.layout.specs.Layout.{guid_of}
+use Rattle.field.specs.Tail.{type_guid_flag, copy_mask_flag, method_infos_flag, attributes_flag, after_mask, after_methods, attributes_of, complete}
 use Rattle.field.specs.Field.{joined, behind_items, field_of}
 use Rattle.field.specs.Laid.{IsItem, Parts, section, guid_told, flags_of, IsLaid, Shows, all, ended, refused, field_with, FieldsLaid}
 use Rattle.field.proofs.Tested.{read_is}

@@ -17,7 +17,8 @@ use Rattle.attribute.specs.Attribute.{first_of, listed, ends, after_listed}
 use Rattle.attribute.proofs.Again.{n_of, v_of, here, fits, first_here, ends_here, length_name, length_value}
 use Rattle.attribute.proofs.Laws.{listed_more, listed_stop, listed_none, listed_again}
 use Rattle.field.specs.declared.AdsFieldInfo.{AdsFieldInfo}
-use Rattle.field.specs.Front.{with_strings, string_ends, front_of, HasStrings}
+use Rattle.layout.specs.Layout.{string_ends}
+use Rattle.field.specs.Front.{with_strings, front_of, HasStrings}
 use Rattle.field.specs.Field.{field_of}
 use Rattle.attribute.specs.Inside.{AttributesLie}
 use Rattle.field.specs.Within.{shown}
@@ -158,16 +159,16 @@ module _ (e : Bor (List ℕ)) (h : HasStrings e) where
       (All-cons (EndsThere e) r.name (r.type_name ∷ r.comment ∷ attribute_strings (shown r)) name
       (All-cons (EndsThere e) r.type_name (r.comment ∷ attribute_strings (shown r)) type (All-cons (EndsThere e) r.comment (attribute_strings (shown r)) comment attributes)))
 
-  first_strings : string_ends e.now n t k ≡ map (end_of e) (r.name ∷ r.type_name ∷ r.comment ∷ [])
+  first_strings : string_ends e.now 42 n t k ≡ map (end_of e) (r.name ∷ r.type_name ∷ r.comment ∷ [])
   unfolding with_strings
   first_strings =
       let x = name_long e h in
       let y = type_long e h in
       let z = comment_long e h in
       let a : 42 + n ≡ end_in e r.name = omega (arith, x) in
-      let b : 43 + n + t ≡ end_in e r.type_name = omega (arith, y) in
-      let c : 44 + n + t + k ≡ end_in e r.comment = omega (arith, z) in
-      ap (λ (i : ℕ). (i, get_or e.now i 0) ∷ (43 + n + t, get_or e.now (43 + n + t) 0) ∷ (44 + n + t + k, get_or e.now (44 + n + t + k) 0) ∷ []) a
+      let b : 42 + n + 1 + t ≡ end_in e r.type_name = omega (arith, y) in
+      let c : 42 + n + 1 + t + 1 + k ≡ end_in e r.comment = omega (arith, z) in
+      ap (λ (i : ℕ). (i, get_or e.now i 0) ∷ (42 + n + 1 + t, get_or e.now (42 + n + 1 + t) 0) ∷ (42 + n + 1 + t + 1 + k, get_or e.now (42 + n + 1 + t + 1 + k) 0) ∷ []) a
       ∙ ap₂ (λ (i j : ℕ). end_of e r.name ∷ (i, get_or e.now i 0) ∷ (j, get_or e.now j 0) ∷ []) b c
 
   then_attributes : ends r.attributes.bytes (length e.now - length r.attributes.bytes.now) r.attributes.count ≡ map (end_of e) (attribute_strings (shown r))

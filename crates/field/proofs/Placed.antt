@@ -16,7 +16,8 @@ use Rattle.part.proofs.Slice.{after_after}
 use Rattle.attribute.proofs.Laws.{listed_more, listed_none, after_more, after_none}
 use Rattle.field.specs.Skip.{ahead, after_items}
 use Rattle.field.specs.Front.{with_strings, front_by_header, HasStrings}
-use Rattle.field.specs.Tail.{type_guid_flag, copy_mask_flag, method_infos_flag, attributes_flag, guid_of, after_mask, after_methods, attributes_of, complete}
+use Rattle.layout.specs.Layout.{guid_of}
+use Rattle.field.specs.Tail.{type_guid_flag, copy_mask_flag, method_infos_flag, attributes_flag, after_mask, after_methods, attributes_of, complete}
 use Rattle.field.specs.Field.{joined, behind_items, field_of}
 use Rattle.field.specs.Placed.{behind, arrays_at, items_at, guid_at, mask_at, methods_at, attributes_at, guid_there, IsPlaced, FieldsPlaced, field_there, ShowsSome, IsReadThere, FieldsRead}
 use Rattle.field.specs.Laid.{Shows, all, ended, refused}

@@ -14,7 +14,8 @@ use Rattle.attribute.specs.Told.{told}
 use Rattle.attribute.proofs.Again.{blocks_read}
 use Rattle.attribute.proofs.Laws.{listed_none}
 use Rattle.writing.specs.Layout.{attributes_bytes}
-use Rattle.field.specs.Tail.{guid_of, after_mask, after_methods, attributes_of}
+use Rattle.layout.specs.Layout.{guid_of}
+use Rattle.field.specs.Tail.{after_mask, after_methods, attributes_of}
 use Rattle.field.specs.Writing.{zeros, guid_bytes, mask_bytes}
 use Rattle.field.specs.Told.{IsGuid}
 

@@ -8,8 +8,9 @@ use Rattle.refusal.specs.declared.Mode.{Mode}
 use Rattle.refusal.specs.declared.Refusal.{Refusal}
 use Rattle.field.specs.declared.AdsFieldInfo.{AdsFieldInfo}
 use Rattle.field.specs.declared.front.Front.{Front}
-use Rattle.field.specs.Front.{string_ends, front_of, front_by_header, HasStrings}
-use Rattle.field.specs.Tail.{type_guid_flag, guid_of, sections_of, complete, attribute_ends, tail_of}
+use Rattle.field.specs.Front.{front_of, front_by_header, HasStrings}
+use Rattle.layout.specs.Layout.{guid_of, string_ends}
+use Rattle.field.specs.Tail.{type_guid_flag, sections_of, complete, attribute_ends, tail_of}
 use Rattle.field.specs.Field.{joined, behind_items, field_of}
 use Rattle.field.proofs.Within.{tail_at, record_is}
 
@@ -36,7 +37,7 @@ module _ (e : Bor (List ℕ)) where
   f = front_by_header e
 
   abbrev pub strings_tested : Result Unit Refusal
-  strings_tested = ended (string_ends e.now n t k)
+  strings_tested = ended (string_ends e.now 42 n t k)
 
   abbrev pub attributes_tested : Result Unit Refusal
   attributes_tested = ended (attribute_ends f.length (tail_at f (behind_items f)).attributes)

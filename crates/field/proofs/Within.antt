@@ -1,19 +1,17 @@
 -- What a field tells lies in its entry: proved.
-use Rattle.std.proofs.Common.{ℕ, subst, zero, suc, ◌+◌, ◌*◌, ◌≤◌, ◌≡◌, refl, sym, ap, ap₂, ◌∙◌, Bool, true, false, List, length, Ok, Err, Result, min, arith, Bor}
+use Rattle.std.proofs.Common.{ℕ, subst, zero, suc, ◌+◌, ◌*◌, ◌≤◌, ◌≡◌, refl, sym, ap, ap₂, ◌∙◌, Bool, true, false, List, length, Ok, Err, min, arith, Bor}
 use Rattle.std.specs.Prelude.{ltb, leb, if◌then◌else◌}
 use borrow.Author.Tests.{ltb-false, leb-true}
 use Rattle.le.specs.Le.{le2, le4, has}
 use Rattle.part.specs.Slice.{part, after}
-use Rattle.part.specs.End.{rest_at, IsEnd}
+use Rattle.part.specs.End.{IsEnd}
 use Rattle.part.specs.Outcome.{and_then}
 use Rattle.refusal.specs.EndBytes.{ended, in_mode}
 use Rattle.refusal.specs.declared.Mode.{Mode}
-use Rattle.refusal.specs.declared.Refusal.{Refusal}
 use Rattle.refusal.specs.declared.Refusal.TheVariants.{TooShort, EntryLengthMismatch}
-use Rattle.attribute.specs.declared.AdsAttribute.{AdsAttribute}
 use Rattle.attribute.specs.declared.Attributes.{Attributes}
-use Rattle.attribute.specs.Attribute.{first_of, listed}
-use Rattle.part.proofs.Slice.{length_part, end_self, end_after, part_of_end}
+use Rattle.attribute.specs.Attribute.{listed}
+use Rattle.part.proofs.Slice.{length_part, end_self, end_after}
 use Rattle.attribute.proofs.Inside.{attributes_inside}
 use Rattle.attribute.proofs.Laws.{listed_none, listed_again}
 use Rattle.part.proofs.Outcome.{both_passed}
@@ -21,8 +19,10 @@ use Rattle.field.specs.declared.AdsFieldInfo.{AdsFieldInfo}
 use Rattle.field.specs.declared.front.Front.{Front}
 use Rattle.field.specs.declared.tail.Tail.{Tail}
 use Rattle.field.specs.Skip.{ahead, after_items}
-use Rattle.field.specs.Front.{with_strings, string_ends, front_of, front_by_header, HasStrings}
-use Rattle.field.specs.Tail.{type_guid_flag, copy_mask_flag, method_infos_flag, attributes_flag, guid_of, after_mask, after_methods, attributes_of, sections_of, complete, attribute_ends, tail_of}
+use Rattle.field.specs.Front.{with_strings, front_of, front_by_header, HasStrings}
+use Rattle.layout.specs.Layout.{string_ends, guid_of}
+use Rattle.layout.proofs.Guid.{end_guid}
+use Rattle.field.specs.Tail.{type_guid_flag, copy_mask_flag, method_infos_flag, attributes_flag, after_mask, after_methods, attributes_of, sections_of, complete, attribute_ends, tail_of}
 use Rattle.field.specs.Field.{joined, behind_items, field_of}
 use Rattle.field.specs.Within.{IsWithin, FieldsWithin}
 
@@ -37,15 +37,6 @@ end_items {e} s (suc left) i = turn (end_items (ahead s (le4 s.now 0)) left (end
     turn : IsEnd e (after_items (ahead s (le4 s.now 0)) left) → (b : Bool) → IsEnd e (if b then s else after_items (ahead s (le4 s.now 0)) left)
     turn next true = i
     turn next false = next
-
-pub end_guid : {e s : Bor (List ℕ)} (flagged : Bool) → IsEnd e s → IsEnd e (guid_of s flagged).1
-unfolding guid_of
-end_guid false i = i
-end_guid {e} {s} true i = turn (leb 16 (length s.now)) refl
-  where
-    turn : (b : Bool) → leb 16 (length s.now) ≡ b → IsEnd e (guid_of s true).1
-    turn true h = simp h (end_after 16 (leb-true 16 (length s.now) h) i)
-    turn false h = simp h i
 
 pub end_mask : {e s : Bor (List ℕ)} (size : ℕ) (flagged : Bool) → IsEnd e s → IsEnd e (after_mask s size flagged)
 unfolding after_mask
@@ -105,17 +96,17 @@ front_is mode e f h = by_header (ltb (length e.now) 42) refl h
   where
     by_strings : 42 ≤ length e.now → (b : Bool) → ltb (length e.now) (45 + le2 e.now 32 + le2 e.now 34 + le2 e.now 36) ≡ b
         → (if b then Err (EntryLengthMismatch (45 + le2 e.now 32 + le2 e.now 34 + le2 e.now 36) (length e.now))
-        else and_then (in_mode mode (ended (string_ends e.now (le2 e.now 32) (le2 e.now 34) (le2 e.now 36)))) (λ _. Ok (front_by_header e))) ≡ Ok f
+        else and_then (in_mode mode (ended (string_ends e.now 42 (le2 e.now 32) (le2 e.now 34) (le2 e.now 36)))) (λ _. Ok (front_by_header e))) ≡ Ok f
         → HasStrings e × (front_by_header e ≡ f)
     by_strings n true c h = cc
     by_strings n false c h =
-        let p = both_passed (in_mode mode (ended (string_ends e.now (le2 e.now 32) (le2 e.now 34) (le2 e.now 36)))) h in
+        let p = both_passed (in_mode mode (ended (string_ends e.now 42 (le2 e.now 32) (le2 e.now 34) (le2 e.now 36)))) h in
         (record { header = n; strings = ltb-false (length e.now) (45 + le2 e.now 32 + le2 e.now 34 + le2 e.now 36) c }, cc p.1.1)
 
     by_header : (b : Bool) → ltb (length e.now) 42 ≡ b
         → (if b then Err (TooShort 42 (length e.now))
         else if ltb (length e.now) (45 + le2 e.now 32 + le2 e.now 34 + le2 e.now 36) then Err (EntryLengthMismatch (45 + le2 e.now 32 + le2 e.now 34 + le2 e.now 36) (length e.now))
-        else and_then (in_mode mode (ended (string_ends e.now (le2 e.now 32) (le2 e.now 34) (le2 e.now 36)))) (λ _. Ok (front_by_header e))) ≡ Ok f
+        else and_then (in_mode mode (ended (string_ends e.now 42 (le2 e.now 32) (le2 e.now 34) (le2 e.now 36)))) (λ _. Ok (front_by_header e))) ≡ Ok f
         → HasStrings e × (front_by_header e ≡ f)
     by_header true c h = cc
     by_header false c h = by_strings (ltb-false (length e.now) 42 c) (ltb (length e.now) (45 + le2 e.now 32 + le2 e.now 34 + le2 e.now 36)) refl h

@@ -8,6 +8,7 @@ use Rattle.refusal.specs.EndBytes.{ended, in_mode}
 use Rattle.refusal.specs.declared.Mode.{Mode}
 use Rattle.refusal.specs.declared.Refusal.{Refusal}
 use Rattle.refusal.specs.declared.Refusal.TheVariants.{TooShort, EntryLengthMismatch}
+use Rattle.layout.specs.Layout.{string_ends}
 use Rattle.field.specs.declared.front.Front.{Front}
 
 -- the front of an entry whose strings have these lengths
@@ -39,11 +40,6 @@ pub record HasStrings (e : Bor (List ℕ)) : Type 0 where
   pub header : 42 ≤ length e.now
   pub strings : 45 + le2 e.now 32 + le2 e.now 34 + le2 e.now 36 ≤ length e.now
 
--- the end bytes of strings of these lengths, with their places
-abbrev pub string_ends : List ℕ → ℕ → ℕ → ℕ → List (ℕ × ℕ)
-string_ends e n t k =
-    (42 + n, get_or e (42 + n) 0) ∷ (43 + n + t, get_or e (43 + n + t) 0) ∷ (44 + n + t + k, get_or e (44 + n + t + k) 0) ∷ []
-
 -- of an entry's own bytes, in a mode: 2 for a header that is not there, 3 for strings that are not, then 16
 unfoldable pub front_of : Mode → Bor (List ℕ) → Result Front Refusal
 front_of mode e =
@@ -52,4 +48,4 @@ front_of mode e =
     let k : ℕ = le2 e.now 36 in
     if ltb (length e.now) 42 then Err (TooShort 42 (length e.now))
     else if ltb (length e.now) (45 + n + t + k) then Err (EntryLengthMismatch (45 + n + t + k) (length e.now))
-    else and_then (in_mode mode (ended (string_ends e.now n t k))) (λ _. Ok (with_strings e n t k))
+    else and_then (in_mode mode (ended (string_ends e.now 42 n t k))) (λ _. Ok (with_strings e n t k))

@@ -7,6 +7,7 @@ use Rattle.part.specs.Outcome.{and_then}
 use Rattle.refusal.specs.EndBytes.{ended, in_mode}
 use Rattle.refusal.specs.declared.Mode.{Mode}
 use Rattle.refusal.specs.declared.Refusal.{Refusal}
+use Rattle.layout.specs.Layout.{guid_of}
 use Rattle.attribute.specs.declared.Attributes.{Attributes}
 use Rattle.attribute.specs.Attribute as attribute
 use Rattle.field.specs.declared.front.Front.{Front}
@@ -26,13 +27,7 @@ method_infos_flag = 0x0800
 abbrev pub attributes_flag : ℕ
 attributes_flag = 0x1000
 
--- each section, and the bytes after it. One that is not flagged, or has no room, moves nothing: 16 bytes
-unfoldable pub guid_of : Bor (List ℕ) → Bool → Option (List ℕ) × Bor (List ℕ)
-guid_of s flagged =
-    if flagged then if leb 16 (length s.now) then (Some (take 16 s.now), after s 16) else (None, s)
-    else (None, s)
-
--- a byte for each byte of the value
+-- each section behind the GUID, and the bytes after it. One that is not flagged, or has no room, moves nothing: a byte for each byte of the value
 unfoldable pub after_mask : Bor (List ℕ) → ℕ → Bool → Bor (List ℕ)
 after_mask s size flagged = if flagged then ahead s size else s
 

@@ -1,7 +1,8 @@
 //! What entries of fields and of data types begin with: the header's numbers and the strings.
 ghost use Rattle.std.specs.Prelude.{◌≡◌, ◌+◌, ◌≤◌, length};
 ghost use Rattle.refusal.specs.EndBytes.{ended, in_mode};
-ghost use Rattle.field.specs.Front.{with_strings, string_ends, front_of};
+ghost use Rattle.layout.specs.Layout.{string_ends};
+ghost use Rattle.field.specs.Front.{with_strings, front_of};
 
 use flags::type_flags::AdsTypeFlags;
 use refusal::{Mode, Refusal};
@@ -69,7 +70,6 @@ fn with_strings(own: &[u8], name: usize, type_name: usize, comment: usize) -> Fr
 }
 
 /// Refuses the first end byte that is not 0 of strings of these lengths, in the checked mode.
-#[tactic(auto, using(refusal::proofs::EndBytes::ended_passed, refusal::proofs::EndBytes::ended_refused, refusal::proofs::EndBytes::ended_none))]
 fn check_ends(
     own: &[u8],
     name: usize,
@@ -78,17 +78,12 @@ fn check_ends(
     mode: Mode,
 ) -> Result<(), Refusal>
     requires { 45 + name + type_name + comment ≤ length own.now }
-    ensures { result ≡ in_mode mode (ended (string_ends own.now name type_name comment)) }
+    ensures { result ≡ in_mode mode (ended (string_ends own.now 42 name type_name comment)) }
 {
     if mode == Mode::Present {
         return Ok(());
     }
-    let name_end = 42 + name;
-    let type_end = name_end + 1 + type_name;
-    let comment_end = type_end + 1 + comment;
-    refusal::check_end(name_end, own[name_end])?;
-    refusal::check_end(type_end, own[type_end])?;
-    refusal::check_end(comment_end, own[comment_end])
+    layout::check_string_ends(own, 42, name, type_name, comment)
 }
 
 impl<'a> Front<'a> {
@@ -113,12 +108,7 @@ impl<'a> Front<'a> {
         let type_name = le::u16_at(own, 34) as usize;
         let comment = le::u16_at(own, 36) as usize;
         let needed = 45 + name + type_name + comment;
-        if length < needed {
-            return Err(Refusal::EntryLengthMismatch {
-                needed,
-                available: length,
-            });
-        }
+        layout::check_strings(needed, length)?;
         check_ends(own, name, type_name, comment, mode)?;
         Ok(with_strings(own, name, type_name, comment))
     }

@@ -1,5 +1,5 @@
 //! Field entries of an upload, read whole: what a field holds is a part of the bytes that it was read from.
-#![tactic(auto, unfolding(crate::specs::Tail::guid_of, crate::specs::Tail::after_mask, crate::specs::Tail::after_methods, crate::specs::Tail::attributes_of, le::specs::Le::le2, le::specs::Le::le4))]
+#![tactic(auto, unfolding(layout::specs::Layout::guid_of, crate::specs::Tail::after_mask, crate::specs::Tail::after_methods, crate::specs::Tail::attributes_of, le::specs::Le::le2, le::specs::Le::le4))]
 
 ghost use Rattle.std.specs.Prelude.{◌≡◌, ◌*◌};
 ghost use Rattle.field.specs.Skip.{ahead};

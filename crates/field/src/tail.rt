@@ -2,7 +2,7 @@
 ghost use Rattle.std.specs.Prelude.{◌≡◌};
 ghost use Rattle.le.specs.Le.{has};
 ghost use Rattle.refusal.specs.EndBytes.{ended, in_mode};
-ghost use Rattle.field.specs.Tail.{guid_of, after_mask, after_methods, attributes_of, sections_of, complete, attribute_ends, tail_of};
+ghost use Rattle.field.specs.Tail.{after_mask, after_methods, attributes_of, sections_of, complete, attribute_ends, tail_of};
 
 use crate::front::Front;
 use crate::skip::{after_items, ahead};
@@ -16,16 +16,6 @@ pub struct Tail<'a> {
     pub guid: Option<[u8; 16]>,
     /// As many as are shown.
     pub attributes: Attributes<'a>,
-}
-
-#[inline(always)]
-fn read_guid(rest: &[u8], flagged: bool) -> (Option<[u8; 16]>, &[u8])
-    ensures { result ≡ guid_of rest.entry flagged }
-{
-    if flagged && let Some((guid, _)) = rest.split_first_chunk::<16>() {
-        return (Some(*guid), &rest[16..]);
-    }
-    (None, rest)
 }
 
 #[inline(always)]
@@ -95,7 +85,7 @@ impl<'a> Tail<'a> {
         ensures { result ≡ tail_of mode front.now rest.entry }
     {
         let flags = front.flags;
-        let (guid, rest) = read_guid(rest, flags.has_type_guid());
+        let (guid, rest) = layout::read_guid(rest, flags.has_type_guid());
         let rest = skip_mask(rest, front.size as usize, flags.has_copy_mask());
         let rest = skip_methods(rest, flags.has_method_infos());
         let (attributes, stopped) = read_attributes(rest, flags.has_attributes());

@@ -1,16 +1,18 @@
 //! Field entries, written into a lent buffer. docs/FORMAT.md, "Writing", decides what is refused.
 #![tactic(auto, unfolding(crate::specs::Writing::numbers_bytes, crate::specs::Writing::header_bytes, crate::specs::Writing::guid_bytes, crate::specs::Writing::mask_bytes, crate::specs::Writing::sections_bytes, crate::specs::Writing::field_bytes, crate::specs::Writing::attributes_checked, crate::specs::Writing::field_checked))]
 
-ghost use Rattle.std.specs.Prelude.{◌≡◌, ◌+◌, ◌≤◌, OnOk, length, if◌then◌else◌};
+ghost use Rattle.std.specs.Prelude.{◌≡◌, ◌+◌, ◌≤◌, Ok, MatchResult, OnOk, length, if◌then◌else◌};
 ghost use Rattle.le.specs.Put.{Wrote};
 ghost use Rattle.walk.specs.Mapped.{map_ok};
 ghost use Rattle.writing.specs.Checks.{IsShort};
 ghost use Rattle.writing.specs.Writing.{Writes};
+ghost use Rattle.writing.specs.Owned.{NotWritten};
 ghost use Rattle.field.specs.Writing.{numbers_bytes, header_bytes, zeros, guid_bytes, mask_bytes, sections_bytes, field_bytes, attributes_checked, field_checked, field_written, HasShort, IsSized};
 
 use flags::type_flags::AdsTypeFlags;
 use refusal::Refusal;
-use writing::Block;
+use std::alloc::Allocator;
+use writing::{Block, WriteError};
 
 /// A field to be written (docs/FORMAT.md, "Writing"). Strings are Windows-1252, without end bytes.
 #[derive(Clone, Copy, Debug)]
@@ -62,13 +64,27 @@ impl NewField<'_> {
     /// # Errors
     ///
     /// Those of `wire_size`, then 6 if the buffer is too small. The buffer is then as it was.
-    pub fn to_vec(&self, out: &mut [u8]) -> Result<usize, Refusal>
+    pub fn write(&self, out: &mut [u8]) -> Result<usize, Refusal>
         ensures { Writes (field_written self.now) out.old out.new result }
     {
         check(self)?;
         let size = size_of(self);
         writing::check_room(size, out.len())?;
         Ok(put_field(out, self, size as u32))
+    }
+
+    /// The entry, in memory of its own.
+    ///
+    /// # Errors
+    ///
+    /// Those of `wire_size`, and that there is no memory for it.
+    pub fn to_vec<A: Allocator>(&self, alloc: A) -> Result<Vec<u8, A>, WriteError>
+        ensures { MatchResult result (λ v. field_written self.now ≡ Ok v.items) (NotWritten (field_written self.now)) }
+    {
+        let size = self.wire_size()?;
+        let mut out = vec![in alloc; 0; size]?;
+        self.write(&mut out)?;
+        Ok(out)
     }
 }
 

@@ -31,7 +31,7 @@ FieldsComeBack = (mode : Mode) → ComeBack IsFit field_bytes meant (step_at (fi
 abbrev pub FieldsShutOut : Type 0
 FieldsShutOut = ShutsOut IsFit field_bytes meant cursor_of (tells (λ (r : AdsFieldInfo). r.length) told_of)
 
--- where `to_vec` answers that it wrote so many bytes of a field whose method flag is clear, whose GUID is given exactly if it is flagged, and whose block is empty
+-- where `write` answers that it wrote so many bytes of a field whose method flag is clear, whose GUID is given exactly if it is flagged, and whose block is empty
 -- and its count 0 unless flagged, the field is fit, and these bytes are those that come back
 pub record IsReached (p : NewField) (count : ℕ) (new : List ℕ) : Type 0 where
   pub fit : IsFit p

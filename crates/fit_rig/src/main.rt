@@ -99,7 +99,7 @@ fn write_symbol(i: u32, out: &mut [u8]) -> Result<usize, Refusal> {
             };
         }
     }
-    symbol.to_vec(out)
+    symbol.write(out)
 }
 
 // The bytes of a later controller's choice, after an entry of so many bytes, and the entry's length raised by as many.

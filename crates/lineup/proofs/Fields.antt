@@ -10,7 +10,8 @@ use Rattle.writing.specs.Layout.{lengths_bytes, strings_bytes, attributes_bytes,
 use Rattle.writing.specs.Checks.{strings_checked, entry_checked}
 use Rattle.field.specs.Skip.{after_items}
 use Rattle.field.specs.Front.{with_strings, front_of}
-use Rattle.field.specs.Tail.{guid_of, after_mask, after_methods, attributes_of, tail_of}
+use Rattle.layout.specs.Layout.{guid_of}
+use Rattle.field.specs.Tail.{after_mask, after_methods, attributes_of, tail_of}
 use Rattle.field.specs.Field.{field_of}
 use Rattle.field.specs.Writing.{numbers_bytes, header_bytes, guid_bytes, mask_bytes, sections_bytes, field_bytes, attributes_checked, field_checked, field_written}
 use Rattle.lineup.specs.Fields.{FieldsLineUp}

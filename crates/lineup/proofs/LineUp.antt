@@ -6,7 +6,8 @@ use Rattle.entry.specs.Entry.{claim_at, claim_of}
 use Rattle.walk.specs.Step.{step_at}
 use Rattle.attribute.specs.Attribute as attribute
 use Rattle.refactor.specs.Refactor as refactor
-use Rattle.symbol.specs.Symbol.{guid_of, attributes_of, extended_of, refactor_infos_of, with_strings, ended_symbol, symbol_of}
+use Rattle.layout.specs.Layout.{guid_of}
+use Rattle.symbol.specs.Symbol.{attributes_of, extended_of, refactor_infos_of, with_strings, ended_symbol, symbol_of}
 use Rattle.lineup.specs.LineUp.{LineUp}
 
 pub line_up : LineUp

@@ -10,7 +10,8 @@ use Rattle.refactor.specs.Refactor as refactor
 use Rattle.refactor.specs.Block as refactor-block
 use Rattle.writing.specs.Layout.{lengths_bytes, strings_bytes, attributes_bytes, entry_bytes}
 use Rattle.writing.specs.Checks.{strings_checked, entry_checked}
-use Rattle.symbol.specs.Symbol.{guid_of, attributes_of, extended_of, refactor_infos_of, with_strings, symbol_ended, ended_symbol, symbol_of}
+use Rattle.layout.specs.Layout.{guid_of}
+use Rattle.symbol.specs.Symbol.{attributes_of, extended_of, refactor_infos_of, with_strings, symbol_ended, ended_symbol, symbol_of}
 use Rattle.symbol.specs.Writing.{numbers_bytes, header_bytes, sections_bytes, symbol_bytes, sections_checked, symbol_checked, symbol_written}
 use Rattle.lineup.specs.Symbols.{SymbolsLineUp}
 

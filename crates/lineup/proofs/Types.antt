@@ -7,7 +7,8 @@ use Rattle.entry.specs.Entry.{claim_of}
 use Rattle.attribute.specs.Attribute as attribute
 use Rattle.field.specs.Skip.{after_items}
 use Rattle.field.specs.Front.{with_strings, front_of}
-use Rattle.field.specs.Tail.{guid_of, after_mask, after_methods, attributes_of, tail_of}
+use Rattle.layout.specs.Layout.{guid_of}
+use Rattle.field.specs.Tail.{after_mask, after_methods, attributes_of, tail_of}
 use Rattle.data_type.specs.Array as array
 use Rattle.data_type.specs.DataType.{taken, items_from, arrays_of, type_with, type_at}
 use Rattle.data_type.specs.Members.{below, item_in, each, members_below}

@@ -12,7 +12,8 @@ use Rattle.attribute.specs.Attribute as attribute
 use Rattle.refactor.specs.Refactor as refactor
 use Rattle.entry.specs.Entry.{claim_at}
 use Rattle.walk.specs.Pieces.{piece_at, pieces_from}
-use Rattle.symbol.specs.Symbol.{guid_of, attributes_of, extended_of, refactor_infos_of, with_strings, ended_symbol, symbol_of}
+use Rattle.layout.specs.Layout.{guid_of}
+use Rattle.symbol.specs.Symbol.{attributes_of, extended_of, refactor_infos_of, with_strings, ended_symbol, symbol_of}
 use Rattle.listing.specs.Row.{hex, entry_row, refusal_row}
 use Rattle.listing.specs.Listing.{longest, row, rows, line_text, listing}
 use Rattle.listing.specs.Meaning.{six_lines, six_listed, bad_row, ListingMeant}

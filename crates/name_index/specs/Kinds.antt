@@ -1,15 +1,11 @@
 -- docs/FORMAT.md, "Name index", "Symbol entries" and "Field entries". Where symbols, fields and data types have their names.
-use Rattle.std.proofs.Common.{ℕ, ◌+◌, ◌≤◌, ◌≡◌, refl, sym, ap, subst, ◌∙◌, List, length, arith, Bor}
-use Rattle.std.specs.Prelude.{Ok, Err, Result}
+use Rattle.std.proofs.Common.{ℕ, ◌+◌, ◌≤◌, ◌≡◌, ap, subst, List, length, arith, Bor}
+use Rattle.std.specs.Prelude.{Ok}
 use Rattle.le.specs.Le.{le2, part}
 use Rattle.refusal.specs.declared.Mode.{Mode}
-use Rattle.refusal.specs.declared.Refusal.{Refusal}
-use Rattle.walk.specs.Mapped.{map_ok}
 use Rattle.symbol.specs.declared.AdsSymbolInfo.{AdsSymbolInfo}
-use Rattle.symbol.specs.declared.SymbolHead.{SymbolHead}
 use Rattle.symbol.specs.Symbol.{symbol_of, ended_symbol}
 use Rattle.symbol.specs.Symbol as symbol
-use Rattle.symbol.specs.Head.{head, head_of}
 use Rattle.field.specs.declared.AdsFieldInfo.{AdsFieldInfo}
 use Rattle.field.specs.declared.front.Front.{Front}
 use Rattle.field.specs.Front.{front_of, with_strings}
@@ -38,15 +34,8 @@ own_room : (mode : Mode) (e : Bor (List ℕ)) (r : AdsSymbolInfo) → symbol_of 
 unfolding symbol_of
 own_room mode e r h = grind arith
 
-headed : (t : Result AdsSymbolInfo Refusal) (r : SymbolHead) → map_ok head t ≡ Ok r → (s : AdsSymbolInfo) × ((t ≡ Ok s) × (head s ≡ r))
-headed (Ok s) r h = (s, (refl, cc))
-headed (Err why) r h = cc
-
-pub symbol_told : (mode : Mode) (e : Bor (List ℕ)) (r : SymbolHead) → head_of mode e ≡ Ok r → TellsName symbol_places e.now r.name.now
-unfolding head_of
-symbol_told mode e r h =
-    let s = headed (symbol_of mode e) r h in
-    record { is = ap (λ (r : SymbolHead). r.name.now) (sym s.1.1) ∙ own_name mode e s.0 s.1.0; room = omega (arith, own_room mode e s.0 s.1.0) }
+pub symbol_told : (mode : Mode) (e : Bor (List ℕ)) (r : AdsSymbolInfo) → symbol_of mode e ≡ Ok r → TellsName symbol_places e.now r.name.now
+symbol_told mode e r h = record { is = own_name mode e r h; room = omega (arith, own_room mode e r h) }
 
 front_name : (mode : Mode) (e : Bor (List ℕ)) (f : Front) → front_of mode e ≡ Ok f → f.name.now ≡ part e.now 42 (le2 e.now 32)
 unfolding front_of with_strings part

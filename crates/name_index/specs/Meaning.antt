@@ -9,7 +9,7 @@ use Rattle.refusal.specs.declared.Refusal.{Refusal}
 use Rattle.refusal.specs.declared.Refusal.TheVariants.{TooLarge, OutputTooSmall, ZeroEntryLength}
 use Rattle.entry.specs.Walk.{stands, steps}
 use Rattle.writing.specs.Writing.{Writes}
-use Rattle.symbol.specs.Head.{head_of}
+use Rattle.symbol.specs.Symbol.{symbol_of}
 use Rattle.index.specs.Index.{indexing}
 use Rattle.index.specs.Steps.{gives}
 use Rattle.index.specs.Meaning.{needed}
@@ -51,5 +51,5 @@ module _ {R : Type 0} (w : NamePlaces) (read : Bor (List ℕ) → Result R Refus
 
 -- of symbols what is found is what finding of symbols finds: through any slots, and by halving through a name index as without one
 pub record SymbolsFound : Type 0 where
-  pub indexed : (mode : Mode) (s : Bor (List ℕ)) (slots name : List ℕ) → find_indexed symbol_places (head_of mode) s slots name ≡ symbols.find_indexed mode s slots name
-  pub walked : (mode : Mode) (s : Bor (List ℕ)) (old new : List ℕ) (n : ℕ) → Writes (name_indexing symbol_places (head_of mode) s) old new (Ok n) → (name : List ℕ) (r : Result ℕ Refusal) → Halves symbol_places (head_of mode) s (take n new) name r → r ≡ symbols.find mode s name
+  pub indexed : (mode : Mode) (s : Bor (List ℕ)) (slots name : List ℕ) → find_indexed symbol_places (symbol_of mode) s slots name ≡ symbols.find_indexed mode s slots name
+  pub walked : (mode : Mode) (s : Bor (List ℕ)) (old new : List ℕ) (n : ℕ) → Writes (name_indexing symbol_places (symbol_of mode) s) old new (Ok n) → (name : List ℕ) (r : Result ℕ Refusal) → Halves symbol_places (symbol_of mode) s (take n new) name r → r ≡ symbols.find mode s name

@@ -8,9 +8,9 @@ use crate::Named;
 use data_type::AdsDataTypeInfo;
 use field::AdsFieldInfo;
 use name_order::NamePlaces;
-use symbol::SymbolHead;
+use symbol::AdsSymbolInfo;
 
-impl<'a> Named<'a> for SymbolHead<'a> {
+impl<'a> Named<'a> for AdsSymbolInfo<'a> {
     ghost places = { symbol_places };
 
     ghost name_of = { λ r. r.name.now };

@@ -17,10 +17,10 @@ pub mod theorems;
 
 use name_order::NamePlaces;
 use refusal::{LIMIT, Mode, Refusal};
-use walk::Entry;
+use walk::Accepts;
 
 /// A kind of entry that has a name.
-pub trait Named<'a>: Entry<'a> {
+pub trait Named<'a>: Accepts<'a> {
     ghost places: { NamePlaces };
 
     // the name, as the record carries it
@@ -64,7 +64,7 @@ impl<'a> Asked<'a, '_> {
         ensures { result ≡ gives (E.read self.entry.mode) self.entry.bytes at }
     {
         match entry::claim_at(self.bytes, at).size {
-            Some(Ok(size)) => E::read(&self.bytes[at..at + size], self.mode).is_ok(),
+            Some(Ok(size)) => E::accepts(&self.bytes[at..at + size], self.mode).is_ok(),
             _ => false,
         }
     }

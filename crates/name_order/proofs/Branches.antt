@@ -1,4 +1,5 @@
 -- Those of some starts in order at which a name begins with a text stand together.
+use Rattle.std.specs.Char.{to_ascii_lowercase}
 use Rattle.std.proofs.Common.{ℕ, zero, suc, ◌-◌, ◌+◌, ◌<◌, ◌≤◌, ◌≡◌, refl, sym, ap, subst, ◌∙◌, Bool, true, false, List, [], ◌∷◌, ◌++◌, length, take, drop, get_or, arith}
 use Rattle.std.specs.declared.cmp.Ordering.{Ordering}
 use Rattle.std.specs.declared.cmp.Ordering.TheVariants.{Less, Equal, Greater}
@@ -10,7 +11,7 @@ use Rattle.std.proofs.lemmas.List.Sorted.{sorted_far}
 use Rattle.std.proofs.Math.ListN.{length-take, length-drop}
 use Rattle.le.specs.Le.{part}
 use Rattle.le.proofs.Laws.{not-both, part-rest}
-use Rattle.names.specs.Names.{fold, folded}
+use Rattle.names.specs.Names.{folded}
 use Rattle.name_order.specs.declared.places.NamePlaces.{NamePlaces}
 use Rattle.name_order.specs.Order.{name_at, name_cmp, goes_first}
 use Rattle.name_order.specs.Branch.{begins_at, front_cmp, is_before, is_no_further, IsRun, IsBranch}
@@ -24,7 +25,7 @@ cut_falls zero a b h = absurd (not-both refl (sym (ap is_lt h)))
 cut_falls (suc n) [] [] h = h
 cut_falls (suc n) [] (y ∷ b) h = refl
 cut_falls (suc n) (x ∷ a) [] h = h
-cut_falls (suc n) (x ∷ a) (y ∷ b) h = by (cut_falls n a b) (nat_cmp (fold x) (fold y)) h
+cut_falls (suc n) (x ∷ a) (y ∷ b) h = by (cut_falls n a b) (nat_cmp (to_ascii_lowercase x) (to_ascii_lowercase y)) h
   where
     by : (name_cmp (take n a) (take n b) ≡ Less → name_cmp a b ≡ Less) → (r : Ordering) → ordering_then r (name_cmp (take n a) (take n b)) ≡ Less → ordering_then r (name_cmp a b) ≡ Less
     by on Less k = refl

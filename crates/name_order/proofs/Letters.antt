@@ -1,4 +1,5 @@
 -- The order of names and of starts, said of their letters: proved.
+use Rattle.std.specs.Char.{to_ascii_lowercase}
 use Rattle.std.proofs.Common.{ℕ, ◌+◌, ◌<◌, ◌≤◌, ◌≡◌, refl, sym, ap, subst, ◌∙◌, Bool, true, false, List, [], ◌∷◌, get_or, arith, ltb, ltb-true, ltb-false, lt-ltb}
 use Rattle.std.specs.declared.cmp.Ordering.{Ordering}
 use Rattle.std.specs.declared.cmp.Ordering.TheVariants.{Less, Equal, Greater}
@@ -7,7 +8,7 @@ use Rattle.std.proofs.lemmas.Cmp.{tied_itself, nat_cmp_total, ranked}
 use Rattle.std.specs.List.Sorted.{IsSortedBy}
 use Rattle.std.proofs.lemmas.List.Sorted.{sorted_far}
 use Rattle.le.proofs.Laws.{not-both}
-use Rattle.names.specs.Names.{fold, folded}
+use Rattle.names.specs.Names.{folded}
 use Rattle.names.specs.Meaning.{SameLetter, SameLetters, end, letter}
 use Rattle.names.proofs.Laws.{fold_below, fold_above, fold_letter, same_folded, folded_same}
 use Rattle.names.proofs.Meaning.{same-by-letters}
@@ -18,15 +19,15 @@ use Rattle.name_order.proofs.Order.{places_weak}
 use Rattle.name_order.proofs.Meaning.{cmp_same, same_cmp}
 
 -- a letter in small letters is the letter folded
-small_of : (b : ℕ) → Small b (fold b)
+small_of : (b : ℕ) → Small b (to_ascii_lowercase b)
 small_of b = by (ltb b 65) (ltb 90 b) refl refl
   where
-    by : (p q : Bool) → ltb b 65 ≡ p → ltb 90 b ≡ q → Small b (fold b)
+    by : (p q : Bool) → ltb b 65 ≡ p → ltb 90 b ≡ q → Small b (to_ascii_lowercase b)
     by true q e f = subst (Small b) (sym (fold_below b (ltb-true b 65 e))) (below (ltb-true b 65 e))
     by false true e f = subst (Small b) (sym (fold_above b (ltb-true 90 b f))) (above (ltb-true 90 b f))
     by false false e f = subst (Small b) (sym (fold_letter b (ltb-false b 65 e) (ltb-false 90 b f))) (small_letter (ltb-false b 65 e) (ltb-false 90 b f))
 
-small_is : (b c : ℕ) → Small b c → fold b ≡ c
+small_is : (b c : ℕ) → Small b c → to_ascii_lowercase b ≡ c
 small_is b c (small_letter h k) = fold_letter b h k
 small_is b c (below h) = fold_below b h
 small_is b c (above h) = fold_above b h
@@ -34,13 +35,13 @@ small_is b c (above h) = fold_above b h
 only_letter : (x y : ℕ) → SameLetters (x ∷ []) (y ∷ []) → SameLetter x y
 only_letter x y (letter l end) = l
 
-letter_of : (x y : ℕ) → fold x ≡ fold y → SameLetter x y
+letter_of : (x y : ℕ) → to_ascii_lowercase x ≡ to_ascii_lowercase y → SameLetter x y
 unfolding folded
 letter_of x y e = only_letter x y ((same-by-letters (x ∷ []) (y ∷ [])).0 (folded_same (x ∷ []) (y ∷ []) (ap (λ (n : ℕ). n ∷ []) e)))
 
-of_letter : (x y : ℕ) → SameLetter x y → fold x ≡ fold y
+of_letter : (x y : ℕ) → SameLetter x y → to_ascii_lowercase x ≡ to_ascii_lowercase y
 unfolding folded
-of_letter x y l = let e : fold x ∷ [] ≡ fold y ∷ [] = same_folded (x ∷ []) (y ∷ []) ((same-by-letters (x ∷ []) (y ∷ [])).1 (letter l end)) in cc
+of_letter x y l = let e : to_ascii_lowercase x ∷ [] ≡ to_ascii_lowercase y ∷ [] = same_folded (x ∷ []) (y ∷ []) ((same-by-letters (x ∷ []) (y ∷ [])).1 (letter l end)) in cc
 
 less_of : (n m : ℕ) → n < m → nat_cmp n m ≡ Less
 less_of n m h = simp (lt-ltb n m h) refl
@@ -50,11 +51,11 @@ unfolding name_cmp folded
 names_first [] [] h = absurd (not-both refl (sym (ap is_lt h)))
 names_first [] (y ∷ other) h = ended
 names_first (x ∷ own) [] h = absurd (not-both refl (sym (ap is_lt h)))
-names_first (x ∷ own) (y ∷ other) h = by (names_first own other) (nat_cmp (fold x) (fold y)) refl h
+names_first (x ∷ own) (y ∷ other) h = by (names_first own other) (nat_cmp (to_ascii_lowercase x) (to_ascii_lowercase y)) refl h
   where
-    by : (name_cmp own other ≡ Less → ComesFirst own other) → (r : Ordering) → r ≡ nat_cmp (fold x) (fold y) → ordering_then r (name_cmp own other) ≡ Less → ComesFirst (x ∷ own) (y ∷ other)
-    by on Less e k = lower (small_of x) (small_of y) (ranked (fold x) (fold y) Less e)
-    by on Equal e k = later (letter_of x y (ranked (fold x) (fold y) Equal e)) (on k)
+    by : (name_cmp own other ≡ Less → ComesFirst own other) → (r : Ordering) → r ≡ nat_cmp (to_ascii_lowercase x) (to_ascii_lowercase y) → ordering_then r (name_cmp own other) ≡ Less → ComesFirst (x ∷ own) (y ∷ other)
+    by on Less e k = lower (small_of x) (small_of y) (ranked (to_ascii_lowercase x) (to_ascii_lowercase y) Less e)
+    by on Equal e k = later (letter_of x y (ranked (to_ascii_lowercase x) (to_ascii_lowercase y) Equal e)) (on k)
     by on Greater e k = absurd (not-both refl (sym (ap is_lt k)))
 
 first_names : (own other : List ℕ) → ComesFirst own other → name_cmp own other ≡ Less
@@ -63,10 +64,10 @@ first_names [] [] c = elim c [ ]
 first_names [] (y ∷ other) ended = refl
 first_names (x ∷ own) [] c = elim c [ ]
 first_names (x ∷ own) (y ∷ other) (lower {a = a} {b = b} p q l) =
-    let e : nat_cmp (fold x) (fold y) ≡ Less = (λ i. nat_cmp (small_is x a p i) (small_is y b q i)) ∙ less_of a b l in
+    let e : nat_cmp (to_ascii_lowercase x) (to_ascii_lowercase y) ≡ Less = (λ i. nat_cmp (small_is x a p i) (small_is y b q i)) ∙ less_of a b l in
     ap (λ (r : Ordering). ordering_then r (name_cmp own other)) e
 first_names (x ∷ own) (y ∷ other) (later l on) =
-    let e : nat_cmp (fold x) (fold y) ≡ Equal = ap (λ (n : ℕ). nat_cmp n (fold y)) (of_letter x y l) ∙ tied_itself nat_cmp_total (fold y) in
+    let e : nat_cmp (to_ascii_lowercase x) (to_ascii_lowercase y) ≡ Equal = ap (λ (n : ℕ). nat_cmp n (to_ascii_lowercase y)) (of_letter x y l) ∙ tied_itself nat_cmp_total (to_ascii_lowercase y) in
     ap (λ (r : Ordering). ordering_then r (name_cmp own other)) e ∙ first_names own other on
 
 module _ (w : NamePlaces) (s : List ℕ) (a b : ℕ) where

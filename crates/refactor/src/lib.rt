@@ -12,7 +12,7 @@ mod writer;
 
 pub use block::check_block;
 use refusal::{LIMIT, Mode, Refusal};
-pub use writer::entries_to_vec;
+pub use writer::write_entries;
 
 /// A refactor record (docs/FORMAT.md, "Refactor records").
 #[derive(Clone, Copy, Debug, PartialEq, Eq)]

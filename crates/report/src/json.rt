@@ -10,8 +10,8 @@ use refactor::RefactorInfos;
 use refusal::{Figures, Refusal};
 use std::fmt;
 use symbol::AdsSymbolInfo;
-use wording::{InWords, Pair};
 use wording::text::Quoted;
+use wording::{InWords, Pair};
 
 /// An entry that was refused, in an object.
 #[derive(Clone, Copy)]
@@ -29,10 +29,7 @@ impl fmt::Display for RefusedEntry<'_> {
         let place = self.place;
         let figures = FigureMembers(self.why.figures());
         let reason = InWords(self.why);
-        write!(
-            f,
-            "{{\"place\":{place},{figures},\"reason\":\"{reason}\"}}"
-        )
+        write!(f, "{{\"place\":{place},{figures},\"reason\":\"{reason}\"}}")
     }
 }
 
@@ -108,7 +105,10 @@ impl fmt::Display for Numbers<'_> {
         let type_id = symbol.data_type_id;
         let flags = symbol.flags.0;
         let high = symbol.high;
-        write!(f, ",\"type_id\":{type_id},\"flags\":{flags},\"high\":{high}")
+        write!(
+            f,
+            ",\"type_id\":{type_id},\"flags\":{flags},\"high\":{high}"
+        )
     }
 }
 

@@ -67,8 +67,17 @@ fn left(widest: &Widths, widths: Widths) -> [Spaces; 9] {
 
 // Numbers stand at the right of their columns.
 fn write_headings<W: Write>(widest: &Widths, out: &mut W) -> io::Result<()> {
-    let [place, name, type_name, size, group, offset, attributes, unread, high] =
-        left(widest, HEADINGS);
+    let [
+        place,
+        name,
+        type_name,
+        size,
+        group,
+        offset,
+        attributes,
+        unread,
+        high,
+    ] = left(widest, HEADINGS);
     writeln!(
         out,
         "{place}place  name{name}  type{type_name}  {size}size  {group}group  {offset}offset  {attributes}attrs  {unread}unread  {high}high"
@@ -81,8 +90,17 @@ fn write_symbol<W: Write>(
     widest: &Widths,
     out: &mut W,
 ) -> io::Result<()> {
-    let [place, name, type_name, size, group, offset, attributes, unread, high] =
-        left(widest, widths_of(at, symbol));
+    let [
+        place,
+        name,
+        type_name,
+        size,
+        group,
+        offset,
+        attributes,
+        unread,
+        high,
+    ] = left(widest, widths_of(at, symbol));
     let own_name = Shown(symbol.name);
     let own_type = Shown(symbol.type_name);
     write!(out, "{place}{at}  {own_name}{name}  {own_type}{type_name}")?;

@@ -21,7 +21,8 @@ use Rattle.entry.specs.Claims.{Claims, ended, large, short, beyond, entry}
 use Rattle.entry.proofs.Claims.{claims}
 use Rattle.walk.specs.Step.{step_at}
 use Rattle.attribute.specs.Attribute.{ends}
-use Rattle.symbol.specs.Symbol.{guid_of, attributes_of, extended_of, refactor_infos_of, with_strings, symbol_ended, ended_symbol, symbol_of}
+use Rattle.layout.specs.Layout.{guid_of}
+use Rattle.symbol.specs.Symbol.{attributes_of, extended_of, refactor_infos_of, with_strings, symbol_ended, ended_symbol, symbol_of}
 use Rattle.index.specs.Steps.{is_record, gives}
 use Rattle.regrown.specs.Regrown.{lying}
 use Rattle.regrown.proofs.Whole.{Whole, claim-whole}

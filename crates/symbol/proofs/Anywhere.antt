@@ -20,7 +20,8 @@ use Rattle.attribute.specs.Told as attributes
 use Rattle.attribute.proofs.Anywhere.{moved, on, attributes_at, count_moved, attributes_end, attributes_told, rest_moved}
 use Rattle.refactor.specs.Told as refactors
 use Rattle.symbol.specs.Told.{told_of, SymbolsAnywhere}
-use Rattle.symbol.specs.Symbol.{type_guid_flag, attributes_flag, extended_flags_flag, refactor_info_flag, guid_of, attributes_of, extended_of, extended_word, refactor_infos_of, with_strings, symbol_ended, ended_symbol, symbol_of}
+use Rattle.layout.specs.Layout.{guid_of}
+use Rattle.symbol.specs.Symbol.{type_guid_flag, attributes_flag, extended_flags_flag, refactor_info_flag, attributes_of, extended_of, extended_word, refactor_infos_of, with_strings, symbol_ended, ended_symbol, symbol_of}
 
 -- two answers of a reader: the same refusal, or values and the bytes after them, as many further on
 abbrev Both : {A : Type 0} → (ℕ → ℕ → Bor (List ℕ) → A) → ℕ × ℕ → Bor (List ℕ) → Result (A × Bor (List ℕ)) Refusal → Result (A × Bor (List ℕ)) Refusal → Type 0

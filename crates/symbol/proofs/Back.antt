@@ -19,7 +19,8 @@ use Rattle.writing.proofs.Laid as laid
 use Rattle.symbol.specs.declared.writer.NewSymbol.{NewSymbol}
 use Rattle.symbol.specs.declared.AdsSymbolInfo.{AdsSymbolInfo}
 use Rattle.part.specs.End.{rest_at}
-use Rattle.symbol.specs.Symbol.{type_guid_flag, attributes_flag, extended_flags_flag, refactor_info_flag, guid_of, attributes_of, extended_of, refactor_infos_of, with_strings, string_ends, attribute_ends, refactor_ends, symbol_ended, ended_symbol, symbol_of}
+use Rattle.layout.specs.Layout.{guid_of}
+use Rattle.symbol.specs.Symbol.{type_guid_flag, attributes_flag, extended_flags_flag, refactor_info_flag, attributes_of, extended_of, refactor_infos_of, with_strings, strings_ends, attribute_ends, refactor_ends, symbol_ended, ended_symbol, symbol_of}
 use Rattle.symbol.specs.Writing.{flagged, guid_bytes, extended_bytes, header_bytes, sections_bytes}
 use Rattle.symbol.specs.Told.{told_of, meant, IsTyped}
 use Rattle.symbol.proofs.Accepted.{Accepted}
@@ -171,7 +172,7 @@ module _ (n : NewSymbol) (t : IsTyped n) (a : Accepted n) (extra : List ℕ) (fi
       )
 
   -- its end bytes are 0
-  strings_end : ended (string_ends e back) ≡ Ok tt
+  strings_end : ended (strings_ends e back) ≡ Ok tt
   unfolding ended
   strings_end =
       let l = header.laid n t a extra fits in

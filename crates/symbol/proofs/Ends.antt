@@ -17,7 +17,7 @@ use Rattle.refactor.specs.Refactor as refactor
 use Rattle.refactor.proofs.Again as refactors
 use Rattle.refactor.proofs.Inside.{refactor_name, refactor_next, refactor_rest}
 use Rattle.symbol.specs.declared.AdsSymbolInfo.{AdsSymbolInfo}
-use Rattle.symbol.specs.Symbol.{extended_word, refactor_info_flag, string_ends, attribute_ends, refactor_ends, symbol_ended}
+use Rattle.symbol.specs.Symbol.{extended_word, refactor_info_flag, strings_ends, attribute_ends, refactor_ends, symbol_ended}
 use Rattle.part.specs.End.{IsEnd, IsString, rest_at}
 use Rattle.symbol.specs.Inside.{IsInside}
 use Rattle.symbol.specs.Modes.{end_in, attribute_strings, met, met_names, strings_of}
@@ -121,7 +121,7 @@ ended_both (x ∷ xs) ys = by_zero (ended_both xs ys) (eqb x.1 0)
     by_zero h false = refl
 
 module _ (e : Bor (List ℕ)) (r : AdsSymbolInfo) (i : IsInside e r) where
-  strings_is : string_ends e r ≡ end_of e r.name ∷ end_of e r.type_name ∷ end_of e r.comment ∷ []
+  strings_is : strings_ends e r ≡ end_of e r.name ∷ end_of e r.type_name ∷ end_of e r.comment ∷ []
   strings_is =
       let n = string_end e r.name 30 i.name in
       let t = string_end e r.type_name (31 + length r.name.now) i.type_name in

@@ -1,5 +1,5 @@
 -- Every part of a symbol lies in its entry, in layout order.
-use Rattle.std.proofs.Common.{ℕ, zero, suc, ◌+◌, ◌-◌, ◌<◌, ◌≤◌, ◌≡◌, refl, sym, ap, ◌∙◌, Bool, true, false, List, [], ◌∷◌, length, take, drop, Ok, Err, Result, arith, Bor, subst, length-drop}
+use Rattle.std.proofs.Common.{ℕ, ◌+◌, ◌-◌, ◌<◌, ◌≤◌, ◌≡◌, refl, sym, ap, ◌∙◌, Bool, true, false, List, length, take, drop, Ok, Err, Result, arith, Bor, subst, length-drop}
 use Rattle.std.specs.Prelude.{Option, Some, None, is_some, leb, if◌then◌else◌}
 use Rattle.std.proofs.lemmas.Grind.{common_steps}
 use lib.Seq.{length-take-le, get_or-drop}
@@ -10,7 +10,6 @@ use Rattle.le.specs.Le.{le2, le4, has}
 use Rattle.part.specs.Slice.{part, after}
 use Rattle.part.proofs.Slice.{end_self, end_after, end_again, string_at}
 use Rattle.part.specs.Outcome.{outcome}
-use Rattle.refusal.specs.declared.Mode.{Mode}
 use Rattle.refusal.specs.declared.Refusal.{Refusal}
 use Rattle.attribute.specs.Attribute as attribute
 use Rattle.attribute.specs.declared.Attributes.{Attributes}
@@ -20,22 +19,14 @@ use Rattle.refactor.specs.Refactor as refactor
 use Rattle.refactor.specs.declared.RefactorInfos.{RefactorInfos}
 use Rattle.refactor.specs.Inside.{RefactorsLie}
 use Rattle.refactor.proofs.Inside.{listed_none, chains_counted}
-use Rattle.symbol.specs.declared.AdsSymbolInfo.{AdsSymbolInfo}
-use Rattle.symbol.specs.Symbol.{type_guid_flag, attributes_flag, extended_flags_flag, refactor_info_flag, extended_word, guid_of, attributes_of, extended_of, refactor_infos_of, with_strings, symbol_of}
+use Rattle.layout.specs.Layout.{guid_of}
+use Rattle.layout.proofs.Guid.{end_guid}
+use Rattle.symbol.specs.Symbol.{type_guid_flag, attributes_flag, extended_flags_flag, refactor_info_flag, extended_word, attributes_of, extended_of, refactor_infos_of, with_strings}
 use Rattle.part.specs.End.{IsEnd, IsString, rest_at}
 use Rattle.symbol.specs.Inside.{behind_strings, behind_guid, IsInside, SymbolsInside}
 use Rattle.symbol.proofs.Laws.{accepted_is, accepted_room}
 
 -- the sections
-guid_tail : (s : Bor (List ℕ)) (b : Bool) → IsEnd s (guid_of s b).1
-unfolding guid_of
-guid_tail s false = end_self s
-guid_tail s true = by_room (leb 16 (length s.now)) refl
-  where
-    by_room : (b : Bool) → leb 16 (length s.now) ≡ b → IsEnd s (if◌then◌else◌ {A = Option (List ℕ) × Bor (List ℕ)} b (Some (take 16 s.now), after s 16) (None, s)).1
-    by_room true h = end_after 16 (leb-true 16 (length s.now) h) (end_self s)
-    by_room false h = end_self s
-
 extended_tail : (s : Bor (List ℕ)) (b : Bool) → IsEnd s (extended_of s b).1
 unfolding extended_of
 extended_tail s false = end_self s
@@ -148,7 +139,7 @@ module _ (e : Bor (List ℕ)) (n t k : ℕ) (h : 33 + n + t + k ≤ length e.now
   strings_end = omega (arith, length_of_part e 30 n (omega arith), length_of_part e (31 + n) t (omega arith), length_of_part e (32 + n + t) k (omega arith))
 
   pub guid_rest : IsEnd e guid_and_rest.1
-  guid_rest = end_again (end_after (33 + n + t + k) h (end_self e)) (guid_tail (after e (33 + n + t + k)) (has (le2 e.now 20) type_guid_flag))
+  guid_rest = end_guid (has (le2 e.now 20) type_guid_flag) (end_after (33 + n + t + k) h (end_self e))
 
   pub guid_end : rest_at e guid_and_rest.1 ≡ strings_size + (if is_some guid_and_rest.0 then 16 else 0)
   guid_end = omega (arith, strings_end, h, length-drop (33 + n + t + k) e.now, guid_size (after e (33 + n + t + k)) (has (le2 e.now 20) type_guid_flag))

@@ -18,7 +18,8 @@ use Rattle.refactor.specs.Chains.{IsRefused}
 use Rattle.refactor.specs.Refactor as refactor
 use Rattle.refactor.proofs.Chains.{chains_refused}
 use Rattle.symbol.specs.declared.AdsSymbolInfo.{AdsSymbolInfo}
-use Rattle.symbol.specs.Symbol.{type_guid_flag, attributes_flag, extended_flags_flag, refactor_info_flag, extended_word, guid_of, attributes_of, extended_of, refactor_infos_of, with_strings, ended_symbol, symbol_of}
+use Rattle.layout.specs.Layout.{guid_of}
+use Rattle.symbol.specs.Symbol.{type_guid_flag, attributes_flag, extended_flags_flag, refactor_info_flag, extended_word, attributes_of, extended_of, refactor_infos_of, with_strings, ended_symbol, symbol_of}
 use Rattle.part.specs.End.{IsEnd, rest_at}
 use Rattle.symbol.specs.Inside.{behind_guid}
 use Rattle.symbol.specs.Kind.{short}

@@ -19,7 +19,8 @@ use Rattle.refactor.specs.Block as refactor-block
 use Rattle.refactor.specs.Told as refactors
 use Rattle.refactor.proofs.Again as refactor-again
 use Rattle.writing.specs.Layout.{attributes_bytes}
-use Rattle.symbol.specs.Symbol.{guid_of, attributes_of, extended_of, extended_word, refactor_infos_of}
+use Rattle.layout.specs.Layout.{guid_of}
+use Rattle.symbol.specs.Symbol.{attributes_of, extended_of, extended_word, refactor_infos_of}
 use Rattle.symbol.specs.Writing.{guid_bytes, extended_bytes}
 use Rattle.symbol.specs.Told.{IsSixteen}
 

@@ -4,7 +4,8 @@ use Rattle.std.proofs.lemmas.Grind.{common_steps}
 use Rattle.le.specs.Le.{le2, has}
 use Rattle.part.specs.Slice.{after}
 use Rattle.attribute.proofs.Laws.{after_within}
-use Rattle.symbol.specs.Symbol.{type_guid_flag, attributes_flag, extended_flags_flag, refactor_info_flag, extended_word, guid_of, attributes_of, extended_of, refactor_infos_of, with_strings, IsWithin}
+use Rattle.layout.specs.Layout.{guid_of}
+use Rattle.symbol.specs.Symbol.{type_guid_flag, attributes_flag, extended_flags_flag, refactor_info_flag, extended_word, attributes_of, extended_of, refactor_infos_of, with_strings, IsWithin}
 
 guid_within : (s : Bor (List ℕ)) (b : Bool) → length (guid_of s b).1.now ≤ length s.now
 unfolding guid_of

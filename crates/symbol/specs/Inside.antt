@@ -1,5 +1,5 @@
 -- docs/FORMAT.md, "Symbol entries": every number of a symbol stands at its place, and every part lies in its entry, in layout order.
-use Rattle.std.specs.Prelude.{ℕ, ◌+◌, ◌-◌, ◌<◌, ◌≡◌, Bool, false, List, Some, None, Ok, is_some, leb, length, take, drop, if◌then◌else◌}
+use Rattle.std.specs.Prelude.{ℕ, ◌+◌, ◌-◌, ◌≡◌, Bool, false, List, Some, None, Ok, is_some, leb, length, take, drop, if◌then◌else◌}
 use Rattle.std.specs.Borrow.{Bor}
 use Rattle.le.specs.Le.{le2, le4, has}
 use Rattle.part.specs.End.{IsEnd, IsString, rest_at}

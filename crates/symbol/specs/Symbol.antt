@@ -9,6 +9,7 @@ use Rattle.refusal.specs.EndBytes.{ended, in_mode}
 use Rattle.refusal.specs.declared.Mode.{Mode}
 use Rattle.refusal.specs.declared.Refusal.{Refusal}
 use Rattle.refusal.specs.declared.Refusal.TheVariants.{TooShort, EntryLengthMismatch}
+use Rattle.layout.specs.Layout.{strings_there, string_ends, guid_of}
 use Rattle.attribute.specs.declared.Attributes.{Attributes}
 use Rattle.attribute.specs.Attribute as attribute
 use Rattle.refactor.specs.declared.RefactorInfos.{RefactorInfos}
@@ -29,13 +30,7 @@ extended_flags_flag = 0x8000
 abbrev pub refactor_info_flag : ℕ
 refactor_info_flag = 0x0004
 
--- each section, and the bytes after it. One that is not flagged, or has no room, moves nothing: 16 bytes
-unfoldable pub guid_of : Bor (List ℕ) → Bool → Option (List ℕ) × Bor (List ℕ)
-guid_of s flagged =
-    if flagged then if leb 16 (length s.now) then (Some (take 16 s.now), after s 16) else (None, s)
-    else (None, s)
-
--- a 2-byte count, then so many attributes, up to one that is refused
+-- each section, and the bytes after it. One that is not flagged, or has no room, moves nothing: behind the GUID a 2-byte count, then so many attributes, up to one that is refused
 unfoldable pub attributes_of : Bor (List ℕ) → Bool → Attributes × Bor (List ℕ)
 attributes_of s flagged =
     if flagged then
@@ -93,12 +88,8 @@ pub record IsWithin (e : Bor (List ℕ)) (r : AdsSymbolInfo) : Type 0 where
   pub refactor_infos : length r.refactor_infos.bytes.now ≤ length e.now
 
 -- its end bytes, with their places, in the order in which they are met: the strings', the attributes', the chain's, also of a chain that is dropped
-abbrev pub string_ends : Bor (List ℕ) → AdsSymbolInfo → List (ℕ × ℕ)
-string_ends e r =
-    let n : ℕ = 30 + length r.name.now in
-    let t : ℕ = n + 1 + length r.type_name.now in
-    let k : ℕ = t + 1 + length r.comment.now in
-    (n, get_or e.now n 0) ∷ (t, get_or e.now t 0) ∷ (k, get_or e.now k 0) ∷ []
+abbrev pub strings_ends : Bor (List ℕ) → AdsSymbolInfo → List (ℕ × ℕ)
+strings_ends e r = string_ends e.now 30 (length r.name.now) (length r.type_name.now) (length r.comment.now)
 
 abbrev pub attribute_ends : Bor (List ℕ) → AdsSymbolInfo → List (ℕ × ℕ)
 attribute_ends e r = attribute.ends r.attributes.bytes (rest_at e r.attributes.bytes) r.attributes.count
@@ -109,14 +100,10 @@ refactor_ends e r =
 
 -- the first of them that is not 0 is refused
 unfoldable pub symbol_ended : Bor (List ℕ) → AdsSymbolInfo → Result Unit Refusal
-symbol_ended e r = and_then (ended (string_ends e r)) (λ _. and_then (ended (attribute_ends e r)) (λ _. ended (refactor_ends e r)))
+symbol_ended e r = and_then (ended (strings_ends e r)) (λ _. and_then (ended (attribute_ends e r)) (λ _. ended (refactor_ends e r)))
 
 unfoldable pub ended_symbol : Mode → Bor (List ℕ) → AdsSymbolInfo → Result AdsSymbolInfo Refusal
 ended_symbol mode e r = and_then (in_mode mode (symbol_ended e r)) (λ _. Ok r)
-
--- 3 where a header and strings need more bytes than are there
-abbrev pub strings_there : ℕ → ℕ → Result Unit Refusal
-strings_there needed available = if ltb available needed then Err (EntryLengthMismatch needed available) else Ok tt
 
 -- of an entry's own bytes, in a mode: 2 for a header that is not there, 3 for strings that are not, then 16
 unfoldable pub symbol_of : Mode → Bor (List ℕ) → Result AdsSymbolInfo Refusal

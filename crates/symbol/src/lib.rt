@@ -1,10 +1,9 @@
 //! AdsSymbolInfo entries of an upload, read whole: what a symbol holds is a part of the bytes that it was read from.
-#![tactic(auto, unfolding(crate::specs::Symbol::guid_of, crate::specs::Symbol::attributes_of, crate::specs::Symbol::extended_of, crate::specs::Symbol::refactor_infos_of, le::specs::Le::le2, le::specs::Le::le4))]
+#![tactic(auto, unfolding(layout::specs::Layout::guid_of, crate::specs::Symbol::attributes_of, crate::specs::Symbol::extended_of, crate::specs::Symbol::refactor_infos_of, le::specs::Le::le2, le::specs::Le::le4))]
 
 ghost use Rattle.std.specs.Prelude.{◌≡◌, ◌+◌, ◌≤◌, length};
 ghost use Rattle.le.specs.Le.{has};
-ghost use Rattle.part.specs.Slice.{part, after};
-ghost use Rattle.symbol.specs.Symbol.{type_guid_flag, attributes_flag, extended_flags_flag, refactor_info_flag, guid_of, attributes_of, extended_of, refactor_infos_of, extended_word, IsWithin, with_strings, refactor_ends, symbol_ended, strings_there, symbol_of};
+ghost use Rattle.symbol.specs.Symbol.{type_guid_flag, attributes_flag, extended_flags_flag, refactor_info_flag, attributes_of, extended_of, refactor_infos_of, extended_word, IsWithin, with_strings, refactor_ends, symbol_ended, symbol_of};
 ghost use Rattle.refusal.specs.EndBytes.{ended};
 ghost use Rattle.symbol.specs.Kind.{four, long, room, short, never_zero};
 
@@ -61,16 +60,6 @@ impl AdsSymbolInfo<'_> {
 }
 
 #[inline(always)]
-fn read_guid(rest: &[u8], flagged: bool) -> (Option<[u8; 16]>, &[u8])
-    ensures { result ≡ guid_of rest.entry flagged }
-{
-    if flagged && let Some((guid, _)) = rest.split_first_chunk::<16>() {
-        return (Some(*guid), &rest[16..]);
-    }
-    (None, rest)
-}
-
-#[inline(always)]
 fn read_attributes(rest: &[u8], flagged: bool) -> (Attributes<'_>, &[u8])
     ensures { result ≡ attributes_of rest.entry flagged }
 {
@@ -109,33 +98,6 @@ fn read_refactor_infos(rest: &[u8], flagged: bool) -> (RefactorInfos<'_>, &[u8])
     (none, rest)
 }
 
-// Whether a header and strings that need so many bytes are there.
-#[inline(always)]
-fn check_strings(needed: usize, available: usize) -> Result<(), Refusal>
-    ensures { result ≡ strings_there needed available }
-{
-    if available < needed {
-        return Err(Refusal::EntryLengthMismatch { needed, available });
-    }
-    Ok(())
-}
-
-#[inline(always)]
-fn string_at(own: &[u8], at: usize, size: usize) -> &[u8]
-    requires { at + size ≤ length own.now }
-    ensures { result ≡ part own.entry at size }
-{
-    &own[at..at + size]
-}
-
-#[inline(always)]
-fn rest_from(own: &[u8], at: usize) -> &[u8]
-    requires { at ≤ length own.now }
-    ensures { result ≡ after own.entry at }
-{
-    &own[at..]
-}
-
 /// The symbol of an entry's own bytes whose strings have these lengths.
 #[tactic(auto, unfolding(crate::specs::Symbol::with_strings))]
 #[inline(always)]
@@ -143,9 +105,9 @@ fn with_strings(own: &[u8], name: usize, type_name: usize, comment: usize) -> Ad
     requires { 33 + name + type_name + comment ≤ length own.now }
     ensures { result ≡ with_strings own.entry name type_name comment }
 {
-    let sections = rest_from(own, 33 + name + type_name + comment);
+    let sections = part::rest_of(own, 33 + name + type_name + comment);
     let flags = AdsSymbolFlags(le::u16_at(own, 20));
-    let (guid, rest) = read_guid(sections, flags.has_type_guid());
+    let (guid, rest) = layout::read_guid(sections, flags.has_type_guid());
     let (attributes, rest) = read_attributes(rest, flags.has_attributes());
     let (extended_flags, rest) = read_extended(rest, flags.has_extended_flags());
     let (refactor_infos, unread) = read_refactor_infos(rest, has_refactor_infos(extended_flags));
@@ -157,9 +119,9 @@ fn with_strings(own: &[u8], name: usize, type_name: usize, comment: usize) -> Ad
         data_type_id: le::u32_at(own, 16),
         flags,
         high: le::u16_at(own, 22),
-        name: string_at(own, 30, name),
-        type_name: string_at(own, 31 + name, type_name),
-        comment: string_at(own, 32 + name + type_name, comment),
+        name: part::part_of(own, 30, name),
+        type_name: part::part_of(own, 31 + name, type_name),
+        comment: part::part_of(own, 32 + name + type_name, comment),
         guid,
         attributes,
         extended_flags,
@@ -196,12 +158,13 @@ fn check_ends(own: &[u8], symbol: &AdsSymbolInfo<'_>) -> Result<(), Refusal>
     requires { IsWithin own symbol.now }
     ensures { result ≡ symbol_ended own.entry symbol.now }
 {
-    let name = 30 + symbol.name.len();
-    let type_name = name + 1 + symbol.type_name.len();
-    let comment = type_name + 1 + symbol.comment.len();
-    refusal::check_end(name, own[name])?;
-    refusal::check_end(type_name, own[type_name])?;
-    refusal::check_end(comment, own[comment])?;
+    layout::check_string_ends(
+        own,
+        30,
+        symbol.name.len(),
+        symbol.type_name.len(),
+        symbol.comment.len(),
+    )?;
     let attributes = symbol.attributes;
     attributes.check_ends(own.len())?;
     check_chain_ends(own, symbol)
@@ -244,7 +207,7 @@ impl<'a> Entry<'a> for AdsSymbolInfo<'a> {
         let type_name = le::u16_at(own, 26) as usize;
         let comment = le::u16_at(own, 28) as usize;
         let needed = 33 + name + type_name + comment;
-        check_strings(needed, length)?;
+        layout::check_strings(needed, length)?;
         let symbol = with_strings(own, name, type_name, comment);
         if mode == Mode::Checked {
             check_ends(own, &symbol)?;
@@ -272,7 +235,7 @@ impl<'a> Accepts<'a> for AdsSymbolInfo<'a> {
         let name = le::u16_at(own, 24) as usize;
         let type_name = le::u16_at(own, 26) as usize;
         let comment = le::u16_at(own, 28) as usize;
-        check_strings(33 + name + type_name + comment, length)
+        layout::check_strings(33 + name + type_name + comment, length)
     }
 }
 

@@ -1,18 +1,20 @@
 //! Symbol entries, written into a lent buffer. docs/FORMAT.md, "Writing", decides what is refused.
 #![tactic(auto, unfolding(crate::specs::Writing::numbers_bytes, crate::specs::Writing::header_bytes, crate::specs::Writing::sections_bytes, crate::specs::Writing::symbol_bytes, crate::specs::Writing::sections_checked, crate::specs::Writing::symbol_checked))]
 
-ghost use Rattle.std.specs.Prelude.{◌≡◌, ◌+◌, ◌≤◌, OnOk, length, if◌then◌else◌, true};
+ghost use Rattle.std.specs.Prelude.{◌≡◌, ◌+◌, ◌≤◌, Ok, MatchResult, OnOk, length, if◌then◌else◌, true};
 ghost use Rattle.le.specs.Put.{Wrote};
 ghost use Rattle.walk.specs.Mapped.{map_ok};
 ghost use Rattle.writing.specs.Checks.{IsShort};
 ghost use Rattle.writing.specs.Writing.{Writes};
+ghost use Rattle.writing.specs.Owned.{NotWritten};
 ghost use Rattle.symbol.specs.Writing.{numbers_bytes, header_bytes, guid_bytes, extended_bytes, sections_bytes, symbol_bytes, agree, sections_checked, symbol_checked, symbol_written, IsSized};
 
 use flags::index_group::IndexGroup;
 use flags::index_offset::IndexOffset;
 use flags::symbol_flags::{AdsSymbol2Flags, AdsSymbolFlags};
 use refusal::Refusal;
-use writing::Block;
+use std::alloc::Allocator;
+use writing::{Block, WriteError};
 
 /// A symbol to be written.
 #[derive(Clone, Copy, Debug)]
@@ -60,13 +62,27 @@ impl NewSymbol<'_> {
 
     /// Writes the entry at the start of a buffer, and tells how many bytes it has. It is refused as by `wire_size`, and then
     /// if the buffer is too small (6); the buffer is then as it was.
-    pub fn to_vec(&self, out: &mut [u8]) -> Result<usize, Refusal>
+    pub fn write(&self, out: &mut [u8]) -> Result<usize, Refusal>
         ensures { Writes (symbol_written self.now) out.old out.new result }
     {
         check(self)?;
         let size = size_of(self);
         writing::check_room(size, out.len())?;
         Ok(put_symbol(out, self, size as u32))
+    }
+
+    /// The entry, in memory of its own.
+    ///
+    /// # Errors
+    ///
+    /// Those of `wire_size`, and that there is no memory for it.
+    pub fn to_vec<A: Allocator>(&self, alloc: A) -> Result<Vec<u8, A>, WriteError>
+        ensures { MatchResult result (λ v. symbol_written self.now ≡ Ok v.items) (NotWritten (symbol_written self.now)) }
+    {
+        let size = self.wire_size()?;
+        let mut out = vec![in alloc; 0; size]?;
+        self.write(&mut out)?;
+        Ok(out)
     }
 }
 

@@ -11,14 +11,12 @@ use Rattle.refusal.specs.declared.Refusal.{Refusal}
 use Rattle.refusal.specs.declared.Refusal.TheVariants.{TooLarge, ZeroEntryLength, NameNotFound}
 use Rattle.names.specs.Names.{same_name}
 use Rattle.entry.specs.Walk.{stands, steps}
-use Rattle.writing.specs.Writing.{Writes}
 use Rattle.walk.specs.Step.{step_at}
 use Rattle.walk.proofs.Theorems.{reads}
 use Rattle.walk.proofs.Back.{steps_back}
 use Rattle.symbol.specs.declared.AdsSymbolInfo.{AdsSymbolInfo}
 use Rattle.symbol.specs.Symbol.{symbol_of}
 use Rattle.symbol.specs.Kind as kind
-use Rattle.index.specs.Index.{indexing}
 use Rattle.index.specs.Steps.{gives, BySteps}
 use Rattle.index.proofs.Steps.{by_steps_of}
 use Rattle.index.proofs.Meaning.{built}

@@ -8,10 +8,10 @@ use Rattle.refusal.specs.declared.Mode.TheVariants.{Present}
 use Rattle.entry.specs.Entry.{claim_at, claim_of}
 use Rattle.entry.specs.Walk.{steps, steps_from}
 use Rattle.walk.specs.Step.{parse_of, step_at}
-use Rattle.names.specs.Names.{fold, folded, same_name}
-use Rattle.le.specs.Same.{equal_bytes}
+use Rattle.names.specs.Names.{folded, same_name}
 use Rattle.symbol.specs.declared.AdsSymbolInfo.{AdsSymbolInfo}
-use Rattle.symbol.specs.Symbol.{guid_of, attributes_of, extended_of, refactor_infos_of, with_strings, ended_symbol, symbol_of}
+use Rattle.layout.specs.Layout.{guid_of}
+use Rattle.symbol.specs.Symbol.{attributes_of, extended_of, refactor_infos_of, with_strings, ended_symbol, symbol_of}
 use Rattle.symbol_find.specs.Find.{is_named}
 use Rattle.symbol_find.specs.Meaning.{HasName, Nowhere, Finds, UselessShutOut}
 use Rattle.symbol_find.proofs.Meaning.{has_of}
@@ -24,7 +24,7 @@ abbrev one : Bor (List ℕ)
 one = lying (33 ∷ 0 ∷ 0 ∷ 0 ∷ 0 ∷ 0 ∷ 0 ∷ 0 ∷ 0 ∷ 0 ∷ 0 ∷ 0 ∷ 0 ∷ 0 ∷ 0 ∷ 0 ∷ 0 ∷ 0 ∷ 0 ∷ 0 ∷ 0 ∷ 0 ∷ 0 ∷ 0 ∷ 0 ∷ 0 ∷ 0 ∷ 0 ∷ 0 ∷ 0 ∷ 0 ∷ 0 ∷ 0 ∷ [])
 
 named_there : is_named Present one [] 0 ≡ true
-unfolding le2 le4 claim_at step_at fold folded same_name equal_bytes guid_of attributes_of extended_of refactor_infos_of with_strings ended_symbol symbol_of is_named
+unfolding le2 le4 claim_at step_at folded same_name guid_of attributes_of extended_of refactor_infos_of with_strings ended_symbol symbol_of is_named
 named_there = refl
 
 has_there : HasName Present one [] 0

@@ -8,7 +8,6 @@ use lib.Seq.{get_or-set_other}
 use lib.ListN.{length-take, length-drop}
 use Rattle.le.specs.Le.{le2, le4}
 use Rattle.le.specs.Le as le
-use Rattle.le.specs.Same.{equal_bytes}
 use Rattle.le.proofs.Laws.{not-both, get_d_part}
 use Rattle.part.specs.Slice.{part}
 use Rattle.part.specs.Outcome.{and_then}
@@ -17,7 +16,7 @@ use Rattle.refusal.specs.EndBytes.{ended}
 use Rattle.refusal.specs.declared.Mode.{Mode}
 use Rattle.refusal.specs.declared.Mode.TheVariants.{Checked}
 use Rattle.refusal.specs.declared.Refusal.{Refusal}
-use Rattle.names.specs.Names.{fold, folded, same_name}
+use Rattle.names.specs.Names.{folded, same_name}
 use Rattle.entry.specs.Entry.{claim_at, claim_of}
 use Rattle.entry.specs.Walk.{steps, steps_from}
 use Rattle.entry.specs.Alike.{among, IsWhole, DiffersInside}
@@ -26,7 +25,8 @@ use Rattle.entry.proofs.Direct.{part_all, part_long, room_of}
 use Rattle.walk.specs.Step.{step_at}
 use Rattle.walk.specs.Pieces.{piece_at, pieces_from}
 use Rattle.symbol.specs.declared.AdsSymbolInfo.{AdsSymbolInfo}
-use Rattle.symbol.specs.Symbol.{guid_of, attributes_of, extended_of, refactor_infos_of, with_strings, symbol_ended, ended_symbol, symbol_of}
+use Rattle.layout.specs.Layout.{guid_of}
+use Rattle.symbol.specs.Symbol.{attributes_of, extended_of, refactor_infos_of, with_strings, symbol_ended, ended_symbol, symbol_of}
 use Rattle.symbol.specs.Kind as kind
 use Rattle.attribute.specs.Attribute.{ends}
 use Rattle.symbol_find.specs.Find.{is_named}
@@ -118,11 +118,11 @@ differs = record {
 
 -- neither version of the first has the name A
 first_not : is_named Checked (lying good) (65 ∷ []) 0 ≡ false
-unfolding le2 le4 claim_at step_at fold folded same_name equal_bytes guid_of attributes_of extended_of refactor_infos_of with_strings symbol_ended ends ended ended_symbol symbol_of is_named
+unfolding le2 le4 claim_at step_at folded same_name guid_of attributes_of extended_of refactor_infos_of with_strings symbol_ended ends ended ended_symbol symbol_of is_named
 first_not = refl
 
 bad_not : is_named Checked (lying bad) (65 ∷ []) 0 ≡ false
-unfolding le2 le4 claim_at step_at fold folded same_name equal_bytes guid_of attributes_of extended_of refactor_infos_of with_strings symbol_ended ends ended ended_symbol symbol_of is_named
+unfolding le2 le4 claim_at step_at folded same_name guid_of attributes_of extended_of refactor_infos_of with_strings symbol_ended ends ended ended_symbol symbol_of is_named
 bad_not = refl
 
 none_has : (s : List ℕ) → length s ≤ limit → is_named Checked (lying s) (65 ∷ []) 0 ≡ false → (p : ℕ) → among (0 ∷ []) p ≡ true → HasName Checked (lying s) (65 ∷ []) p → ⊥
@@ -133,11 +133,11 @@ found_or (Ok at) = at
 found_or (Err why) = 0
 
 good_found : found_or (ends_at_refused Checked (lying good) (65 ∷ [])) ≡ 33
-unfolding le2 le4 claim_at steps steps_from step_at fold folded same_name equal_bytes guid_of attributes_of extended_of refactor_infos_of with_strings symbol_ended ends ended ended_symbol symbol_of is_named found_or
+unfolding le2 le4 claim_at steps steps_from step_at folded same_name guid_of attributes_of extended_of refactor_infos_of with_strings symbol_ended ends ended ended_symbol symbol_of is_named found_or
 good_found = refl
 
 bad_found : found_or (ends_at_refused Checked (lying bad) (65 ∷ [])) ≡ 0
-unfolding le2 le4 claim_at steps steps_from step_at fold folded same_name equal_bytes guid_of attributes_of extended_of refactor_infos_of with_strings symbol_ended ends ended ended_symbol symbol_of is_named found_or
+unfolding le2 le4 claim_at steps steps_from step_at folded same_name guid_of attributes_of extended_of refactor_infos_of with_strings symbol_ended ends ended ended_symbol symbol_of is_named found_or
 bad_found = refl
 
 -- the first character of the first row

@@ -26,7 +26,7 @@ use Rattle.symbols_regrown.specs.Kind.{IsFit}
 abbrev pub SymbolsShutOut : Type 0
 SymbolsShutOut = ShutsOut IsFit symbol_bytes meant cursor_of (tells (λ (r : AdsSymbolInfo). r.length) told_of)
 
--- where `to_vec` answers that it wrote so many bytes, the symbol is fit, and these bytes are those that come back
+-- where `write` answers that it wrote so many bytes, the symbol is fit, and these bytes are those that come back
 pub record IsReached (n : NewSymbol) (count : ℕ) (new : List ℕ) : Type 0 where
   pub fit : IsFit n
   pub bytes : take count new ≡ symbol_bytes n

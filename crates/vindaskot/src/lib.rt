@@ -305,7 +305,7 @@ pub extern "C" fn vindaskot_attribute_write(
     ensures { WritesTold (attribute_writing (record { name = name.now; value = value.now })) out.old out.new result answer.new }
 {
     let attribute = AdsAttribute { name, value };
-    told::number(attribute.to_vec(out), answer)
+    told::number(attribute.write(out), answer)
 }
 
 #[unsafe(no_mangle)]
@@ -323,7 +323,7 @@ pub extern "C" fn vindaskot_refactor_write(
         next_refactor_info: has_next,
         name,
     };
-    told::number(info.to_vec_with_next(has_next, out), answer)
+    told::number(info.write_with_next(has_next, out), answer)
 }
 
 #[unsafe(no_mangle)]
@@ -335,7 +335,7 @@ pub extern "C" fn vindaskot_refactor_block_write(
 ) -> u32
     ensures { WritesTold (entries_writing count block.entry) out.old out.new result answer.new }
 {
-    told::number(refactor::entries_to_vec(count, block, out), answer)
+    told::number(refactor::write_entries(count, block, out), answer)
 }
 
 // The GUID that is given: no bytes are none, 16 are one.
@@ -405,7 +405,7 @@ pub extern "C" fn vindaskot_symbol_write_2(
             bytes: chain,
         },
     };
-    told::number(symbol.to_vec(out), answer)
+    told::number(symbol.write(out), answer)
 }
 
 #[unsafe(no_mangle)]
@@ -449,7 +449,7 @@ pub extern "C" fn vindaskot_field_write(
             bytes: block,
         },
     };
-    told::number(field.to_vec(out), answer)
+    told::number(field.write(out), answer)
 }
 
 #[unsafe(no_mangle)]

@@ -3,3 +3,4 @@ pub mod Layout
 pub mod Checks
 pub mod One
 pub mod Meant
+pub mod Owned

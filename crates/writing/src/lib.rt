@@ -8,6 +8,9 @@ ghost use Rattle.writing.specs.One.{OneWriting};
 ghost use Rattle.writing.specs.Meant.{ChecksMeant, LayoutsMeant, WritesMeant};
 ghost use Rattle.writing.specs.Checks.{count_checked, strings_checked, size_checked, room_checked, IsShort};
 
+mod error;
+
+pub use error::WriteError;
 use refusal::{LIMIT, Refusal};
 
 /// Records to write as a block: their bytes, one after another, and how many they are.

@@ -1,8 +1,6 @@
-use Rattle.std.proofs.Common.{◌≡◌, sym, ap, ◌∙◌, length, arith}
+use Rattle.std.proofs.Common.{sym, ap, ◌∙◌, length, arith}
 use Rattle.le.specs.Put.{put}
 use Rattle.le.proofs.Laws.{wrote}
-use Rattle.walk.specs.Pieces.{pieces}
-use Rattle.salvage.specs.Salvage.{kept, dropped}
 use Rattle.salvage.proofs.Promise.{refuses, few_bytes, few_slots, both_done, salvage_large, salvage_both}
 use Rattle.salvage.proofs.Accepted.{kept_alike, dropped_alike}
 use Rattle.salvage.proofs.salvage.Goals as goal

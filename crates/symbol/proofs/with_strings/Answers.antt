@@ -18,8 +18,8 @@ returns c = simp (
   c.read_attributes.ensures,
   c.read_extended-extended_flags.ensures,
   c.read_refactor_infos.ensures,
-  c.rest_from-sections.ensures,
-  c.string_at.ensures,
-  c.string_at-2.ensures,
-  c.string_at-3.ensures,
+  c.rest_of-sections.ensures,
+  c.part_of.ensures,
+  c.part_of-2.ensures,
+  c.part_of-3.ensures,
 )

@@ -1,4 +1,4 @@
-use Rattle.std.proofs.Common.{◌+◌, ◌-◌, ◌≤◌, ◌≡◌, sym, ap, ◌∙◌, length, take, drop, length-drop, arith}
+use Rattle.std.proofs.Common.{◌+◌, ◌-◌, ◌≡◌, sym, ap, ◌∙◌, length, take, drop, length-drop, arith}
 use lib.Seq.{length-take-le}
 use Rattle.le.proofs.Over.{wrote_over}
 use Rattle.field.specs.Writing.{zeros}

@@ -1,0 +1,2 @@
+pub mod Guid
+mod Meant
