@@ -1,39 +1,41 @@
 -- Where an attribute lies, by what an iterator that gave it has left.
-use Rattle.std.proofs.Common.{◌≡◌, ℕ, zero, suc, ◌+◌, ◌≤◌, List, [], ◌∷◌, length, Ok, Err, Result, arith, Bor, refl, sym, ap, ap₂, ◌∙◌, subst}
+use Rattle.std.proofs.Common.{◌≡◌, ℕ, zero, suc, ◌+◌, ◌-◌, ◌≤◌, List, [], ◌∷◌, length, Ok, Err, Result, arith, Bor, refl, sym, ap, ap₂, ◌∙◌, subst, length-drop}
 use Rattle.std.specs.Prelude.{Some}
 use Rattle.std.specs.Iterator.{Yields}
-use Rattle.std.proofs.lemmas.Grind.{common_steps}
+use Rattle.part.specs.Slice.{part, after}
 use Rattle.part.specs.Outcome.{outcome}
+use Rattle.part.proofs.Slice.{length_part}
 use Rattle.refusal.specs.declared.Refusal.{Refusal}
 use Rattle.attribute.specs.declared.AdsAttribute.{AdsAttribute}
 use Rattle.attribute.specs.declared.Attributes.{Attributes}
 use Rattle.attribute.specs.Attribute.{first_of, listed, NextGives}
+use Rattle.attribute.proofs.Again.{n_of, v_of, here, fits, is_here}
 use Rattle.attribute.proofs.Left.{goes_on}
-use Rattle.attribute.proofs.Room.{room}
-use Rattle.places.specs.Places.{IsEnd, IsAttributeBefore}
-use Rattle.places.proofs.Ends.{self_ends, again}
+use Rattle.places.specs.Places.{IsEndInMemory, IsAttributeBefore}
+use Rattle.places.proofs.Ends.{end_self, end_again}
 
-module _ (s : Bor (List ℕ)) (p : AdsAttribute × Bor (List ℕ)) (h : first_of s ≡ Ok p) where
-  pub rests : p.1.ref_ptr.1 ≡ s.ref_ptr.1 + length p.0.name.now + length p.0.value.now + 4
-  unfolding first_of
-  rests = grind (arith, common_steps)
+-- the attribute at the start of some bytes, and what is behind it
+pub record Stands (s : Bor (List ℕ)) (p : AdsAttribute × Bor (List ℕ)) : Type 0 where
+  pub name : p.0.name ≡ part s 2 (length p.0.name.now)
+  pub value : p.0.value ≡ part s (length p.0.name.now + 3) (length p.0.value.now)
+  pub rest : p.1 ≡ after s (length p.0.name.now + length p.0.value.now + 4)
+  pub room : length p.0.name.now + length p.0.value.now + 4 ≤ length s.now
 
-  name_lies : p.0.name.ref_ptr.1 ≡ s.ref_ptr.1 + 2
-  unfolding first_of
-  name_lies = grind (arith, common_steps)
+pub stands : (s : Bor (List ℕ)) (p : AdsAttribute × Bor (List ℕ)) → first_of s ≡ Ok p → Stands s p
+stands s p h =
+    let f = fits s p h in
+    let n : length (part s 2 (n_of s)).now ≡ n_of s = length_part s 2 (n_of s) (omega arith) in
+    let v : length (part s (n_of s + 3) (v_of s)).now ≡ v_of s = length_part s (n_of s + 3) (v_of s) (omega arith) in
+    subst (Stands s) (is_here s p h) (record { name = rw n refl; value = rw (n, v) refl; rest = rw (n, v) refl; room = rw (n, v) f })
 
-  value_lies : p.0.value.ref_ptr.1 ≡ s.ref_ptr.1 + length p.0.name.now + 3
-  unfolding first_of
-  value_lies = grind (arith, common_steps)
-
-  pub first_before : IsAttributeBefore s p.0 p.1
-  first_before =
-      record {
-        end = record { memory = omega (arith, rests, room s p h); within = omega (arith, room s p h) };
-        start = omega (arith, name_lies);
-        name = omega (arith, name_lies, value_lies);
-        value = omega (arith, value_lies, rests);
-      }
+pub first_before : (s : Bor (List ℕ)) (p : AdsAttribute × Bor (List ℕ)) → first_of s ≡ Ok p → IsAttributeBefore s p.0 p.1
+first_before s p h =
+    let i = stands s p h in
+    let n : p.0.name.ref_ptr.1 ≡ s.ref_ptr.1 + 2 = ap (λ (t : Bor (List ℕ)). t.ref_ptr.1) i.name in
+    let v : p.0.value.ref_ptr.1 ≡ s.ref_ptr.1 + (length p.0.name.now + 3) = ap (λ (t : Bor (List ℕ)). t.ref_ptr.1) i.value in
+    let r : p.1.ref_ptr.1 ≡ s.ref_ptr.1 + (length p.0.name.now + length p.0.value.now + 4) = ap (λ (t : Bor (List ℕ)). t.ref_ptr.1) i.rest in
+    let l : length p.1.now ≡ length s.now - (length p.0.name.now + length p.0.value.now + 4) = ap (λ (t : Bor (List ℕ)). length t.now) i.rest ∙ length-drop (length p.0.name.now + length p.0.value.now + 4) s.now in
+    record { end = record { memory = omega (arith, i.room); within = omega arith }; start = omega arith; name = omega arith; value = omega arith }
 
 -- what an iterator gives stands at the start of its bytes, and those behind it are left
 given : (s : Bor (List ℕ)) (n : ℕ) (a : AdsAttribute) (t : Attributes) → NextGives (record { bytes = s; count = n }) (Some a) t → first_of s ≡ Ok (a, t.bytes)
@@ -52,14 +54,13 @@ pub next_before : (s t : Attributes) (a : AdsAttribute) → NextGives s (Some a)
 next_before s t a g = first_before s.bytes (a, t.bytes) (given s.bytes s.count a t g)
 
 -- what is left after some were given is an end of what there was
-pub rest_ends : (xs : List AdsAttribute) (s t : Attributes) → Yields NextGives s xs t → IsEnd s.bytes t.bytes
-rest_ends [] s t y = subst (λ (x : Attributes). IsEnd s.bytes x.bytes) y (self_ends s.bytes)
-rest_ends (x ∷ xs) s t y = again s.bytes y.0.bytes t.bytes (next_before s y.0 x y.1).end (rest_ends xs y.0 t y.2)
+rest_ends : (xs : List AdsAttribute) (s t : Attributes) → Yields NextGives s xs t → IsEndInMemory s.bytes t.bytes
+rest_ends [] s t y = subst (λ (x : Attributes). IsEndInMemory s.bytes x.bytes) y (end_self s.bytes)
+rest_ends (x ∷ xs) s t y = end_again (next_before s y.0 x y.1).end (rest_ends xs y.0 t y.2)
 
 -- so is the attribute that is given then before what is left after it, of an entry that ends with them
-pub given_before : (e : Bor (List ℕ)) (all t u : Attributes) (xs : List AdsAttribute) (a : AdsAttribute) → IsEnd e all.bytes → Yields NextGives all xs t → NextGives t (Some a) u
-    → IsAttributeBefore e a u.bytes
+pub given_before : (e : Bor (List ℕ)) (all t u : Attributes) (xs : List AdsAttribute) (a : AdsAttribute) → IsEndInMemory e all.bytes → Yields NextGives all xs t → NextGives t (Some a) u → IsAttributeBefore e a u.bytes
 given_before e all t u xs a o y g =
     let b = next_before t u a g in
-    let i = again e all.bytes t.bytes o (rest_ends xs all t y) in
-    record { end = again e t.bytes u.bytes i b.end; start = omega (arith, b.start, i.memory, i.within); name = b.name; value = b.value }
+    let i = end_again o (rest_ends xs all t y) in
+    record { end = end_again i b.end; start = omega (arith, b.start, i.memory, i.within); name = b.name; value = b.value }

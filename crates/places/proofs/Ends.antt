@@ -1,11 +1,11 @@
--- Bytes that are the last of others.
+-- Bytes that end in memory where others do.
 use Rattle.std.proofs.Common.{ℕ, List, arith, Bor, refl, ◌∙◌}
-use Rattle.places.specs.Places.{IsEnd}
+use Rattle.places.specs.Places.{IsEndInMemory}
 
--- all bytes are an end of themselves
-pub self_ends : (s : Bor (List ℕ)) → IsEnd s s
-self_ends s = record { memory = refl; within = omega arith }
+-- all bytes end where they do
+pub end_self : (s : Bor (List ℕ)) → IsEndInMemory s s
+end_self s = record { memory = refl; within = omega arith }
 
 -- an end of an end
-pub again : (e s t : Bor (List ℕ)) → IsEnd e s → IsEnd s t → IsEnd e t
-again e s t a b = record { memory = b.memory ∙ a.memory; within = omega (arith, a.within, b.within) }
+pub end_again : {e s t : Bor (List ℕ)} → IsEndInMemory e s → IsEndInMemory s t → IsEndInMemory e t
+end_again a b = record { memory = b.memory ∙ a.memory; within = omega (arith, a.within, b.within) }

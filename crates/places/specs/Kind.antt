@@ -1,10 +1,10 @@
 -- docs/FORMAT.md, "Symbol entries", "Field entries" and "Data type entries": the attributes of an accepted entry, and a symbol's refactor records, reach to its end.
-use Rattle.std.proofs.Common.{ℕ, ◌+◌, ◌-◌, ◌∙◌, ◌≡◌, ap, List, length, Ok, arith, Bor, length-drop}
+use Rattle.std.proofs.Common.{ℕ, ◌≡◌, List, Ok, Bor}
+use Rattle.part.specs.End.{IsEnd}
+use Rattle.part.proofs.Slice.{end_memory}
 use Rattle.refusal.specs.declared.Mode.{Mode}
 use Rattle.symbol.specs.declared.AdsSymbolInfo.{AdsSymbolInfo}
 use Rattle.symbol.specs.Symbol.{symbol_of}
-use Rattle.part.specs.End
-use Rattle.part.proofs.Slice.{end_memory}
 use Rattle.symbol.proofs.Lies.{symbols_inside}
 use Rattle.field.specs.declared.AdsFieldInfo.{AdsFieldInfo}
 use Rattle.field.specs.Field.{field_of}
@@ -12,20 +12,20 @@ use Rattle.field.proofs.Within.{list_place}
 use Rattle.data_type.specs.declared.AdsDataTypeInfo.{AdsDataTypeInfo}
 use Rattle.data_type.specs.DataType.{levels, type_of}
 use Rattle.data_type.proofs.AsField.{entry_as_field}
-use Rattle.places.specs.Places.{IsEnd}
+use Rattle.places.specs.Places.{IsEndInMemory}
+
+in_memory : {e s : Bor (List ℕ)} → IsEnd e s → IsEndInMemory e s
+in_memory i = record { memory = end_memory i; within = i.within }
 
 module _ (mode : Mode) (e : Bor (List ℕ)) where
-  in_memory : {s : Bor (List ℕ)} → End.IsEnd e s → IsEnd e s
-  in_memory t = record { memory = end_memory t; within = t.within }
-
-  pub symbol_attributes_end : (r : AdsSymbolInfo) → symbol_of mode e ≡ Ok r → IsEnd e r.attributes.bytes
+  pub symbol_attributes_end : (r : AdsSymbolInfo) → symbol_of mode e ≡ Ok r → IsEndInMemory e r.attributes.bytes
   symbol_attributes_end r h = in_memory (symbols_inside mode e r h).attribute_bytes
 
-  pub refactor_infos_end : (r : AdsSymbolInfo) → symbol_of mode e ≡ Ok r → IsEnd e r.refactor_infos.bytes
+  pub refactor_infos_end : (r : AdsSymbolInfo) → symbol_of mode e ≡ Ok r → IsEndInMemory e r.refactor_infos.bytes
   refactor_infos_end r h = in_memory (symbols_inside mode e r h).refactor_bytes
 
-  pub field_attributes_end : (r : AdsFieldInfo) → field_of mode e ≡ Ok r → IsEnd e r.attributes.bytes
+  pub field_attributes_end : (r : AdsFieldInfo) → field_of mode e ≡ Ok r → IsEndInMemory e r.attributes.bytes
   field_attributes_end r h = in_memory (list_place mode e r h)
 
-  pub type_attributes_end : (r : AdsDataTypeInfo) → type_of mode e ≡ Ok r → IsEnd e r.field.attributes.bytes
+  pub type_attributes_end : (r : AdsDataTypeInfo) → type_of mode e ≡ Ok r → IsEndInMemory e r.field.attributes.bytes
   type_attributes_end r h = field_attributes_end r.field (entry_as_field mode levels e r h)

@@ -16,21 +16,21 @@ use Rattle.places.specs.declared.RefactorPlaces.{RefactorPlaces}
 abbrev pub place_in : Bor (List ℕ) → Bor (List ℕ) → ℕ
 place_in e s = s.ref_ptr.1 - e.ref_ptr.1
 
--- these bytes are the last of those
-pub record IsEnd (e s : Bor (List ℕ)) : Type 0 where
+-- these bytes end in memory where those end
+pub record IsEndInMemory (e s : Bor (List ℕ)) : Type 0 where
   pub memory : s.ref_ptr.1 + length s.now ≡ e.ref_ptr.1 + length e.now
   pub within : length s.now ≤ length e.now
 
 -- an attribute of these bytes, behind which the others begin: behind its two lengths stand its strings, each with its end byte
 pub record IsAttributeBefore (e : Bor (List ℕ)) (a : AdsAttribute) (rest : Bor (List ℕ)) : Type 0 where
-  pub end : IsEnd e rest
+  pub end : IsEndInMemory e rest
   pub start : e.ref_ptr.1 + 2 ≤ a.name.ref_ptr.1
   pub name : a.name.ref_ptr.1 + length a.name.now + 1 ≡ a.value.ref_ptr.1
   pub value : a.value.ref_ptr.1 + length a.value.now + 1 ≡ rest.ref_ptr.1
 
 -- a refactor record likewise, with 6 bytes before its name
 pub record IsRefactorBefore (e : Bor (List ℕ)) (r : AdsRefactorInfo) (rest : Bor (List ℕ)) : Type 0 where
-  pub end : IsEnd e rest
+  pub end : IsEndInMemory e rest
   pub start : e.ref_ptr.1 + 6 ≤ r.name.ref_ptr.1
   pub name : r.name.ref_ptr.1 + length r.name.now + 1 ≡ rest.ref_ptr.1
 

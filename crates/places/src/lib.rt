@@ -5,7 +5,7 @@ pub mod alone;
 pub mod of_entry;
 
 ghost use Rattle.std.specs.Prelude.{◌≡◌};
-ghost use Rattle.places.specs.Places.{IsEnd, IsAttributeBefore, IsRefactorBefore, attribute_places, refactor_places, attribute_numbered, attribute_named, refactor_numbered};
+ghost use Rattle.places.specs.Places.{IsEndInMemory, IsAttributeBefore, IsRefactorBefore, attribute_places, refactor_places, attribute_numbered, attribute_named, refactor_numbered};
 
 use attribute::{AdsAttribute, Attributes};
 use refactor::{AdsRefactorInfo, RefactorInfos};
@@ -75,7 +75,7 @@ pub(crate) fn attribute_numbered(
     all: Attributes<'_>,
     number: usize,
 ) -> Result<AttributePlaces, Refusal>
-    requires { IsEnd own all.bytes }
+    requires { IsEndInMemory own all.bytes }
     ensures { result ≡ attribute_numbered own.entry all.entry number }
 {
     let mut rest = all;
@@ -94,7 +94,7 @@ pub(crate) fn attribute_named(
     all: Attributes<'_>,
     name: &[u8],
 ) -> Result<AttributePlaces, Refusal>
-    requires { IsEnd own all.bytes }
+    requires { IsEndInMemory own all.bytes }
     ensures { result ≡ attribute_named own.entry all.entry name.now }
 {
     let mut rest = all;
@@ -110,7 +110,7 @@ pub(crate) fn refactor_numbered(
     all: RefactorInfos<'_>,
     number: usize,
 ) -> Result<RefactorPlaces, Refusal>
-    requires { IsEnd own all.bytes }
+    requires { IsEndInMemory own all.bytes }
     ensures { result ≡ refactor_numbered own.entry all.entry number }
 {
     let mut rest = all;

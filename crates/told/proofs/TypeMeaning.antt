@@ -2,6 +2,7 @@
 use Rattle.std.proofs.Common.{ℕ, suc, ◌+◌, ◌-◌, ◌*◌, ◌≤◌, ◌≡◌, refl, sym, ap, ◌∙◌, subst, List, [], ◌∷◌, length, get_or, Ok, Err, Result, arith, Bor, ⊎_elim}
 use Rattle.std.specs.Prelude.{Some, None, Option, ok_or, slice_get}
 use Rattle.std.proofs.lemmas.Bool.{cases_lt}
+use native.Mathlib.Nat.{add-zero}
 use Rattle.le.specs.Le.{le2}
 use Rattle.part.specs.Slice.{part, after}
 use Rattle.part.specs.Outcome.{and_then}
@@ -17,6 +18,7 @@ use Rattle.data_type.specs.declared.array.ArrayInfos.{ArrayInfos}
 use Rattle.data_type.specs.declared.members.Member.{Member}
 use Rattle.data_type.specs.declared.members.Position.{Position}
 use Rattle.part.proofs.Outcome.{both_passed}
+use Rattle.part.proofs.Slice.{part_after}
 use Rattle.data_type.specs.Array as array
 use Rattle.data_type.specs.DataType.{levels, arrays_of, type_of}
 use Rattle.data_type.specs.Members.{members_of, numbered}
@@ -26,7 +28,6 @@ use Rattle.data_type.proofs.Meant.{types_meant}
 use Rattle.data_type.proofs.Numbers.{arrays_meant}
 use Rattle.told.specs.Slots.{field_slots}
 use Rattle.told.proofs.Meaning.{field_told}
-use Rattle.told.proofs.Parts.{part_after}
 use Rattle.told.specs.declared.types.ReadMember.{ReadMember}
 use Rattle.told.specs.Asked.{type_member}
 use Rattle.told.specs.TypeSlots.{arrays_at, type_slots, type_guid, array_slots, member_slots, member_guid, path_slots}
@@ -59,7 +60,7 @@ types_told mode e r h =
     ∙ ap (λ (n : ℕ). part (after e (45 + length r.field.name.now + length r.field.type_name.now + length r.field.comment.now)) 0 (8 * n)) (sym count) in
     record {
       as_of_field = f;
-      arrays = sym (bytes ∙ part_after e (45 + length r.field.name.now + length r.field.type_name.now + length r.field.comment.now) 0 (45 + length r.field.name.now + length r.field.type_name.now + length r.field.comment.now) (8 * r.arrays.count) (omega arith));
+      arrays = sym (bytes ∙ part_after e (45 + length r.field.name.now + length r.field.type_name.now + length r.field.comment.now) 0 (8 * r.arrays.count) ∙ ap (λ (k : ℕ). part e k (8 * r.arrays.count)) (add-zero (45 + length r.field.name.now + length r.field.type_name.now + length r.field.comment.now)));
       array_count = count ∙ c.1;
       item_count = sym (ap (λ (x : AdsDataTypeInfo). x.sub_items.count) a.is) ∙ c.2;
       member_count = sym (counted mode e r h);
