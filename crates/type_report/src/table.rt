@@ -1,7 +1,7 @@
 //! `type`: a table of data types, their members below them.
 use crate::Counts;
 use crate::marks::{Marked, Style};
-use crate::node::Node;
+use crate::node::{Node, next_array};
 use attribute::Attributes;
 use data_type::DataTypes;
 use data_type::array::ArrayInfos;
@@ -121,8 +121,12 @@ struct Bounds<'a>(ArrayInfos<'a>);
 
 impl fmt::Display for Bounds<'_> {
     fn fmt<W: fmt::Write>(&self, f: &mut fmt::Formatter<W>) -> fmt::Result {
+        let mut rest = self.0;
         let mut is_first = true;
-        for one in self.0 {
+        for _ in 0..rest.count {
+            let Some(one) = next_array(&mut rest) else {
+                break
+            };
             let before = if is_first { "[" } else { ", " };
             is_first = false;
             let lower = signed(one.lower_bound);
