@@ -1,4 +1,0 @@
-pub mod Marks
-pub mod Node
-pub mod Json
-pub mod Letters

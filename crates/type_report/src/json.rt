@@ -1,7 +1,4 @@
 //! What an entry tells of itself, as the first members of an object of JSON.
-ghost use Rattle.std.specs.Prelude.{Some};
-ghost use Rattle.data_type.specs.Array as array;
-ghost use Rattle.type_report.specs.Json.{strings_text, numbers_text, maker_text, own_text, signed_text, array_text, arrays_text, more_arrays};
 
 use crate::marks::{Marked, Style};
 use crate::node::Node;
@@ -15,9 +12,6 @@ use wording::text::Quoted;
 pub struct Own<'a>(pub &'a Node<'a>);
 
 impl fmt::Display for Own<'_> {
-    ghost output = { λ o. Some (own_text o.0.now) };
-
-    #[tactic(auto, unfolding(crate::specs::Json::own_text))]
     fn fmt<W: fmt::Write>(&self, f: &mut fmt::Formatter<W>) -> fmt::Result {
         let place = self.0.place;
         let strings = Strings(self.0);
@@ -34,9 +28,6 @@ impl fmt::Display for Own<'_> {
 struct Strings<'a>(&'a Node<'a>);
 
 impl fmt::Display for Strings<'_> {
-    ghost output = { λ s. Some (strings_text s.0.now.record.field) };
-
-    #[tactic(auto, unfolding(crate::specs::Json::strings_text))]
     fn fmt<W: fmt::Write>(&self, f: &mut fmt::Formatter<W>) -> fmt::Result {
         let field = &self.0.record.field;
         let length = field.length;
@@ -54,9 +45,6 @@ impl fmt::Display for Strings<'_> {
 struct Numbers<'a>(&'a Node<'a>);
 
 impl fmt::Display for Numbers<'_> {
-    ghost output = { λ n. Some (numbers_text n.0.now) };
-
-    #[tactic(auto, unfolding(crate::specs::Json::numbers_text))]
     fn fmt<W: fmt::Write>(&self, f: &mut fmt::Formatter<W>) -> fmt::Result {
         let node = self.0;
         let offset = node.record.field.offset;
@@ -82,9 +70,6 @@ impl fmt::Display for Numbers<'_> {
 struct Maker<'a>(&'a Node<'a>);
 
 impl fmt::Display for Maker<'_> {
-    ghost output = { λ m. Some (maker_text m.0.now.record.field) };
-
-    #[tactic(auto, unfolding(crate::specs::Json::maker_text))]
     fn fmt<W: fmt::Write>(&self, f: &mut fmt::Formatter<W>) -> fmt::Result {
         let field = &self.0.record.field;
         let version = field.version;
@@ -105,9 +90,6 @@ impl fmt::Display for Maker<'_> {
 struct Arrays<'a>(ArrayInfos<'a>);
 
 impl fmt::Display for Arrays<'_> {
-    ghost output = { λ a. Some (arrays_text (array.left a.0)) };
-
-    #[tactic(auto, unfolding(crate::specs::Json::arrays_text, crate::specs::Json::more_arrays))]
     fn fmt<W: fmt::Write>(&self, f: &mut fmt::Formatter<W>) -> fmt::Result {
         let mut rest = self.0;
         match rest.next() {
@@ -126,9 +108,6 @@ impl fmt::Display for Arrays<'_> {
 struct MoreArrays<'a>(ArrayInfos<'a>);
 
 impl fmt::Display for MoreArrays<'_> {
-    ghost output = { λ a. Some (more_arrays (array.left a.0)) };
-
-    #[tactic(auto, unfolding(crate::specs::Json::more_arrays))]
     fn fmt<W: fmt::Write>(&self, f: &mut fmt::Formatter<W>) -> fmt::Result {
         for one in self.0 {
             let one = Dimension(one);
@@ -142,9 +121,6 @@ impl fmt::Display for MoreArrays<'_> {
 struct Dimension(AdsArrayInfo);
 
 impl fmt::Display for Dimension {
-    ghost output = { λ a. Some (array_text a.0) };
-
-    #[tactic(auto, unfolding(crate::specs::Json::array_text))]
     fn fmt<W: fmt::Write>(&self, f: &mut fmt::Formatter<W>) -> fmt::Result {
         let lower = Signed(self.0.lower_bound);
         let elements = self.0.elements;
@@ -157,9 +133,6 @@ impl fmt::Display for Dimension {
 struct Signed(u32);
 
 impl fmt::Display for Signed {
-    ghost output = { λ s. Some (signed_text s.0) };
-
-    #[tactic(auto, unfolding(crate::specs::Json::signed_text))]
     fn fmt<W: fmt::Write>(&self, f: &mut fmt::Formatter<W>) -> fmt::Result {
         let bits = u64::from(self.0);
         if bits < 0x8000_0000 {

@@ -1,6 +1,4 @@
 //! Marks: why the offsets of an entry are not those of its bytes.
-ghost use Rattle.std.specs.Prelude.{◌≡◌, Some};
-ghost use Rattle.type_report.specs.Marks.{within, any_word, word_text, words_text, marks_text};
 
 use flags::type_flags::AdsTypeFlags;
 use std::fmt;
@@ -16,9 +14,7 @@ pub struct Marks {
 
 impl Marks {
     /// Those of what stands in this entry, with flags of its own.
-    pub fn within(self, own: AdsTypeFlags) -> Marks
-        ensures { result ≡ within self own }
-    {
+    pub fn within(self, own: AdsTypeFlags) -> Marks {
         Marks {
             own,
             around: AdsTypeFlags(self.around.0 | self.own.0),
@@ -45,9 +41,6 @@ pub struct Marked {
 }
 
 impl fmt::Display for Marked {
-    ghost output = { λ m. Some (marks_text m.style.between.now m.style.quote.now m.marks) };
-
-    #[tactic(auto, unfolding(crate::specs::Marks::marks_text))]
     fn fmt<W: fmt::Write>(&self, f: &mut fmt::Formatter<W>) -> fmt::Result {
         let own = Words {
             flags: self.marks.own,
@@ -75,9 +68,7 @@ struct Words {
 }
 
 impl Words {
-    fn is_any(self) -> bool
-        ensures { result ≡ any_word self.flags }
-    {
+    fn is_any(self) -> bool {
         let flags = self.flags;
         flags.is_bit_values()
             || flags.is_static()
@@ -87,9 +78,6 @@ impl Words {
 }
 
 impl fmt::Display for Words {
-    ghost output = { λ w. Some (words_text w.style.between.now w.style.quote.now w.follows w.prefix.now w.flags) };
-
-    #[tactic(auto, unfolding(crate::specs::Marks::words_text))]
     fn fmt<W: fmt::Write>(&self, f: &mut fmt::Formatter<W>) -> fmt::Result {
         let flags = self.flags;
         let before = self.follows;
@@ -109,9 +97,6 @@ impl fmt::Display for Words {
 struct Word<'a>(&'a Words, bool, bool, &'static str);
 
 impl fmt::Display for Word<'_> {
-    ghost output = { λ w. Some (word_text w.0.now.style.between.now w.0.now.style.quote.now w.1 w.2 w.0.now.prefix.now w.3.now) };
-
-    #[tactic(auto, unfolding(crate::specs::Marks::word_text))]
     fn fmt<W: fmt::Write>(&self, f: &mut fmt::Formatter<W>) -> fmt::Result {
         let Word(words, is_set, follows, text) = *self;
         if !is_set {

