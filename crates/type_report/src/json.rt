@@ -109,7 +109,11 @@ struct MoreArrays<'a>(ArrayInfos<'a>);
 
 impl fmt::Display for MoreArrays<'_> {
     fn fmt<W: fmt::Write>(&self, f: &mut fmt::Formatter<W>) -> fmt::Result {
-        for one in self.0 {
+        let mut rest = self.0;
+        for _ in 0..rest.count {
+            let Some(one) = rest.next() else {
+                return Ok(())
+            };
             let one = Dimension(one);
             write!(f, ",{one}")?;
         }

@@ -121,8 +121,10 @@ struct Bounds<'a>(ArrayInfos<'a>);
 
 impl fmt::Display for Bounds<'_> {
     fn fmt<W: fmt::Write>(&self, f: &mut fmt::Formatter<W>) -> fmt::Result {
+        let mut rest = self.0;
         let mut is_first = true;
-        for one in self.0 {
+        for _ in 0..rest.count {
+            let Some(one) = rest.next() else { break };
             let before = if is_first { "[" } else { ", " };
             is_first = false;
             let lower = signed(one.lower_bound);
