@@ -12,7 +12,8 @@ use Rattle.walk.specs.Mapped.{map_ok}
 use Rattle.walk.specs.Pieces.{piece_at, pieces_from, claim_there}
 use Rattle.symbol.specs.declared.AdsSymbolInfo.{AdsSymbolInfo}
 use Rattle.symbol.specs.Symbol.{symbol_of}
-use Rattle.symbol.proofs.Anywhere.{moved, on, still, read_still}
+use Rattle.attribute.proofs.Anywhere.{moved, on}
+use Rattle.symbol.proofs.Anywhere.{still, read_still}
 use Rattle.listing.specs.Row.{entry_row}
 use Rattle.listing.specs.Listing.{answer_row, row}
 
