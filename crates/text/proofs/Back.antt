@@ -12,7 +12,7 @@ use Rattle.refusal.specs.declared.Refusal.{Refusal}
 use Rattle.refusal.specs.declared.Refusal.TheVariants.{BadText}
 use Rattle.text.proofs.Utf8.{le_or_lt, utf8_1, utf8_2, utf8_3, utf8_long, at_front, drop_past, valid_more, chars_more, opens, opened, Opens, four_show}
 use Rattle.text.proofs.Laws.{point_low, byte_low, same_writing, writes_none, writes_done}
-use Rattle.text.proofs.Byte.{own, below_surrogates, among_sound}
+use Rattle.text.proofs.Byte.{own, narrow_point, below_surrogates, byte_sound}
 use Rattle.text.specs.Text.{code_point, text_of, byte_of, before, and_on, bytes_of, ended, encoded_from, counted, Begins, Leads, fault_kind}
 
 -- ---- a text from a place on: a character, the end, and bytes of none
@@ -28,10 +28,10 @@ from_char place c r v =
     ∙ ap (λ (m : ℕ). and_on (byte_of c) place (bytes_of (place + length bs) (chars (take n r)) (ended m (drop n r)))) q
 
 pub is_scalar : (b : ℕ) → b < 256 → IsScalar (code_point b)
-is_scalar b h = low_scalar (code_point b) (below_surrogates (own b h).width)
+is_scalar b h = low_scalar (code_point b) (below_surrogates (narrow_point b h))
 
 pub encoded_byte : (place b : ℕ) (r : List ℕ) → b < 256 → encoded_from place (text_of b ++ r) ≡ before b (encoded_from (place + length (text_of b)) r)
-encoded_byte place b r h = from_char place (code_point b) r (is_scalar b h) ∙ ap (λ (o : Option ℕ). and_on o place (encoded_from (place + length (text_of b)) r)) (own b h).byte
+encoded_byte place b r h = from_char place (code_point b) r (is_scalar b h) ∙ ap (λ (o : Option ℕ). and_on o place (encoded_from (place + length (text_of b)) r)) (own b h)
 
 pub encoded_nothing : (place : ℕ) → encoded_from place [] ≡ Ok []
 unfolding encoded_from bytes_of utf8_valid_len
@@ -45,10 +45,6 @@ encoded_bad place x l e =
     ∙ ap (λ (m : ℕ). Err (BadText m 1)) (add-zero place)
 
 -- ---- the byte that leads a text
-pub byte_sound : {p b : ℕ} → byte_of p ≡ Some b → (code_point b ≡ p) × (b < 256)
-unfolding byte_of
-byte_sound {p} {b} e = let s = among_sound 256 0 p b e in (s.0, omega (arith, s.1))
-
 begins : {l : List ℕ} (p : ℕ) {b : ℕ} (r : List ℕ) → byte_of p ≡ Some b → l ≡ encode_utf8 p ++ r → Begins l b
 begins {l} p {b} r e is =
     let s = byte_sound e in
@@ -59,7 +55,7 @@ begins {l} p {b} r e is =
 none_begins : {l : List ℕ} (p : ℕ) (r : List ℕ) → byte_of p ≡ None → l ≡ encode_utf8 p ++ r → (b : ℕ) → Begins l b → ⊥
 none_begins {l} p r e is b g =
     let same = encode_same (code_point b) p (drop (length (text_of b)) l) r (sym g.here ∙ is) in
-    let f : Some b ≡ None = sym (own b g.byte).byte ∙ ap byte_of same.0 ∙ e in
+    let f : Some b ≡ None = sym (own b g.byte) ∙ ap byte_of same.0 ∙ e in
     let z : ◌≡◌ {A = ℕ} 0 1 = cc in
     omega arith
 
@@ -134,7 +130,7 @@ shape {l} {b} g high = ⊎_elim above low (le_or_lt 128 p)
         record { long = omega (arith, ap length e, ap length t); second = omega (arith, o); is = inr (omega (arith, z), omega (arith, w), ap length t) }
 
     above : 128 ≤ p → Shape l b
-    above h = ⊎_elim (λ k. two h k) (λ k. three k.0 k.1) (own b g.byte).width
+    above h = ⊎_elim (λ k. two h k) (λ k. three k.0 k.1) (narrow_point b g.byte)
 
 module _ (s : List ℕ) (at : ℕ) (h : at < length s) (high : 128 ≤ get_or s at 0) where
   there : (k : ℕ) → get_or (drop at s) k 0 ≡ get_or s (at + k) 0

@@ -11,8 +11,8 @@ use Rattle.refusal.specs.declared.Refusal.{Refusal}
 use Rattle.refusal.specs.declared.Refusal.TheVariants.{TooLarge, BadText}
 use Rattle.text.proofs.Utf8.{le_or_lt, utf8_long, opens, opened, Opens}
 use Rattle.text.proofs.Laws.{point_low, point_mid, point_high, in_limit}
-use Rattle.text.proofs.Byte.{own}
-use Rattle.text.proofs.Back.{is_scalar, byte_sound, encoded_byte, encoded_nothing, encoded_none, prefixed}
+use Rattle.text.proofs.Byte.{own, byte_sound}
+use Rattle.text.proofs.Back.{is_scalar, encoded_byte, encoded_nothing, encoded_none, prefixed}
 use Rattle.text.specs.RoundTrip.{AreBytes, IsWindows1252, IsWithin, Pair, BytesComeBack, TextComesBack}
 use Rattle.text.specs.Faults.{StartsWith, IsNoUtf8, HasNoByte, TableMeant}
 use Rattle.text.specs.Text.{points, code_point, text_of, decoded, decoding, byte_of, before, encoded_from, encoding, Begins, fault_kind}
@@ -155,7 +155,7 @@ pub record Split (t : List ℕ) : Type 0 where
 no_byte : (p : ℕ) → byte_of p ≡ None → IsWindows1252 p → ⊥
 no_byte p e h =
     let c = source p h in
-    let found : Some c.byte ≡ None = sym (own c.byte c.low).byte ∙ ap byte_of c.is ∙ e in
+    let found : Some c.byte ≡ None = sym (own c.byte c.low) ∙ ap byte_of c.is ∙ e in
     let z : ◌≡◌ {A = ℕ} 0 1 = cc in
     omega arith
 

@@ -30,12 +30,9 @@ limited s w = if ltb limit (length s) then Err (TooLarge (length s)) else w
 unfoldable pub decoding : List ℕ → Result (List ℕ) Refusal
 decoding s = limited s (Ok (decoded s))
 
--- the byte that has the code point p, among so many from a byte on, and among all
-abbrev pub byte_among : ℕ → ℕ → ℕ → Option ℕ
-byte_among count from p = find (λ (b : ℕ). code_point b == p) (range_with_len from count)
-
+-- the byte that has a code point
 unfoldable pub byte_of : ℕ → Option ℕ
-byte_of p = byte_among 256 0 p
+byte_of p = find (λ (b : ℕ). code_point b == p) (range_with_len 0 256)
 
 abbrev pub before : ℕ → Result (List ℕ) Refusal → Result (List ℕ) Refusal
 before b (Ok bs) = Ok (b ∷ bs)

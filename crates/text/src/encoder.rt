@@ -3,7 +3,7 @@
 ghost use Rattle.std.specs.Prelude.{◌≡◌, ◌+◌, ◌≤◌, ◌<◌, length, take, drop, get_or, ltb, Ok, if◌then◌else◌};
 ghost use Rattle.std.specs.Option.{unwrap_or};
 ghost use Rattle.writing.specs.Writing.{Writes};
-ghost use Rattle.text.specs.Text.{byte_among, byte_of, encoded_from, counted, encoding, Leads, fault_kind};
+ghost use Rattle.text.specs.Text.{byte_of, encoded_from, counted, encoding, Leads, fault_kind};
 
 use crate::{POINTS, highest, put_same};
 use refusal::{LIMIT, Refusal};
@@ -15,11 +15,18 @@ fn if_here(here: bool, byte: u16) -> u16
     if here { byte } else { 0 }
 }
 
-// The byte of a code point in the table, or 0. It looks at all 32, so that the compiler takes many at once: no code point
-// stands there twice, so the sum is the byte of the one that is equal. All places are known, so that no copy of the table is made.
-fn table_byte(p: u16) -> u16
-    ensures { result ≡ unwrap_or (byte_among 32 0x80 p) 0 }
+// The byte of a code point above 7F, or 0. One that is not its own byte is looked for at all 32 places of the table, so that the compiler
+// takes many at once: no code point stands there twice, so the sum is the byte of the one that is equal. All places are known, so
+// that no copy of the table is made.
+fn byte_of(p: u16) -> u16
+    requires { 0x80 ≤ p }
+    ensures { result ≡ unwrap_or (byte_of p) 0 }
 {
+    if 0xA0 <= p {
+        if p < 0x100 {
+            return p;
+        }
+    }
     let table = POINTS;
     let mut sum: u16 = 0;
     let mut byte: u16 = 0x80;
@@ -30,19 +37,6 @@ fn table_byte(p: u16) -> u16
         i += 1;
     }
     sum
-}
-
-// The byte of a code point above 7F, or 0.
-fn byte_of(p: u16) -> u16
-    requires { 0x80 ≤ p }
-    ensures { result ≡ unwrap_or (byte_of p) 0 }
-{
-    if 0xA0 <= p {
-        if p < 0x100 {
-            return p;
-        }
-    }
-    table_byte(p)
 }
 
 // The byte of the character at a place, or 0 where Windows-1252 has none. Above 7F its characters take two bytes, or three from E2 on.
