@@ -56,11 +56,11 @@ field_told mode e r h =
     let is : joined f.0 t.0 ≡ r = cc t.1.1 in
     subst (λ (n : Bor (List ℕ)). TellsName field_places e.now n.now) (ap (λ (x : AdsFieldInfo). x.name) is) (front_told mode e f.0 f.1.0)
 
-with_told : (mode : Mode) (item : ItemReader) (e : Bor (List ℕ)) (r : AdsDataTypeInfo) → type_with mode item e ≡ Ok r → TellsName field_places e.now r.name.now
+with_told : (mode : Mode) (item : ItemReader) (e : Bor (List ℕ)) (r : AdsDataTypeInfo) → type_with mode item e ≡ Ok r → TellsName field_places e.now r.field.name.now
 with_told mode item e r h =
     let a = accepted mode item e r h in
-    subst (λ (n : Bor (List ℕ)). TellsName field_places e.now n.now) (ap (λ (x : AdsDataTypeInfo). x.name) a.is) (front_told mode e a.front a.front_is)
+    subst (λ (n : Bor (List ℕ)). TellsName field_places e.now n.now) (ap (λ (x : AdsDataTypeInfo). x.field.name) a.is) (front_told mode e a.front a.front_is)
 
-pub type_told : (mode : Mode) (e : Bor (List ℕ)) (r : AdsDataTypeInfo) → type_of mode e ≡ Ok r → TellsName field_places e.now r.name.now
+pub type_told : (mode : Mode) (e : Bor (List ℕ)) (r : AdsDataTypeInfo) → type_of mode e ≡ Ok r → TellsName field_places e.now r.field.name.now
 unfolding type_at
 type_told mode e r h = with_told mode _ e r h

@@ -47,7 +47,7 @@ impl<'a> Named<'a> for AdsFieldInfo<'a> {
 impl<'a> Named<'a> for AdsDataTypeInfo<'a> {
     ghost places = { field_places };
 
-    ghost name_of = { λ r. r.name.now };
+    ghost name_of = { λ r. r.field.name.now };
 
     fn places() -> NamePlaces
         ensures { result ≡ field_places }
