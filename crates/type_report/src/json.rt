@@ -1,7 +1,7 @@
 //! What an entry tells of itself, as the first members of an object of JSON.
 
 use crate::marks::{Marked, Style};
-use crate::node::Node;
+use crate::node::{Node, next_array};
 use data_type::array::{AdsArrayInfo, ArrayInfos};
 use report::json::{AttributeObjects, GuidOrNull};
 use std::fmt;
@@ -92,7 +92,7 @@ struct Arrays<'a>(ArrayInfos<'a>);
 impl fmt::Display for Arrays<'_> {
     fn fmt<W: fmt::Write>(&self, f: &mut fmt::Formatter<W>) -> fmt::Result {
         let mut rest = self.0;
-        match rest.next() {
+        match next_array(&mut rest) {
             None => Ok(()),
             Some(first) => {
                 let first = Dimension(first);
@@ -111,7 +111,7 @@ impl fmt::Display for MoreArrays<'_> {
     fn fmt<W: fmt::Write>(&self, f: &mut fmt::Formatter<W>) -> fmt::Result {
         let mut rest = self.0;
         for _ in 0..rest.count {
-            let Some(one) = rest.next() else {
+            let Some(one) = next_array(&mut rest) else {
                 return Ok(())
             };
             let one = Dimension(one);

@@ -3,6 +3,7 @@
 ghost use Rattle.std.specs.Iterator.{at_most};
 
 use crate::marks::Marks;
+use data_type::array::{AdsArrayInfo, ArrayInfos};
 use data_type::{AdsDataTypeInfo, DataTypes};
 use flags::type_flags::AdsTypeFlags;
 use refusal::Mode;
@@ -91,4 +92,9 @@ impl<'a> Iterator for Members<'a> {
             }
         }
     }
+}
+
+/// The next array record.
+pub(crate) fn next_array(arrays: &mut ArrayInfos<'_>) -> Option<AdsArrayInfo> {
+    arrays.next()
 }

@@ -1,7 +1,7 @@
 //! `type`: a table of data types, their members below them.
 use crate::Counts;
 use crate::marks::{Marked, Style};
-use crate::node::Node;
+use crate::node::{Node, next_array};
 use attribute::Attributes;
 use data_type::DataTypes;
 use data_type::array::ArrayInfos;
@@ -124,7 +124,9 @@ impl fmt::Display for Bounds<'_> {
         let mut rest = self.0;
         let mut is_first = true;
         for _ in 0..rest.count {
-            let Some(one) = rest.next() else { break };
+            let Some(one) = next_array(&mut rest) else {
+                break
+            };
             let before = if is_first { "[" } else { ", " };
             is_first = false;
             let lower = signed(one.lower_bound);
