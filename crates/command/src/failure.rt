@@ -89,18 +89,21 @@ fn known(kind: ErrorKind) -> Option<&'static str> {
     }
 }
 
+fn without_number(told: &str) -> &str {
+    match told.split_once(" (os error ") {
+        Some((words, _)) => words,
+        None => told,
+    }
+}
+
 /// An error of the system, with no number: it says nothing to a reader, and a refusal has one of its own.
 pub fn in_words(alloc: Global, why: &io::Error) -> Result<String, AllocError> {
     if let Some(words) = known(why.kind()) {
         return String::from_str(alloc, words);
     }
     let told = format!(in alloc; "{why}")?;
-    let words = match told.as_str().split_once(" (os error ") {
-        Some((words, _)) => words,
-        None => told.as_str(),
-    };
     let mut small = String::new(alloc);
-    for letter in words.chars() {
+    for letter in without_number(told.as_str()).chars() {
         let is_first = small.is_empty();
         small.push(if is_first {
             letter.to_ascii_lowercase()
