@@ -30,9 +30,9 @@ pub(crate) fn part(bytes: &[u8], place: u64, len: u64) -> &[u8] {
     &bytes[place as usize..][..len as usize]
 }
 
-/// What stands from a place on.
+/// What stands from a place on: nothing past the end, where older archives of this interface tell the place of a list that is absent.
 pub(crate) fn rest_from(bytes: &[u8], place: u64) -> &[u8] {
-    &bytes[place as usize..]
+    bytes.get(place as usize..).unwrap_or_default()
 }
 
 /// How much room a writer needs: lent none, it is refused with that figure unless it has nothing to write.

@@ -201,13 +201,13 @@ fn sections_are_told_by_the_flags_alone() {
 }
 
 #[test]
-fn an_absent_list_has_no_records_wherever_its_place_is() {
+fn an_absent_list_has_no_records() {
     let numbers = FieldNumbers {
         flags: AdsTypeFlags::ATTRIBUTES,
         ..Default::default()
     };
     let mut field = written(|out| numbers.write(&FieldParts::default(), out));
-    // One sub-item that claims far more than there is: the place of the attributes is past the entry's end.
+    // One sub-item that claims far more than there is: no attributes are there, and their place is told at the entry's end.
     field[40] = 1;
     field.truncate(45);
     field.extend([0xFF; 4]);

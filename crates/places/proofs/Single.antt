@@ -56,7 +56,7 @@ unfolding refactor.chained
 chained_ends s count zero q h = cc
 chained_ends s count (suc left) q h = chained_by s count left q (refactor.first_of s) refl (λ t. chained_ends t (count + 1) left q) h
 
-alone_is : (mode : Mode) (s : Bor (List ℕ)) (q : RefactorInfos × Bor (List ℕ)) → refactor.chain_alone mode s ≡ Ok q → refactor.infos_of s ≡ Ok q
+pub alone_is : (mode : Mode) (s : Bor (List ℕ)) (q : RefactorInfos × Bor (List ℕ)) → refactor.chain_alone mode s ≡ Ok q → refactor.infos_of s ≡ Ok q
 alone_is mode s q h = grind arith
 
 infos_by : (s : Bor (List ℕ)) (q : RefactorInfos × Bor (List ℕ)) (w : Result (ℕ × Bor (List ℕ)) Refusal) → refactor.chain_of s ≡ w

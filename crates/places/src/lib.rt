@@ -3,6 +3,7 @@
 
 pub mod alone;
 pub mod of_entry;
+pub mod theorems;
 
 ghost use Rattle.std.specs.Prelude.{◌≡◌};
 ghost use Rattle.places.specs.Places.{IsEndInMemory, IsAttributeBefore, IsRefactorBefore, attribute_places, refactor_places, attribute_numbered, attribute_named, refactor_numbered};

@@ -1,5 +1,5 @@
 -- What the slots of a data type, of its array records and of its members say of the bytes.
-use Rattle.std.proofs.Common.{ℕ, suc, ◌+◌, ◌-◌, ◌*◌, ◌≤◌, ◌≡◌, refl, sym, ap, ◌∙◌, subst, List, [], ◌∷◌, length, get_or, Ok, Err, Result, arith, Bor, ⊎_elim}
+use Rattle.std.proofs.Common.{ℕ, suc, ◌+◌, ◌-◌, ◌*◌, ◌<◌, ◌≤◌, ◌≡◌, refl, sym, ap, ◌∙◌, subst, List, [], ◌∷◌, length, get_or, Ok, Err, Result, arith, Bor, ⊎_elim}
 use Rattle.std.specs.Prelude.{Some, None, Option, ok_or, slice_get}
 use Rattle.std.proofs.lemmas.Bool.{cases_lt}
 use native.Mathlib.Nat.{add-zero}
@@ -29,7 +29,7 @@ use Rattle.data_type.proofs.Numbers.{arrays_meant}
 use Rattle.told.specs.Slots.{field_slots}
 use Rattle.told.proofs.Meaning.{field_told}
 use Rattle.told.specs.declared.types.ReadMember.{ReadMember}
-use Rattle.told.specs.Asked.{type_member}
+use Rattle.told.specs.Asked.{type_array, type_member}
 use Rattle.told.specs.TypeSlots.{arrays_at, type_slots, type_guid, array_slots, member_slots, member_guid, path_slots}
 use Rattle.told.specs.TypeMeaning.{TypeTold, TypesTold, ArraysTold, MemberTold, MembersTold}
 
@@ -73,14 +73,28 @@ array_not : (w : Result AdsArrayInfo Refusal) (why : Refusal) (a : AdsArrayInfo)
 array_not w why a h k = cc
 
 -- an array record with a number
-pub arrays_told : ArraysTold
-arrays_told mode s number a h =
+array_told : (mode : Mode) (s : Bor (List ℕ)) (number : ℕ) (a : AdsArrayInfo) → type_array mode s number ≡ Ok a
+    → let at : ℕ = 45 + le2 s.now 32 + le2 s.now 34 + le2 s.now 36 + 8 * number in array_slots a ≡ le4 s.now at ∷ le4 s.now (at + 4) ∷ []
+array_told mode s number a h =
     let r = both_passed (parse_of 42 (type_of mode) s) h in
     let m = arrays_meant mode s r.0 r.1.0 in
     ⊎_elim
     (λ k. array_is (array.numbered r.0.arrays number) _ a (m.told number k) r.1.1)
     (λ k. absurd (array_not (array.numbered r.0.arrays number) _ a (m.past number k) r.1.1))
     (cases_lt number (le2 s.now 38))
+
+module _ (mode : Mode) (s : Bor (List ℕ)) (r : AdsDataTypeInfo) (accepted : parse_of 42 (type_of mode) s ≡ Ok r) where
+  array_asked : (number : ℕ) → type_array mode s number ≡ array.numbered r.arrays number
+  array_asked number = ap (λ (w : Result AdsDataTypeInfo Refusal). and_then w (λ x. array.numbered x.arrays number)) accepted
+
+  array_there : (number : ℕ) → number < le2 s.now 38 → (a : AdsArrayInfo) × (type_array mode s number ≡ Ok a)
+  array_there number h = (_, array_asked number ∙ (arrays_meant mode s r accepted).told number h)
+
+  array_past : (number : ℕ) → le2 s.now 38 ≤ number → type_array mode s number ≡ Err (NoSuchNumber (le2 s.now 38) number)
+  array_past number h = array_asked number ∙ (arrays_meant mode s r accepted).past number h
+
+pub arrays_told : ArraysTold
+arrays_told = record { told = λ mode s number a h. array_told mode s number a h; there = λ mode s r a number h. array_there mode s r a number h; past = λ mode s r a number h. array_past mode s r a number h }
 
 -- what a number below the count gives is the member in its place
 numbered_at : (o : Option Member) (why : Refusal) (m : Member) → ok_or o why ≡ Ok m → o ≡ Some m
@@ -127,6 +141,16 @@ module _ (mode : Mode) (s : Bor (List ℕ)) (r : AdsDataTypeInfo) (accepted : pa
       subst (λ (q : ReadMember). MemberTold s r number q (λ k. get_or (member_slots q) k 0) (λ k. get_or (path_slots q) k 0) (member_guid q)) is
       (member_told mode s x.0.own x.0.position t.0 t.1.0 stands.own stands.below r number found)
 
+  there : (number : ℕ) (x : Member) → slice_get (members_of r) number ≡ Some x → (m : ReadMember) × (type_member mode s number ≡ Ok m)
+  there number x h =
+      let t = types_meant mode s r accepted in
+      let m = t.stands number x h in (
+        record { position = x.position; data_type = m.info },
+        ap (λ (w : Result AdsDataTypeInfo Refusal). and_then w (λ q. and_then (numbered q number) (read_at mode))) accepted
+            ∙ ap (λ (w : Result Member Refusal). and_then w (read_at mode)) (t.asked number x h).answer
+            ∙ ap (λ (w : Result AdsDataTypeInfo Refusal). and_then w (λ t. Ok (record { position = x.position; data_type = t }))) m.read,
+      )
+
   past : (number : ℕ) → length (members_of r) ≤ number → type_member mode s number ≡ Err (NoSuchNumber (length (members_of r)) number)
   past number h =
       let t = types_meant mode s r accepted in
@@ -135,4 +159,4 @@ module _ (mode : Mode) (s : Bor (List ℕ)) (r : AdsDataTypeInfo) (accepted : pa
       by ∙ ap (λ (n : ℕ). Err (NoSuchNumber n number)) t.counted
 
 pub members_told : MembersTold
-members_told = record { told = λ mode s r a number m h. told mode s r a number m h; past = λ mode s r a number h. past mode s r a number h }
+members_told = record { told = λ mode s r a number m h. told mode s r a number m h; there = λ mode s r a number x h. there mode s r a number x h; past = λ mode s r a number h. past mode s r a number h }

@@ -7,3 +7,4 @@ pub mod Lent
 pub mod One
 pub mod Meaning
 pub mod TypeMeaning
+pub mod Calls

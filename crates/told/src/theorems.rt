@@ -1,5 +1,6 @@
 // The theorems, as the contracts of functions that do nothing.
 ghost use Rattle.told.specs.One.{OneTelling, OneWriting, OneWritingBoth};
+ghost use Rattle.told.specs.Calls.{CallsTold};
 ghost use Rattle.told.specs.Lent.{LentKept};
 ghost use Rattle.told.specs.Meaning.{SymbolsTold, FieldsTold, AttributesTold, RefactorsTold, ChainsTold};
 ghost use Rattle.told.specs.TypeMeaning.{TypesTold, ArraysTold, MembersTold};
@@ -17,6 +18,11 @@ pub fn one_writing()
 /// And of two lent buffers.
 pub fn one_writing_both()
     ensures { OneWritingBoth }
+{}
+
+/// A call is given the mode that its argument names; a number is told first, and 0 after it; of a salvage the bytes before the slots.
+pub fn calls_told()
+    ensures { CallsTold }
 {}
 
 /// Lent slots, GUID bytes and places of a path are written over by what was found; a refusal and a step at the end leave them as they were.
@@ -54,7 +60,7 @@ pub fn types_told()
     ensures { TypesTold }
 {}
 
-/// The slots of an array record are the two numbers that stand at its place.
+/// The slots of an array record with a number are the two numbers that stand at its place; past the array records 14.
 pub fn arrays_told()
     ensures { ArraysTold }
 {}

@@ -459,7 +459,6 @@ pub extern "C" fn vindaskot_room(length: usize, answer: &mut [u64; 2]) -> u32
     told::number(room::room(length), answer)
 }
 
-// By heads, which read no section in the present mode.
 #[unsafe(no_mangle)]
 pub extern "C" fn vindaskot_index_build(
     bytes: &[u8],
