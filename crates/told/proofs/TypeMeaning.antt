@@ -3,7 +3,7 @@ use Rattle.std.proofs.Common.{ℕ, suc, ◌+◌, ◌-◌, ◌*◌, ◌<◌, ◌�
 use Rattle.std.specs.Prelude.{Some, None, Option, ok_or, slice_get}
 use Rattle.std.proofs.lemmas.Bool.{cases_lt}
 use native.Mathlib.Nat.{add-zero}
-use Rattle.le.specs.Le.{le2}
+use Rattle.le.specs.Le.{le2, le4}
 use Rattle.part.specs.Slice.{part, after}
 use Rattle.part.specs.Outcome.{and_then}
 use Rattle.refusal.specs.declared.Mode.{Mode}
