@@ -28,10 +28,13 @@ impl From<AllocError> for Failure {
     }
 }
 
-/// Only writing gives a bare error: reading says which file.
+/// Only writing gives a bare error, or memory that is out: reading says which file.
 impl From<io::Error> for Failure {
     fn from(why: io::Error) -> Self {
-        Failure::Output(why)
+        match why.kind() {
+            ErrorKind::OutOfMemory => Failure::Memory,
+            _ => Failure::Output(why),
+        }
     }
 }
 

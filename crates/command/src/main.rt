@@ -17,6 +17,7 @@ use arguments::{Asked, Request, Run};
 use failure::Failure;
 use report::{Tally, Upload};
 use std::env;
+use std::env::VarError;
 use std::io::{BufWriter, ErrorKind, IsTerminal, Write};
 use std::process::ExitCode;
 use wording::Grouped;
@@ -116,11 +117,12 @@ fn unless_refused(rt: &HostRuntime, upload: &Upload<'_>, tally: Tally) -> Result
     Err(Failure::Refused(format!(in rt.alloc(); "{upload}: refused entries: {refused} of {all}")?))
 }
 
-// Colour is for a terminal that can show it, and for nobody who has said NO_COLOR (no-color.org).
+// Colour is for a terminal that can show it, and for nobody who has said NO_COLOR (no-color.org), be it text or not.
 fn is_coloured(rt: &HostRuntime) -> bool {
     let is_plain = match env::var(rt, "NO_COLOR") {
         Ok(said) => !said.is_empty(),
-        Err(_) => false,
+        Err(VarError::NotPresent) => false,
+        Err(_) => true,
     };
     let is_dumb = match env::var(rt, "TERM") {
         Ok(said) => said.as_str() == "dumb",
