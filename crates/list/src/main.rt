@@ -1,4 +1,5 @@
 // Hexadecimal lines on standard input, their listing on standard output. It reads in the present mode.
+// stdin and stdout here are written by tools/list_frames.py.
 #![tactic(auto)]
 
 use listing::Failure;

@@ -1,9 +1,9 @@
 #!/usr/bin/env python3
 """Odd frames for the listing, and what docs/FORMAT.md says is printed of them.
 
-    tools/list_odd.py          writes crates/list_odd/stdin and crates/list_odd/stdout
-    tools/list_odd.py --check  says whether these files are what it would write
-    tools/list_odd.py FILE     prints the listing of a file of hexadecimal lines
+    tools/list_frames.py          writes crates/list/stdin and crates/list/stdout
+    tools/list_frames.py --check  says whether these files are what it would write
+    tools/list_frames.py FILE     prints the listing of a file of hexadecimal lines
 
 `rt ci` then runs the proved program on that stdin and compares. The reader below follows the text of docs/FORMAT.md
 and the layouts of TcAdsDef.h; it shares nothing with the crates.
@@ -241,11 +241,11 @@ def main():
         sys.stdout.buffer.write(listing(Path(sys.argv[1]).read_bytes()))
         return
     data = b"\n".join(odd_lines())
-    folder = Path(__file__).resolve().parent.parent / "crates" / "list_odd"
+    folder = Path(__file__).resolve().parent.parent / "crates" / "list"
     for name, content in (("stdin", data), ("stdout", listing(data))):
         if "--check" in sys.argv:
             if (folder / name).read_bytes() != content:
-                sys.exit(f"list_odd.py: {folder / name} is not what it would write")
+                sys.exit(f"list_frames.py: {folder / name} is not what it would write")
         else:
             (folder / name).write_bytes(content)
 
