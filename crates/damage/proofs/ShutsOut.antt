@@ -8,7 +8,7 @@ use Rattle.refusal.specs.declared.Refusal.{Refusal}
 use Rattle.entry.specs.Entry.{claim_at, claim_of}
 use Rattle.entry.specs.Walk.{steps, steps_from}
 use Rattle.entry.proofs.Alike.{among_cases}
-use Rattle.le.proofs.Laws.{not-both}
+use Rattle.le.proofs.Laws.{not_both}
 use Rattle.entry.specs.Alike.{among, IsWhole, DiffersInside}
 use Rattle.walk.specs.declared.Stepped.{Stepped}
 use Rattle.walk.specs.Step.{step_at}
@@ -27,7 +27,7 @@ unfolding le4 claim_at steps steps_from
 whole_next p e = subst (IsWhole good) (sym e) (record { reached = refl; four = omega arith; some = omega arith; there = omega arith })
 
 one_of : (x p : ℕ) → among (x ∷ []) p ≡ true → p ≡ x
-one_of x p h = elim (among_cases x [] p h) [ inl e ↦ sym e | inr k ↦ absurd (not-both k refl) ]
+one_of x p h = elim (among_cases x [] p h) [ inl e ↦ sym e | inr k ↦ absurd (not_both k refl) ]
 
 other_byte : (at v k : ℕ) (b : Bool) → eqb k at ≡ b → (b ≡ true → ⊥) → get_or good k 0 ≡ get_or (set good at v) k 0
 other_byte at v k true e off = absurd (off refl)

@@ -8,7 +8,7 @@ use borrow.Author.Tests.{lt-ltb, ltb-true, ltb-false}
 use native.Mathlib.Nat.{add-zero}
 use Rattle.le.specs.Le.{le4}
 use Rattle.le.specs.Le as le
-use Rattle.le.proofs.Laws.{not-both, part-part}
+use Rattle.le.proofs.Laws.{not_both, part_part}
 use Rattle.part.specs.Slice.{part}
 use Rattle.part.specs.Outcome.{and_then}
 use Rattle.refusal.specs.Refusal.{limit, figures_of}
@@ -126,7 +126,7 @@ module _ {R S : Type 0} (read : Bor (List ℕ) → Result R Refusal) (told : R �
 
   inside : (at size n : ℕ) (u : Bor (List ℕ)) → size ≤ n → (part (part u at n) 0 size).now ≡ (part u at size).now
   unfolding le.part
-  inside at size n u h = part-part u.now at n 0 size (omega (arith, h)) ∙ ap (λ (k : ℕ). le.part u.now k size) (add-zero at)
+  inside at size n u h = part_part u.now at n 0 size (omega (arith, h)) ∙ ap (λ (k : ℕ). le.part u.now k size) (add-zero at)
 
   module _ (header : ℕ) (four : 4 < header) (at size n : ℕ) (r : among (steps s.now) at ≡ true) (off : among places at ≡ false) (c : (claim_at s.now at).size ≡ Some (Ok size)) where
     other_claim : (claim_at t.now at).size ≡ Some (Ok size)
@@ -233,8 +233,8 @@ module _ {R S : Type 0} (read : Bor (List ℕ) → Result R Refusal) (told : R �
   bytes_claim : (at : ℕ) → Reached s.now at → among places at ≡ false → (c : Option (Result ℕ Refusal)) → (claim_at s.now at).size ≡ c
       → is_ok (and_then (claim_there c) (λ size. read (part s at size))) ≡ true → le.part s.now at ((claim_at s.now at).next - at) ≡ le.part t.now at ((claim_at s.now at).next - at)
   unfolding le.part
-  bytes_claim at r off None e k = absurd (not-both k refl)
-  bytes_claim at r off (Some (Err why)) e k = absurd (not-both k refl)
+  bytes_claim at r off None e k = absurd (not_both k refl)
+  bytes_claim at r off (Some (Err why)) e k = absurd (not_both k refl)
   bytes_claim at r off (Some (Ok size)) e k =
       let n : (claim_at s.now at).next - at ≡ size = omega (arith, (meets s.now at size e).next) in
       rw n (own at size r off e)
@@ -242,7 +242,7 @@ module _ {R S : Type 0} (read : Bor (List ℕ) → Result R Refusal) (told : R �
   bytes_by : (at : ℕ) (b : Bool) → Reached s.now at → among places at ≡ false → stands s.now at ≡ b → is_ok (piece_at read s at).answer ≡ true
       → le.part s.now (piece_at read s at).start ((piece_at read s at).end - (piece_at read s at).start) ≡ le.part t.now (piece_at read s at).start ((piece_at read s at).end - (piece_at read s at).start)
   unfolding piece_at
-  bytes_by at true r off e k = absurd (not-both (simp e at k) refl)
+  bytes_by at true r off e k = absurd (not_both (simp e at k) refl)
   bytes_by at false r off e k = simp e (bytes_claim at r off (claim_at s.now at).size refl (simp e at k))
 
   kept_same : (at : ℕ) → Reached s.now at → among places at ≡ false → kept_at s at ≡ kept_at t at
@@ -283,18 +283,18 @@ module _ {R S : Type 0} (read : Bor (List ℕ) → Result R Refusal) (told : R �
   module _ (by_steps : BySteps read) where
     stopped_both : stopped (pieces read s) ≡ stopped (pieces read t)
     stopped_both =
-        by_steps.stopped-is s ∙ any_alike s.now t.now d.long (stands s.now) (stands t.now) (steps s.now) (λ x k. stands_both x (inl k))
-        ∙ ap (λ (l : List ℕ). list_any (stands t.now) l) w.begin ∙ sym (by_steps.stopped-is t)
+        by_steps.stopped_is s ∙ any_alike s.now t.now d.long (stands s.now) (stands t.now) (steps s.now) (λ x k. stands_both x (inl k))
+        ∙ ap (λ (l : List ℕ). list_any (stands t.now) l) w.begin ∙ sym (by_steps.stopped_is t)
 
     gives_both : (at : ℕ) → Reached s.now at → among places at ≡ false → gives read s at ≡ gives read t at
     gives_both at r off = sym (told_record told (step_at read s at).answer) ∙ ap is_record (answer_alike at r off) ∙ told_record told (step_at read t at).answer
 
     starts_both : others (λ x. x) places (starts (pieces read s)) ≡ others (λ x. x) places (starts (pieces read t))
     starts_both =
-        ap (λ (l : List ℕ). others (λ x. x) places l) (by_steps.starts-are s)
+        ap (λ (l : List ℕ). others (λ x. x) places l) (by_steps.starts_are s)
         ∙ others_filter places (gives read s) (gives read t) (steps s.now) (λ x k off. gives_both x (inl k) off)
         ∙ ap (λ (l : List ℕ). others (λ x. x) places (filter (gives read t) l)) w.begin
-        ∙ ap (λ (l : List ℕ). others (λ x. x) places l) (sym (by_steps.starts-are t))
+        ∙ ap (λ (l : List ℕ). others (λ x. x) places l) (sym (by_steps.starts_are t))
 
     index_t : indexing read t ≡ (if ltb limit (length s.now) then Err (TooLarge (length s.now)) else if stopped (pieces read s) then Err ZeroEntryLength else Ok (starts (pieces read t)))
     unfolding indexing

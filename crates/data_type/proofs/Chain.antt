@@ -4,7 +4,7 @@ use Rattle.std.specs.Prelude.{None, Ok, Err}
 use Rattle.std.proofs.lemmas.List.{take_all}
 use borrow.Author.Tests.{le-ltb}
 use Rattle.le.specs.Le.{le2, le4}
-use Rattle.le.proofs.Laws.{le4-bytes4}
+use Rattle.le.proofs.Laws.{le4_bytes4}
 use Rattle.part.specs.Slice.{part, after}
 use Rattle.refusal.specs.EndBytes.{ended}
 use Rattle.refusal.specs.Refusal.{limit}
@@ -99,7 +99,7 @@ module _ (e : Bor (List ℕ)) (count : ℕ) (items : List ℕ) (a : Around e cou
       simp (front_is mode, arrays_are, c, h)
 
   claims : le4 e.now 0 ≡ 45 + length items
-  claims = ap (λ (xs : List ℕ). le4 xs 0) a.is ∙ le4-bytes4 (45 + length items) _ a.small
+  claims = ap (λ (xs : List ℕ). le4 xs 0) a.is ∙ le4_bytes4 (45 + length items) _ a.small
 
   taken_is : taken e ≡ Ok (part e 0 (45 + length items), after e (45 + length items))
   unfolding taken

@@ -1,7 +1,7 @@
 -- Slots that are being filled with members.
 use Rattle.std.proofs.Common.{ℕ, ◌+◌, ◌*◌, ◌≤◌, ◌≡◌, refl, sym, ap, ◌∙◌, List, [], ◌∷◌, ◌++◌, length, arith, length-append}
 use Rattle.le.specs.Put.{put, Wrote}
-use Rattle.le.proofs.Laws.{put_then, put-none, wrote}
+use Rattle.le.proofs.Laws.{put_then, put_none, wrote}
 use Rattle.data_type.specs.declared.members.Member.{Member}
 use Rattle.data_type.specs.List.{slots_of}
 
@@ -33,7 +33,7 @@ goes_on {old} {now} {new} {from} {at} {next} {left} {all} {xs} {rest} e g w =
 pub gone : {old now : List ℕ} {from at : ℕ} {left all : List ℕ} → left ≡ [] → Going old now from at left all → Wrote old from all now at
 gone {old} {now} {from} {at} {left} {all} e g =
     let z : length left ≡ 0 = ap length e in
-    wrote (sym (put-none now at) ∙ ap (put now at) (sym e) ∙ g.is) (omega (arith, g.end)) g.room
+    wrote (sym (put_none now at) ∙ ap (put now at) (sym e) ∙ g.is) (omega (arith, g.end)) g.room
 
 module _ {old now : List ℕ} {from at : ℕ} {left all : List ℕ} (xs rest : List ℕ) (e : left ≡ xs ++ rest) (g : Going old now from at left all) where
   pub room_for : at + length xs ≤ length now

@@ -4,7 +4,7 @@ use native.Mathlib.Nat.{add_assoc}
 use Rattle.std.specs.Prelude.{Some, None, Ok, Err, slice_get}
 use borrow.Author.Tests.{le-ltb}
 use Rattle.le.specs.Le.{le2, le4}
-use Rattle.le.proofs.Laws.{get_d_part, le2-part}
+use Rattle.le.proofs.Laws.{get_d_part, le2_part as le2_of}
 use Rattle.part.specs.Slice.{part, after}
 use Rattle.refusal.specs.declared.Mode.{Mode}
 use Rattle.refusal.specs.declared.Refusal.TheVariants.{NoSuchNumber}
@@ -27,7 +27,7 @@ le4_part s at n k h = simp (get_d_part s at n k 0 (omega arith), get_d_part s at
 
 pub le2_part : (s : List ℕ) (at n k : ℕ) → k + 2 ≤ n → le2 (take n (drop at s)) k ≡ le2 s (at + k)
 unfolding Rattle.le.specs.Le.part
-le2_part s at n k h = le2-part s at n k h
+le2_part s at n k h = le2_of s at n k h
 
 pub le4_drop : (s : List ℕ) (at k : ℕ) → le4 (drop at s) k ≡ le4 s (at + k)
 unfolding le4

@@ -2,7 +2,7 @@
 use Rattle.std.proofs.Common.{ℕ, ◌+◌, ◌-◌, ◌≤◌, ◌≡◌, refl, sym, ap, ◌∙◌, min, List, length, arith, Bor}
 use native.Mathlib.Nat.{add-zero}
 use Rattle.std.proofs.lemmas.List.{take_rest}
-use Rattle.le.proofs.Laws.{part-part}
+use Rattle.le.proofs.Laws.{part_part}
 use Rattle.part.specs.Slice.{part, after}
 use Rattle.data_type.specs.Level.{cut}
 
@@ -13,7 +13,7 @@ pub part_in : (s : Bor (List ℕ)) (at n k m : ℕ) → k + m ≤ n → part (pa
 unfolding Rattle.le.specs.Le.part
 part_in s at n k m h =
     let p : s.ref_ptr.1 + at + k ≡ s.ref_ptr.1 + (at + k) = omega arith in
-    bor _ _ _ _ (ap (λ (x : ℕ). (s.ref_ptr.0, x)) p) (part-part s.now at n k m h)
+    bor _ _ _ _ (ap (λ (x : ℕ). (s.ref_ptr.0, x)) p) (part_part s.now at n k m h)
 
 pub after_is : (s : Bor (List ℕ)) (k : ℕ) → after s k ≡ part s k (length s.now - k)
 after_is s k = bor _ _ _ _ refl (sym (take_rest s.now k))

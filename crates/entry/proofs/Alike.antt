@@ -4,7 +4,7 @@ use Rattle.std.specs.Prelude.{leb, ltb, eqb, Some, Ok}
 use Rattle.std.specs.List.{list_any}
 use borrow.Author.Tests.{lt-leb, leb-false, eqb-true, eqb-false, eq-eqb, le-ltb, ltb-true, ltb-false}
 use Rattle.le.specs.Le.{le4, part}
-use Rattle.le.proofs.Laws.{not-both, length_part, get_d_part}
+use Rattle.le.proofs.Laws.{not_both, length_part, get_d_part}
 use Rattle.refusal.specs.Refusal.{limit}
 use Rattle.entry.specs.declared.Claimed.{Claimed}
 use Rattle.entry.specs.declared.Walked.{Walked}
@@ -12,7 +12,7 @@ use Rattle.entry.specs.Entry.{claim_at}
 use Rattle.entry.specs.Walk.{stands, steps_from, steps, cursor_after}
 use Rattle.entry.specs.Bounded.{end_after, bounded_walk}
 use Rattle.entry.specs.Alike.{among, IsWhole, DiffersInside, Reached, WalkedAlike}
-use Rattle.entry.proofs.Claims.{meets, moves-on}
+use Rattle.entry.proofs.Claims.{meets, moves_on}
 
 -- one of some places is the first of them, or one of the rest
 pub among_cases : (first : ℕ) (more : List ℕ) (x : ℕ) → among (first ∷ more) x ≡ true → (first ≡ x) ⊎ (among more x ≡ true)
@@ -34,7 +34,7 @@ among_rest first more x h = simp h (or_true (eqb first x))
 
 -- one that is not among none
 none_of : (x : ℕ) → among [] x ≡ true → ⊥
-none_of x h = not-both h refl
+none_of x h = not_both h refl
 
 -- the steps of a walk do not overlap
 module _ (s : List ℕ) where
@@ -53,7 +53,7 @@ module _ (s : List ℕ) where
   among_steps at left x h = among_by at left x (leb (length s) at) (stands s at) refl refl h
 
   moves : (at : ℕ) → at < length s → stands s at ≡ false → at < (claim_at s at).next
-  moves at h f = omega (arith, moves-on s at h, eqb-false (claim_at s at).next at f)
+  moves at h f = omega (arith, moves_on s at h, eqb-false (claim_at s at).next at f)
 
   no_steps : (at x : ℕ) → among (steps_from s at zero) x ≡ true → ⊥
   unfolding steps_from
@@ -203,7 +203,7 @@ module _ (s t places : List ℕ) (d : DiffersInside s t places) where
       elim c [
         | inl m ↦ omega (arith, apart s 0 (length s) p at w.reached h m, e, b, l)
         | inr c ↦ elim c [
-          | inl m ↦ elim near [ inl n ↦ omega (arith, m, n, a) | inr n ↦ not-both (subst (λ (x : ℕ). among places x ≡ true) m q) n.0 ]
+          | inl m ↦ elim near [ inl n ↦ omega (arith, m, n, a) | inr n ↦ not_both (subst (λ (x : ℕ). among places x ≡ true) m q) n.0 ]
           | inr m ↦ elim near [ inl n ↦ omega (arith, m, n, a) | inr n ↦ omega (arith, apart s 0 (length s) at p h w.reached m, n.1, a) ]
         ]
       ]

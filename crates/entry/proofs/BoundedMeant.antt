@@ -6,7 +6,7 @@ use Rattle.entry.specs.Entry.{claim_at}
 use Rattle.entry.specs.Walk.{stands, steps_from, cursor_after}
 use Rattle.entry.specs.Bounded.{end_after, bounded_walk}
 use Rattle.entry.specs.BoundedMeant.{Walks, finished, used_up, zero_claim, step, BoundedMeant}
-use Rattle.entry.proofs.Claims.{moves-on}
+use Rattle.entry.proofs.Claims.{moves_on}
 use Rattle.entry.proofs.Theorems.{zero_claims}
 
 module _ (s : List ℕ) where
@@ -24,7 +24,7 @@ module _ (s : List ℕ) where
       simp f (simp (stays, e) (zero_claim before (zero_claims s at before f)))
   walks_turn at left on false false e f =
       let before : at < length s = leb-false (length s) at e in
-      let moves : at < (claim_at s at).next = omega (arith, moves-on s at before, eqb-false (claim_at s at).next at f) in
+      let moves : at < (claim_at s at).next = omega (arith, moves_on s at before, eqb-false (claim_at s at).next at f) in
       simp f (step before moves (on (claim_at s at).next))
 
   walks : (at left : ℕ) → Walked at left (steps_from s at left)

@@ -56,11 +56,11 @@ between s at h = by (claim_at s at) (claims s at)
     by c (beyond a b d g) = (omega arith, omega arith)
     by c (entry a b d g) = (omega arith, omega arith)
 
-pub moves-on : (s : List ℕ) (at : ℕ) → at < length s → at ≤ (claim_at s at).next
-moves-on s at h = (between s at h).0
+pub moves_on : (s : List ℕ) (at : ℕ) → at < length s → at ≤ (claim_at s at).next
+moves_on s at h = (between s at h).0
 
-pub moves-within : (s : List ℕ) (at : ℕ) → at < length s → (claim_at s at).next ≤ length s
-moves-within s at h = (between s at h).1
+pub moves_within : (s : List ℕ) (at : ℕ) → at < length s → (claim_at s at).next ≤ length s
+moves_within s at h = (between s at h).1
 
 -- an entry that is met lies in the upload
 pub room_at : (s : List ℕ) (at size : ℕ) → (claim_at s at).size ≡ Some (Ok size) → at + size ≤ length s

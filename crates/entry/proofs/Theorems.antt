@@ -11,7 +11,7 @@ use Rattle.entry.specs.Walk.{stands, steps_from, steps, cursor_after}
 use Rattle.entry.specs.Bounded.{end_after}
 use Rattle.entry.specs.Theorems.{AllSteps, StepsEnough, ZeroClaims}
 use Rattle.entry.specs.Claims.{Claims, ended, large, short, beyond, entry}
-use Rattle.entry.proofs.Claims.{claims, moves-on}
+use Rattle.entry.proofs.Claims.{claims, moves_on}
 
 -- it is out of steps before the end, where no step stood
 out : (end stood : Bool) → (if end then Ok Finished else if stood then Err ZeroEntryLength else Ok OutOfSteps) ≡ Ok OutOfSteps → (end ≡ false) × (stood ≡ false)
@@ -43,7 +43,7 @@ module _ (s : List ℕ) where
   made_turn at left on false true e f o = absurd (let z : true ≡ false = simp f at o.none_stood in let y : ◌≡◌ {A = ℕ} 0 1 = cc in omega arith)
   made_turn at left on false false e f o =
       let r = on (claim_at s at).next (record { before = o.before; none_stood = simp f at o.none_stood }) in
-      let m : at < (claim_at s at).next = omega (arith, moves-on s at (leb-false (length s) at e), eqb-false (claim_at s at).next at f) in
+      let m : at < (claim_at s at).next = omega (arith, moves_on s at (leb-false (length s) at e), eqb-false (claim_at s at).next at f) in
       (ap suc r.0, omega (arith, r.1))
 
   made_all : (at left : ℕ) → Out s at (steps_from s at left) → Made at left (steps_from s at left)
@@ -67,7 +67,7 @@ module _ (s : List ℕ) where
   same_turn m n at on h k true stand e f = refl
   same_turn m n at on h k false true e f = refl
   same_turn m n at on h k false false e f =
-      let b : at < (claim_at s at).next = omega (arith, moves-on s at (leb-false (length s) at e), eqb-false (claim_at s at).next at f) in
+      let b : at < (claim_at s at).next = omega (arith, moves_on s at (leb-false (length s) at e), eqb-false (claim_at s at).next at f) in
       ap (λ (l : List ℕ). at ∷ l) (on (claim_at s at).next (omega arith) (omega arith))
 
   pub same_steps : (m n at : ℕ) → length s - at ≤ m → length s - at ≤ n → steps_from s at m ≡ steps_from s at n

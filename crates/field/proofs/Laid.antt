@@ -9,7 +9,7 @@ use lib.ListN.{get_or-append}
 use lib.Seq.{drop-drop}
 use borrow.Author.Tests.{le-ltb, le-leb, lt-leb, eqb-true}
 use Rattle.le.specs.Le.{le2, le4, bytes2, has}
-use Rattle.le.proofs.Laws.{le2-bytes2}
+use Rattle.le.proofs.Laws.{le2_bytes2}
 use Rattle.part.specs.Slice.{after}
 use Rattle.part.specs.Outcome.{and_then}
 use Rattle.refusal.specs.declared.Mode.TheVariants.{Present}
@@ -95,7 +95,7 @@ methods_at e p true methods more few h a =
     let m = length-append count (concat methods ++ more) in
     let n = length-append count (concat methods) in
     let d : length (drop p e.now) ≡ length e.now - p = length-drop p e.now in
-    let c : le2 (drop p e.now) 0 ≡ length methods = ap (λ (xs : List ℕ). le2 xs 0) b.is ∙ le2-bytes2 (length methods) (concat methods ++ more) (omega arith) in
+    let c : le2 (drop p e.now) 0 ≡ length methods = ap (λ (xs : List ℕ). le2 xs 0) b.is ∙ le2_bytes2 (length methods) (concat methods ++ more) (omega arith) in
     let k : p + 2 + length (concat methods) ≡ p + length (count ++ concat methods) = omega arith in
     simp (le-leb 2 (length (drop p e.now)) (omega arith), c)
     (ap (λ (s : Bor (List ℕ)). after_items s (length methods)) (after_after e p 2) ∙ items_passed e (p + 2) methods more h (behind count (concat methods ++ more) b) ∙ ap (after e) k)

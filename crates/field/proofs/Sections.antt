@@ -5,7 +5,7 @@ use Rattle.std.proofs.lemmas.List.{take_at, drop_at}
 use lib.ListN.{length-replicate}
 use borrow.Author.Tests.{le-leb}
 use Rattle.le.specs.Le.{le2}
-use Rattle.le.proofs.Laws.{le2-bytes2}
+use Rattle.le.proofs.Laws.{le2_bytes2}
 use Rattle.part.specs.Slice.{after}
 use Rattle.refusal.specs.EndBytes.{ended}
 use Rattle.attribute.specs.Attribute.{listed, ends}
@@ -60,7 +60,7 @@ pub attributes_back : (s : Bor (List ℕ)) (flagged : Bool) (count : ℕ) (block
 unfolding attributes_of attributes_bytes
 attributes_back s true count block more small good none is =
     let n : length s.now ≡ 2 + (length block.now + length more) = ap length is ∙ simp length-append (omega arith) in
-    let c : le2 s.now 0 ≡ count = ap (λ l. le2 l 0) is ∙ le2-bytes2 count (block.now ++ more) (omega (arith, small refl)) in
+    let c : le2 s.now 0 ≡ count = ap (λ l. le2 l 0) is ∙ le2_bytes2 count (block.now ++ more) (omega (arith, small refl)) in
     let d : (after s 2).now ≡ block.now ++ more = ap (drop 2) is in
     let r = blocks_read count block (after s 2) more (good refl) d in
     let t : (2 ≤ length s.now) = omega arith in

@@ -10,7 +10,7 @@ use Rattle.refusal.specs.declared.Refusal.{Refusal}
 use Rattle.refusal.specs.declared.Refusal.TheVariants.{TooLarge, ZeroEntryLength}
 use Rattle.refusal.specs.Refusal.{limit}
 use Rattle.le.specs.Put.{put}
-use Rattle.le.proofs.Laws.{put_one, put_then, put-none}
+use Rattle.le.proofs.Laws.{put_one, put_then, put_none}
 use Rattle.walk.specs.declared.Piece.{Piece}
 use Rattle.walk.specs.Pieces.{pieces}
 use Rattle.walk.proofs.Left.{few_pieces, all_inside}
@@ -78,7 +78,7 @@ module _ {R : Type 0} {old slots all : List ℕ} {count : ℕ} {left rest : List
   first_small = All-head (λ p. p.start ≤ limit) p rest (simp turn at k.small)
 
 pub kept_end : {R : Type 0} {old slots all : List ℕ} {count : ℕ} {left : List (Piece R)} → left ≡ [] → Kept old slots count all left → slots ≡ put old 0 all
-kept_end {R} {old} {slots} {all} {count} {left} e k = sym (ap (put slots count) (starts_none left e) ∙ put-none slots count) ∙ k.written
+kept_end {R} {old} {slots} {all} {count} {left} e k = sym (ap (put slots count) (starts_none left e) ∙ put_none slots count) ∙ k.written
 
 -- index building, by what was counted
 pub index_large : {R : Type 0} (read : Bor (List ℕ) → Result R Refusal) (s : Bor (List ℕ)) → limit < length s.now → indexing read s ≡ Err (TooLarge (length s.now))

@@ -11,7 +11,7 @@ use Rattle.refusal.specs.declared.Refusal.{Refusal}
 use Rattle.refusal.specs.declared.Refusal.TheVariants.{TooLarge, ZeroEntryLength, OutputTooSmall}
 use Rattle.entry.specs.Entry.{claim_at}
 use Rattle.entry.specs.Walk.{stands, steps_from, steps}
-use Rattle.entry.proofs.Claims.{moves-on}
+use Rattle.entry.proofs.Claims.{moves_on}
 use Rattle.writing.specs.Writing.{answer, Writes}
 use Rattle.walk.specs.Pieces.{pieces}
 use Rattle.index.specs.Index.{starts, stopped, indexing}
@@ -32,7 +32,7 @@ steps_ascend s at (suc left) = turn (steps_ascend s (claim_at s at).next left) (
     turn on true stand p q = done
     turn on false true p q = let l : at ≤ at = omega arith in next l done
     turn on false false p q =
-        let b : at < (claim_at s at).next = omega (arith, moves-on s at (leb-false (length s) at p), eqb-false (claim_at s at).next at q) in
+        let b : at < (claim_at s at).next = omega (arith, moves_on s at (leb-false (length s) at p), eqb-false (claim_at s at).next at q) in
         let l : at ≤ at = omega arith in
         next l (weaker (claim_at s at).next (suc at) (omega arith) on)
 
@@ -91,26 +91,26 @@ untouched (Err x) w = w.left
 module _ {R : Type 0} (read : Bor (List ℕ) → Result R Refusal) (steps_are : BySteps read) where
   pub starts_ascend_of : StartsAscend read
   unfolding steps
-  starts_ascend_of s = subst (λ (l : List ℕ). Ascends 0 l) (sym (steps_are.starts-are s)) (filter_ascends (gives read s) 0 (steps_ascend s.now 0 (length s.now)))
+  starts_ascend_of s = subst (λ (l : List ℕ). Ascends 0 l) (sym (steps_are.starts_are s)) (filter_ascends (gives read s) 0 (steps_ascend s.now 0 (length s.now)))
 
   number_is : (s : Bor (List ℕ)) → length (starts (pieces read s)) ≡ needed read s
-  number_is s = ap length (steps_are.starts-are s) ∙ length-filter (gives read s) (steps s.now)
+  number_is s = ap length (steps_are.starts_are s) ∙ length-filter (gives read s) (steps s.now)
 
   index_of : (s : Bor (List ℕ)) (old new : List ℕ) (n : ℕ) → Writes (indexing read s) old new (Ok n) → IsIndex read s old new n
   index_of s old new n w =
       let b = built read s old new n w in
-      record { counts = sym b.long ∙ number_is s; fits = b.fits; holds = b.first ∙ steps_are.starts-are s; behind = b.rest }
+      record { counts = sym b.long ∙ number_is s; fits = b.fits; holds = b.first ∙ steps_are.starts_are s; behind = b.rest }
 
   -- the answer where the upload is within the limit and no step stands, by whether the slots are too few
   answered : (s : Bor (List ℕ)) (old new : List ℕ) (r : Result ℕ Refusal) → Writes (indexing read s) old new r → length s.now ≤ limit → list_any (stands s.now) (steps s.now) ≡ false
       → r ≡ (if ltb (length old) (needed read s) then Err (OutputTooSmall (needed read s) (length old)) else Ok (needed read s))
-  answered s old new r w small none = w.said ∙ simp (index_starts read s small (steps_are.stopped-is s ∙ none), number_is s)
+  answered s old new r w small none = w.said ∙ simp (index_starts read s small (steps_are.stopped_is s ∙ none), number_is s)
 
   pub index_meant_of : IndexMeant read
   index_meant_of s old new r w =
       record {
         too_large = λ large. w.said ∙ ap (λ x. answer x (length old)) (index_large read s large);
-        zero_claim = λ small stood. w.said ∙ ap (λ x. answer x (length old)) (index_zero read s small (steps_are.stopped-is s ∙ stood));
+        zero_claim = λ small stood. w.said ∙ ap (λ x. answer x (length old)) (index_zero read s small (steps_are.stopped_is s ∙ stood));
         too_few = λ small none few. answered s old new r w small none ∙ simp (lt-ltb (length old) (needed read s) few);
         enough = λ small none fits. answered s old new r w small none ∙ simp (le-ltb (length old) (needed read s) fits);
         built = λ n e. index_of s old new n (subst (Writes (indexing read s) old new) e w);

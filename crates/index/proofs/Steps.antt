@@ -97,6 +97,6 @@ module _ {R : Type 0} (read : Bor (List ℕ) → Result R Refusal) (header : ℕ
   pub by_steps_of : BySteps read
   unfolding steps
   by_steps_of = record {
-    starts-are = λ s. ap starts (pieces_are read s) ∙ starts_by read header four none never_zero s (steps s.now) (before read header four none never_zero s 0 (length s.now));
-    stopped-is = λ s. ap stopped (pieces_are read s) ∙ stopped_by read header four none never_zero s (steps s.now) (before read header four none never_zero s 0 (length s.now));
+    starts_are = λ s. ap starts (pieces_are read s) ∙ starts_by read header four none never_zero s (steps s.now) (before read header four none never_zero s 0 (length s.now));
+    stopped_is = λ s. ap stopped (pieces_are read s) ∙ stopped_by read header four none never_zero s (steps s.now) (before read header four none never_zero s 0 (length s.now));
   }

@@ -19,5 +19,5 @@ abbrev pub gives : {R : Type 0} → (Bor (List ℕ) → Result R Refusal) → Bo
 gives read s at = is_record (step_at read s at).answer
 
 pub record BySteps {R : Type 0} (read : Bor (List ℕ) → Result R Refusal) : Type 0 where
-  pub starts-are : (s : Bor (List ℕ)) → starts (pieces read s) ≡ filter (gives read s) (steps s.now)
-  pub stopped-is : (s : Bor (List ℕ)) → stopped (pieces read s) ≡ list_any (stands s.now) (steps s.now)
+  pub starts_are : (s : Bor (List ℕ)) → starts (pieces read s) ≡ filter (gives read s) (steps s.now)
+  pub stopped_is : (s : Bor (List ℕ)) → stopped (pieces read s) ≡ list_any (stands s.now) (steps s.now)

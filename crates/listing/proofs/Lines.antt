@@ -10,7 +10,7 @@ use Rattle.std.specs.Io.KnownBytes.{Appends, Consumes, IsAtEnd, Keeps}
 use Rattle.std.proofs.KnownBytes.{Appends-trans, Appends-kept, Consumes-trans}
 use borrow.Author.Tests.{lt-ltb, ltb-true, ltb-false}
 use Rattle.le.specs.Le.{part}
-use Rattle.le.proofs.Laws.{part-rest}
+use Rattle.le.proofs.Laws.{part_rest}
 use Rattle.memchr.specs.Find.{is_byte, Passes, Nowhere}
 use Rattle.refusal.specs.declared.Mode.{Mode}
 use Rattle.listing.specs.Listing.{longest, line_text, header, lines, lines_text, listing, listing_of_ended, goes_on, AppendsFront, Reading}
@@ -243,7 +243,7 @@ unfolding part
 part_front s n = refl
 
 pub part_after : (s : List ℕ) (k : ℕ) → part s (k + 1) (length s) ≡ drop (suc k) s
-part_after s k = let e : k + 1 ≡ suc k = omega arith in part-rest s (k + 1) (length s) (omega arith) ∙ ap (λ (m : ℕ). drop m s) e
+part_after s k = let e : k + 1 ≡ suc k = omega arith in part_rest s (k + 1) (length s) (omega arith) ∙ ap (λ (m : ℕ). drop m s) e
 
 pub drop_less : (n : ℕ) (s : List ℕ) → length (drop n s) ≤ length s - n
 drop_less zero s = omega arith

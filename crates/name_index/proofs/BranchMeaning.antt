@@ -11,7 +11,7 @@ use Rattle.std.proofs.lemmas.List.Kept.{IsSortedBy-filter}
 use Rattle.std.proofs.lemmas.List.Sorted.{IsPermutation-refl, IsPermutation-sym, IsPermutation-trans, IsPermutation-cons, IsPermutation-middle}
 use Rattle.std.proofs.Math.Seq.{take-append_seam}
 use borrow.Author.Tests.{le-ltb, lt-ltb, ltb-true, ltb-false}
-use Rattle.le.proofs.Laws.{not-both}
+use Rattle.le.proofs.Laws.{not_both}
 use Rattle.part.specs.Slice as slice
 use Rattle.part.specs.Outcome.{and_then}
 use Rattle.refusal.specs.Refusal.{limit}
@@ -19,7 +19,7 @@ use Rattle.refusal.specs.declared.Refusal.{Refusal}
 use Rattle.refusal.specs.declared.Refusal.TheVariants.{NameNotFound}
 use Rattle.names.specs.Names.{same_name}
 use Rattle.names.proofs.Laws.{same_folded, folded_long}
-use Rattle.names.proofs.Meaning.{same-by-letters}
+use Rattle.names.proofs.Meaning.{same_by_letters}
 use Rattle.entry.specs.Entry.{claim_at}
 use Rattle.entry.specs.Walk.{steps}
 use Rattle.writing.specs.Writing.{answer, Writes}
@@ -90,12 +90,12 @@ filter_inner outer inner h (x ∷ xs) = by (inner x) refl (outer x) refl (filter
     by : (i : Bool) → inner x ≡ i → (o : Bool) → outer x ≡ o → filter outer (filter inner xs) ≡ filter outer xs → filter outer (if i then x ∷ filter inner xs else filter inner xs) ≡ (if o then x ∷ filter outer xs else filter outer xs)
     by true e true q on = simp q (ap (λ (l : List ℕ). x ∷ l) on)
     by true e false q on = simp q on
-    by false e true q on = absurd (not-both (h x q) e)
+    by false e true q on = absurd (not_both (h x q) e)
     by false e false q on = on
 
 both_true : (g n : Bool) → (if g then n else false) ≡ true → (g ≡ true) × (n ≡ true)
 both_true true n h = (refl, h)
-both_true false n h = absurd (not-both h refl)
+both_true false n h = absurd (not_both h refl)
 
 module _ {R : Type 0} (w : NamePlaces) (header : ℕ) (read : Bor (List ℕ) → Result R Refusal) (length_of : R → ℕ) (name_of : R → List ℕ)
     (four : 4 < header)
@@ -116,15 +116,15 @@ module _ {R : Type 0} (w : NamePlaces) (header : ℕ) (read : Bor (List ℕ) →
       answers = ap (option_map (λ (claim : Result ℕ Refusal). and_then claim (λ size. read (slice.part s at size)))) e ∙ ap (λ (t : Result R Refusal). Some t) q;
       name = told_there w s at size (name_of r) (told (slice.part s at size) r q);
     }
-    given_own at size e (Err why) q h = absurd (not-both h refl)
+    given_own at size e (Err why) q h = absurd (not_both h refl)
 
     given : (at : ℕ) → gives read s at ≡ true → Given at
     unfolding step_at
     given at = by (claim_at s.now at).size refl
       where
         by : (c : Option (Result ℕ Refusal)) → (claim_at s.now at).size ≡ c → is_record (option_map (λ (claim : Result ℕ Refusal). and_then claim (λ size. read (slice.part s at size))) c) ≡ true → Given at
-        by None e h = absurd (not-both h refl)
-        by (Some (Err why)) e h = absurd (not-both h refl)
+        by None e h = absurd (not_both h refl)
+        by (Some (Err why)) e h = absurd (not_both h refl)
         by (Some (Ok size)) e h = given_own at size e (read (slice.part s at size)) refl h
 
     has_branch : (text : List ℕ) (at : ℕ) → in_branch w read s text at ≡ true → HasBranch header read length_of name_of s text at
@@ -138,7 +138,7 @@ module _ {R : Type 0} (w : NamePlaces) (header : ℕ) (read : Bor (List ℕ) →
           front = take (length text) (name_of k.entry);
           behind = drop (length text) (name_of k.entry);
           name = sym (take-append-drop (length text) (name_of k.entry));
-          same = (same-by-letters (take (length text) (name_of k.entry)) text).0 (ap (λ (n : List ℕ). same_name (take (length text) n) text) k.name ∙ b.1);
+          same = (same_by_letters (take (length text) (name_of k.entry)) text).0 (ap (λ (n : List ℕ). same_name (take (length text) n) text) k.name ∙ b.1);
         }
 
     has_name : (name : List ℕ) (at : ℕ) → is_named w read s name at ≡ true → HasName header read length_of name_of s name at
@@ -147,7 +147,7 @@ module _ {R : Type 0} (w : NamePlaces) (header : ℕ) (read : Bor (List ℕ) →
         record {
           entry = k.entry;
           alone = (reads read header length_of four long room s at k.entry k.answers).answers;
-          same = (same-by-letters (name_of k.entry) name).0 (ap (λ (n : List ℕ). same_name n name) k.name ∙ named_so w read s name at h);
+          same = (same_by_letters (name_of k.entry) name).0 (ap (λ (n : List ℕ). same_name n name) k.name ∙ named_so w read s name at h);
         }
 
     module _ (small : length s.now ≤ limit) where
@@ -163,7 +163,7 @@ module _ {R : Type 0} (w : NamePlaces) (header : ℕ) (read : Bor (List ℕ) →
       branch_has : (text : List ℕ) (at : ℕ) → HasBranch header read length_of name_of s text at → in_branch w read s text at ≡ true
       branch_has text at h =
           let b = gives_back at h.entry h.alone in
-          let same : same_name h.front text ≡ true = (same-by-letters h.front text).1 h.same in
+          let same : same_name h.front text ≡ true = (same_by_letters h.front text).1 h.same in
           let long_front : length h.front ≡ length text = sym (folded_long h.front) ∙ ap length (same_folded h.front text same) ∙ folded_long text in
           let cut : take (length text) (name_at w s.now at) ≡ h.front = ap (take (length text)) (sym b.1 ∙ h.name) ∙ ap (λ (n : ℕ). take n (h.front ++ h.behind)) (sym long_front) ∙ take-append_seam h.front h.behind in
           begins_so w read s text at (ap (λ (n : List ℕ). same_name n text) cut ∙ same) ∙ b.0
@@ -171,7 +171,7 @@ module _ {R : Type 0} (w : NamePlaces) (header : ℕ) (read : Bor (List ℕ) →
       name_has : (name : List ℕ) (at : ℕ) → HasName header read length_of name_of s name at → is_named w read s name at ≡ true
       name_has name at h =
           let b = gives_back at h.entry h.alone in
-          of_the_name w read s name at (ap (λ (n : List ℕ). same_name n name) (sym b.1) ∙ (same-by-letters (name_of h.entry) name).1 h.same) ∙ b.0
+          of_the_name w read s name at (ap (λ (n : List ℕ). same_name n name) (sym b.1) ∙ (same_by_letters (name_of h.entry) name).1 h.same) ∙ b.0
 
       picks : (text places : List ℕ) → Picks header read length_of name_of s text places (filter (in_branch w read s text) places)
       picks text [] = done
@@ -179,7 +179,7 @@ module _ {R : Type 0} (w : NamePlaces) (header : ℕ) (read : Bor (List ℕ) →
         where
           by : Picks header read length_of name_of s text places (filter (in_branch w read s text) places) → (t : Bool) → in_branch w read s text x ≡ t → Picks header read length_of name_of s text (x ∷ places) (if t then x ∷ filter (in_branch w read s text) places else filter (in_branch w read s text) places)
           by on true e = picked (has_branch text x e) on
-          by on false e = passed (λ h. not-both (branch_has text x h) e) on
+          by on false e = passed (λ h. not_both (branch_has text x h) e) on
 
       picks_is : (text places run : List ℕ) → Picks header read length_of name_of s text places run → run ≡ filter (in_branch w read s text) places
       picks_is text [] [] done = refl

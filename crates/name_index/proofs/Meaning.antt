@@ -10,7 +10,7 @@ use Rattle.std.proofs.lemmas.Cmp.{tied_back, ranked}
 use Rattle.std.proofs.lemmas.List.Sorted.{All-permutation, IsStrictWeakOrder-by_number, sum_by-IsPermutation}
 use Rattle.std.proofs.lemmas.List.Sums.{length-filter}
 use borrow.Author.Tests.{ltb-false, le-ltb, lt-ltb}
-use Rattle.le.proofs.Laws.{not-both}
+use Rattle.le.proofs.Laws.{not_both}
 use Rattle.refusal.specs.Refusal.{limit}
 use Rattle.refusal.specs.declared.Refusal.{Refusal}
 use Rattle.refusal.specs.declared.Refusal.TheVariants.{OutputTooSmall}
@@ -71,7 +71,7 @@ untouched (Err x) w = w.left
 module _ {R : Type 0} (w : NamePlaces) (read : Bor (List ℕ) → Result R Refusal) (s : Bor (List ℕ)) (name : List ℕ) where
   named_parts : (g n : Bool) → (if g then n else false) ≡ true → (g ≡ true) × (n ≡ true)
   named_parts true n h = (refl, h)
-  named_parts false n h = absurd (not-both h refl)
+  named_parts false n h = absurd (not_both h refl)
 
   pub named_gives : (at : ℕ) → is_named w read s name at ≡ true → gives read s at ≡ true
   unfolding is_named
@@ -92,7 +92,7 @@ module _ {R : Type 0} (w : NamePlaces) (read : Bor (List ℕ) → Result R Refus
       by (nat_cmp y x) refl (ap (λ (r : Ordering). is_lt (ordering_then r (nat_cmp y x))) (sym level) ∙ h)
     where
       by : (r : Ordering) → r ≡ nat_cmp y x → is_lt r ≡ false → x ≤ y
-      by Less e k = absurd (not-both refl k)
+      by Less e k = absurd (not_both refl k)
       by Equal e k = let m : y ≡ x = ranked y x Equal e in omega arith
       by Greater e k = let m : x < y = ranked y x Greater e in omega arith
 
@@ -155,20 +155,20 @@ module _ {R : Type 0} (w : NamePlaces) (read : Bor (List ℕ) → Result R Refus
         halves.ordered (is_index h).ordered ∙ ap (λ (l : List ℕ). find_indexed w read s l name) (slots_are h ∙ ap (in_order (goes_first w s.now)) (sym holds)) ∙ same_found w read s name (take m plain) a
 
   number_is : (s : Bor (List ℕ)) → length (in_order (goes_first w s.now) (starts (pieces read s))) ≡ needed read s
-  number_is s = order_long (goes_first w s.now) (starts (pieces read s)) ∙ ap length (steps_are.starts-are s) ∙ length-filter (gives read s) (steps s.now)
+  number_is s = order_long (goes_first w s.now) (starts (pieces read s)) ∙ ap length (steps_are.starts_are s) ∙ length-filter (gives read s) (steps s.now)
 
   -- the answer where the upload is within the limit and no step stands, by whether the slots are too few
   answered : (s : Bor (List ℕ)) (old new : List ℕ) (r : Result ℕ Refusal) → Writes (name_indexing w read s) old new r → length s.now ≤ limit → list_any (stands s.now) (steps s.now) ≡ false
       → r ≡ (if ltb (length old) (needed read s) then Err (OutputTooSmall (needed read s) (length old)) else Ok (needed read s))
   unfolding name_indexing
-  answered s old new r h small calm = h.said ∙ simp (index_starts read s small (steps_are.stopped-is s ∙ calm), number_is s)
+  answered s old new r h small calm = h.said ∙ simp (index_starts read s small (steps_are.stopped_is s ∙ calm), number_is s)
 
   pub name_index_meant_of : NameIndexMeant w read
   unfolding name_indexing
   name_index_meant_of s old new r h =
       record {
         too_large = λ large. h.said ∙ ap (λ (x : Result (List ℕ) Refusal). answer (map_ok (in_order (goes_first w s.now)) x) (length old)) (index_large read s large);
-        zero_claim = λ small stood. h.said ∙ ap (λ (x : Result (List ℕ) Refusal). answer (map_ok (in_order (goes_first w s.now)) x) (length old)) (index_zero read s small (steps_are.stopped-is s ∙ stood));
+        zero_claim = λ small stood. h.said ∙ ap (λ (x : Result (List ℕ) Refusal). answer (map_ok (in_order (goes_first w s.now)) x) (length old)) (index_zero read s small (steps_are.stopped_is s ∙ stood));
         too_few = λ small calm few. answered s old new r h small calm ∙ simp (lt-ltb (length old) (needed read s) few);
         enough = λ small calm fits. answered s old new r h small calm ∙ simp (le-ltb (length old) (needed read s) fits);
         built = λ n e. is_index s old new n (subst (Writes (name_indexing w read s) old new) e h);

@@ -10,7 +10,7 @@ use Rattle.std.proofs.lemmas.List.{get_or-take, get_or-drop, take-append-drop}
 use Rattle.std.proofs.lemmas.List.Sorted.{sorted_far}
 use Rattle.std.proofs.Math.ListN.{length-take, length-drop}
 use Rattle.le.specs.Le.{part}
-use Rattle.le.proofs.Laws.{not-both, part-rest}
+use Rattle.le.proofs.Laws.{not_both, part_rest}
 use Rattle.names.specs.Names.{folded}
 use Rattle.name_order.specs.declared.places.NamePlaces.{NamePlaces}
 use Rattle.name_order.specs.Order.{name_at, name_cmp, goes_first}
@@ -21,7 +21,7 @@ use Rattle.name_order.proofs.Meaning.{cmp_same, same_cmp}
 -- names that are cut to one length are in the order of the names
 cut_falls : (n : ℕ) (a b : List ℕ) → name_cmp (take n a) (take n b) ≡ Less → name_cmp a b ≡ Less
 unfolding name_cmp folded
-cut_falls zero a b h = absurd (not-both refl (sym (ap is_lt h)))
+cut_falls zero a b h = absurd (not_both refl (sym (ap is_lt h)))
 cut_falls (suc n) [] [] h = h
 cut_falls (suc n) [] (y ∷ b) h = refl
 cut_falls (suc n) (x ∷ a) [] h = h
@@ -36,7 +36,7 @@ cut_keeps : (n : ℕ) (a b : List ℕ) → is_lt (name_cmp a b) ≡ false → is
 cut_keeps n a b h = by (name_cmp (take n a) (take n b)) refl
   where
     by : (r : Ordering) → name_cmp (take n a) (take n b) ≡ r → is_lt r ≡ false
-    by Less e = absurd (not-both (ap is_lt (cut_falls n a b e)) h)
+    by Less e = absurd (not_both (ap is_lt (cut_falls n a b e)) h)
     by Equal e = refl
     by Greater e = refl
 
@@ -48,12 +48,12 @@ module _ {K : Type 0} {R : K → K → Ordering} (o : IsTotalOrder R) where
       falls : R z x ≡ Less → (r : Ordering) → R y z ≡ r → is_le r ≡ true → is_lt (R y x) ≡ true
       falls f Less e m = ap is_lt (o.trans y z x e f)
       falls f Equal e m = ap is_lt (o.congr y z x e ∙ f)
-      falls f Greater e m = absurd (not-both m refl)
+      falls f Greater e m = absurd (not_both m refl)
 
       by : (r : Ordering) → R x z ≡ r → is_le r ≡ true
       by Less e = refl
       by Equal e = refl
-      by Greater e = absurd (not-both (falls (o.antisymm z x ∙ ap ordering_reverse e) (R y z) refl k) h)
+      by Greater e = absurd (not_both (falls (o.antisymm z x ∙ ap ordering_reverse e) (R y z) refl k) h)
 
 sorted_drop : (first : ℕ → ℕ → Bool) (k : ℕ) (xs : List ℕ) → IsSortedBy first xs → IsSortedBy first (drop k xs)
 sorted_drop first k xs up i d l h =
@@ -85,19 +85,19 @@ module _ (w : NamePlaces) (s text : List ℕ) where
       by false e = refl
 
   before_not : (at : ℕ) → is_before w s text at ≡ true → begins_at w s text at ≡ false
-  before_not at h = begins_not at (λ e. not-both h (ap is_lt e))
+  before_not at h = begins_not at (λ e. not_both h (ap is_lt e))
 
   behind_not : (at : ℕ) → is_no_further w s text at ≡ false → begins_at w s text at ≡ false
-  behind_not at h = begins_not at (λ e. not-both (ap is_le e) h)
+  behind_not at h = begins_not at (λ e. not_both (ap is_le e) h)
 
   among : (at : ℕ) → is_before w s text at ≡ false → is_no_further w s text at ≡ true → begins_at w s text at ≡ true
   unfolding front_cmp
   among at h k = cmp_same (take (length text) (name_at w s at)) text (by (name_cmp (take (length text) (name_at w s at)) text) h k)
     where
       by : (r : Ordering) → is_lt r ≡ false → is_le r ≡ true → r ≡ Equal
-      by Less p q = absurd (not-both refl p)
+      by Less p q = absurd (not_both refl p)
       by Equal p q = refl
-      by Greater p q = absurd (not-both q refl)
+      by Greater p q = absurd (not_both q refl)
 
   pub branch_of : (starts : List ℕ) (k n : ℕ) → k ≤ length starts → n ≤ length (drop k starts)
       → IsPartitionPoint (λ at. is_before w s text at ≡ true) (λ at. is_before w s text at ≡ false) starts k
@@ -129,7 +129,7 @@ module _ (w : NamePlaces) (s text : List ℕ) where
 -- what is left of some numbers is all that is left
 pub rest_is : (starts : List ℕ) (k : ℕ) → take (length starts - k) (drop k starts) ≡ drop k starts
 unfolding part
-rest_is starts k = part-rest starts k (length starts - k) (omega arith)
+rest_is starts k = part_rest starts k (length starts - k) (omega arith)
 
 pub run_of : (starts rest : List ℕ) (k n : ℕ) → rest ≡ drop k starts → IsRun starts (take n rest)
 run_of starts rest k n e = record {
@@ -152,7 +152,7 @@ parted test (x ∷ xs) h = by (test x) refl (parted test xs (λ i j d l m p. h (
     fails k p (suc i) d l m = p.1 i d (omega arith) (omega arith)
 
     none_passes : test x ≡ false → (i d : ℕ) → i < length (x ∷ xs) → (t : Bool) → test (get_or (x ∷ xs) i d) ≡ t → t ≡ false
-    none_passes e i d m true q = absurd (not-both (h 0 i d (omega arith) m q) e)
+    none_passes e i d m true q = absurd (not_both (h 0 i d (omega arith) m q) e)
     none_passes e i d m false q = refl
 
     by : (t : Bool) → test x ≡ t → (k : ℕ) × ((k ≤ length xs) × IsPartitionPoint (λ y. test y ≡ true) (λ y. test y ≡ false) xs k) → (k : ℕ) × ((k ≤ length (x ∷ xs)) × IsPartitionPoint (λ y. test y ≡ true) (λ y. test y ≡ false) (x ∷ xs) k)

@@ -7,11 +7,11 @@ use Rattle.std.specs.Ordering.{nat_cmp, ordering_then, is_lt}
 use Rattle.std.proofs.lemmas.Cmp.{tied_itself, nat_cmp_total, ranked}
 use Rattle.std.specs.List.Sorted.{IsSortedBy}
 use Rattle.std.proofs.lemmas.List.Sorted.{sorted_far}
-use Rattle.le.proofs.Laws.{not-both}
+use Rattle.le.proofs.Laws.{not_both}
 use Rattle.names.specs.Names.{folded}
 use Rattle.names.specs.Meaning.{SameLetter, SameLetters, end, letter}
 use Rattle.names.proofs.Laws.{fold_below, fold_above, fold_letter, same_folded, folded_same}
-use Rattle.names.proofs.Meaning.{same-by-letters}
+use Rattle.names.proofs.Meaning.{same_by_letters}
 use Rattle.name_order.specs.declared.places.NamePlaces.{NamePlaces}
 use Rattle.name_order.specs.Order.{name_at, name_cmp, start_cmp, goes_first}
 use Rattle.name_order.specs.Letters.{Small, letter as small_letter, below, above, ComesFirst, ended, lower, later, name_there, StartsFirst, by_name, by_start, IsInNameOrder, OrderMeant}
@@ -37,26 +37,26 @@ only_letter x y (letter l end) = l
 
 letter_of : (x y : ℕ) → to_ascii_lowercase x ≡ to_ascii_lowercase y → SameLetter x y
 unfolding folded
-letter_of x y e = only_letter x y ((same-by-letters (x ∷ []) (y ∷ [])).0 (folded_same (x ∷ []) (y ∷ []) (ap (λ (n : ℕ). n ∷ []) e)))
+letter_of x y e = only_letter x y ((same_by_letters (x ∷ []) (y ∷ [])).0 (folded_same (x ∷ []) (y ∷ []) (ap (λ (n : ℕ). n ∷ []) e)))
 
 of_letter : (x y : ℕ) → SameLetter x y → to_ascii_lowercase x ≡ to_ascii_lowercase y
 unfolding folded
-of_letter x y l = let e : to_ascii_lowercase x ∷ [] ≡ to_ascii_lowercase y ∷ [] = same_folded (x ∷ []) (y ∷ []) ((same-by-letters (x ∷ []) (y ∷ [])).1 (letter l end)) in cc
+of_letter x y l = let e : to_ascii_lowercase x ∷ [] ≡ to_ascii_lowercase y ∷ [] = same_folded (x ∷ []) (y ∷ []) ((same_by_letters (x ∷ []) (y ∷ [])).1 (letter l end)) in cc
 
 less_of : (n m : ℕ) → n < m → nat_cmp n m ≡ Less
 less_of n m h = simp (lt-ltb n m h) refl
 
 names_first : (own other : List ℕ) → name_cmp own other ≡ Less → ComesFirst own other
 unfolding name_cmp folded
-names_first [] [] h = absurd (not-both refl (sym (ap is_lt h)))
+names_first [] [] h = absurd (not_both refl (sym (ap is_lt h)))
 names_first [] (y ∷ other) h = ended
-names_first (x ∷ own) [] h = absurd (not-both refl (sym (ap is_lt h)))
+names_first (x ∷ own) [] h = absurd (not_both refl (sym (ap is_lt h)))
 names_first (x ∷ own) (y ∷ other) h = by (names_first own other) (nat_cmp (to_ascii_lowercase x) (to_ascii_lowercase y)) refl h
   where
     by : (name_cmp own other ≡ Less → ComesFirst own other) → (r : Ordering) → r ≡ nat_cmp (to_ascii_lowercase x) (to_ascii_lowercase y) → ordering_then r (name_cmp own other) ≡ Less → ComesFirst (x ∷ own) (y ∷ other)
     by on Less e k = lower (small_of x) (small_of y) (ranked (to_ascii_lowercase x) (to_ascii_lowercase y) Less e)
     by on Equal e k = later (letter_of x y (ranked (to_ascii_lowercase x) (to_ascii_lowercase y) Equal e)) (on k)
-    by on Greater e k = absurd (not-both refl (sym (ap is_lt k)))
+    by on Greater e k = absurd (not_both refl (sym (ap is_lt k)))
 
 first_names : (own other : List ℕ) → ComesFirst own other → name_cmp own other ≡ Less
 unfolding name_cmp folded
@@ -77,25 +77,25 @@ module _ (w : NamePlaces) (s : List ℕ) (a b : ℕ) where
     where
       lower_start : (r : Ordering) → r ≡ nat_cmp a b → is_lt r ≡ true → a < b
       lower_start Less e k = ranked a b Less e
-      lower_start Equal e k = absurd (not-both k refl)
-      lower_start Greater e k = absurd (not-both k refl)
+      lower_start Equal e k = absurd (not_both k refl)
+      lower_start Greater e k = absurd (not_both k refl)
 
       by : (r : Ordering) → name_cmp (name_there w s a) (name_there w s b) ≡ r → is_lt (ordering_then r (nat_cmp a b)) ≡ true → StartsFirst w s a b
       by Less e k = by_name (names_first (name_there w s a) (name_there w s b) e)
-      by Equal e k = by_start ((same-by-letters (name_there w s a) (name_there w s b)).0 (cmp_same (name_there w s a) (name_there w s b) e)) (lower_start (nat_cmp a b) refl k)
-      by Greater e k = absurd (not-both k refl)
+      by Equal e k = by_start ((same_by_letters (name_there w s a) (name_there w s b)).0 (cmp_same (name_there w s a) (name_there w s b) e)) (lower_start (nat_cmp a b) refl k)
+      by Greater e k = absurd (not_both k refl)
 
   first_starts : StartsFirst w s a b → goes_first w s a b ≡ true
   unfolding start_cmp name_at
   first_starts (by_name c) = ap (λ (r : Ordering). is_lt (ordering_then r (nat_cmp a b))) (first_names (name_there w s a) (name_there w s b) c)
   first_starts (by_start l h) =
-      ap (λ (r : Ordering). is_lt (ordering_then r (nat_cmp a b))) (same_cmp (name_there w s a) (name_there w s b) ((same-by-letters (name_there w s a) (name_there w s b)).1 l)) ∙ ap is_lt (less_of a b h)
+      ap (λ (r : Ordering). is_lt (ordering_then r (nat_cmp a b))) (same_cmp (name_there w s a) (name_there w s b) ((same_by_letters (name_there w s a) (name_there w s b)).1 l)) ∙ ap is_lt (less_of a b h)
 
 module _ (w : NamePlaces) (s starts : List ℕ) where
   pub in_name_order : IsSortedBy (goes_first w s) starts → IsInNameOrder w s starts
   in_name_order up i j d h k first =
       let earlier : i ≤ j = omega (arith, h) in
-      not-both (first_starts w s (get_or starts j d) (get_or starts i d) first) (sorted_far (goes_first w s) (places_weak w s) starts up i j d earlier k)
+      not_both (first_starts w s (get_or starts j d) (get_or starts i d) first) (sorted_far (goes_first w s) (places_weak w s) starts up i j d earlier k)
 
   pub name_order_sorted : IsInNameOrder w s starts → IsSortedBy (goes_first w s) starts
   name_order_sorted up i d l h = by (goes_first w s (get_or starts (i + 1) d) (get_or starts i d)) refl

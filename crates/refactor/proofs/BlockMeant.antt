@@ -4,7 +4,7 @@ use Rattle.std.specs.Prelude.{eqb, ltb, Option, Some, None}
 use Rattle.std.specs.Bool.{beq}
 use borrow.Author.Tests.{ltb-true, ltb-false, eqb-true, eqb-false}
 use Rattle.le.specs.Le.{part, bytes2}
-use Rattle.le.proofs.Laws.{le2-bytes2}
+use Rattle.le.proofs.Laws.{le2_bytes2}
 use Rattle.part.specs.Slice.{after}
 use Rattle.refusal.specs.Refusal.{limit}
 use Rattle.refusal.specs.declared.Refusal.TheVariants.{BadBlock, TooLarge}
@@ -135,7 +135,7 @@ module _ (count : ℕ) (block : Bor (List ℕ)) where
   by_size e p false f =
       let l = ltb-false limit (length (bytes2 count ++ block.now)) f in
       entries (ltb-false 65535 count e) p (omega arith) (bytes2 count ++ block.now) (writes.both_pass count block {u = tt} {v = tt} (simp e) p ∙ simp f)
-      (let k = ltb-false 65535 count e in le2-bytes2 count block.now (omega arith)) refl
+      (let k = ltb-false 65535 count e in le2_bytes2 count block.now (omega arith)) refl
 
   by_block : ltb 65535 count ≡ false → BlockMeant count block → Entries count block
   by_block e (passes g p) = by_size e p (ltb limit (length (bytes2 count ++ block.now))) refl

@@ -3,7 +3,7 @@ use Rattle.std.proofs.Common.{◌≡◌, ℕ, zero, suc, ◌+◌, ◌<◌, ◌�
 use Rattle.std.specs.Prelude.{ltb}
 use borrow.Author.Tests.{ltb-true, ltb-false}
 use native.Mathlib.Nat.{zero-add}
-use Rattle.le.proofs.Laws.{not-both}
+use Rattle.le.proofs.Laws.{not_both}
 use Rattle.part.specs.Slice.{after}
 use Rattle.refusal.specs.EndBytes.{ended}
 use Rattle.refusal.specs.declared.Refusal.{Refusal}
@@ -62,7 +62,7 @@ module _ (s : Bor (List ℕ)) (why : Refusal) where
     whole_by : Chain s → infos_of s ≡ Err why
     whole_by (chain_short at before st l e) = told_of at _ (is_short (after s at) l) (met_at at before st (λ h b. omega arith)) e
     whole_by (chain_cut at before st k l e) = told_of at _ (is_cut (after s at) k l) (met_at at before st (λ h b. omega arith)) e
-    whole_by (chain_whole at before st h b e) = absurd (not_whole (after s at) why (met_at at before st (λ k c. not-both c b)) h)
+    whole_by (chain_whole at before st h b e) = absurd (not_whole (after s at) why (met_at at before st (λ k c. not_both c b)) h)
 
   only_by : Chain s → infos_of s ≡ Err why → IsRefused s why
   only_by (chain_short at before st l e) h =

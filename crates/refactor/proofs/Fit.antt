@@ -10,7 +10,7 @@ use lib.Seq.{take_at, drop_at, drop-cons, drop-drop, get_or_at, get_or-drop}
 use lib.ListN.{take-append-drop}
 use borrow.Author.Tests.{le-ltb, lt-ltb, eq-eqb}
 use Rattle.le.specs.Le.{le2, le4, bytes2, bytes4, has}
-use Rattle.le.proofs.Laws.{le4-bytes4}
+use Rattle.le.proofs.Laws.{le4_bytes4}
 use Rattle.part.specs.Slice.{after}
 use Rattle.refusal.specs.Refusal.{limit}
 use Rattle.refusal.specs.EndBytes.{ended}
@@ -60,7 +60,7 @@ module _ (packed : ℕ) (name more : List ℕ) (s : Bor (List ℕ)) (e : s.now �
   n_is = ap (λ (b : List ℕ). le2 b 4) by_name ∙ omega arith
 
   packed_here : le4 s.now 0 ≡ packed
-  packed_here = ap (λ (b : List ℕ). le4 b 0) by_name ∙ le4-bytes4 packed (bytes2 (length name) ++ (name ++ (0 ∷ more))) small
+  packed_here = ap (λ (b : List ℕ). le4 b 0) by_name ∙ le4_bytes4 packed (bytes2 (length name) ++ (name ++ (0 ∷ more))) small
 
   whole : length s.now ≡ length name + 7 + length more
   whole = ap length e ∙ length-append (info_bytes packed name) more ∙ ap (λ (k : ℕ). k + length more) (length_info packed name)

@@ -6,7 +6,7 @@ use mathlib.Core.List.{append-nil}
 use lib.Dec.{ltb}
 use borrow.Author.Tests.{le-ltb, lt-ltb}
 use Rattle.le.specs.Le.{le2, bytes2}
-use Rattle.le.proofs.Laws.{le2-bytes2}
+use Rattle.le.proofs.Laws.{le2_bytes2}
 use Rattle.part.specs.Slice.{after}
 use Rattle.part.specs.Outcome.{and_then}
 use Rattle.refusal.specs.Refusal.{limit}
@@ -41,7 +41,7 @@ module _ (mode : Mode) (count : ℕ) (block s : Bor (List ℕ)) (pos : 0 < count
       let r = blocks_read count block (after s 2) [] b (ap (λ (l : List ℕ). drop 2 l) e ∙ sym (append-nil block.now)) in
       let l : length (after s 2).now ≤ limit = simp length-drop (omega arith) in
       record {
-        front = ap (λ (l : List ℕ). le2 l 0) e ∙ le2-bytes2 count block.now (omega arith);
+        front = ap (λ (l : List ℕ). le2 l 0) e ∙ le2_bytes2 count block.now (omega arith);
         chain = chain_by mode (after s 2) l (r.chain pos) (r.ended pos 0);
         records = r.tells;
         past = λ k m. simp (slice_get_past (listed (after s 2) count) k (omega (arith, r.long)));

@@ -4,7 +4,7 @@ use Rattle.std.specs.Prelude.{eqb, ltb, slice_get, Some, if◌then◌else◌}
 use Rattle.std.proofs.lemmas.List.Elements.{All-nil}
 use native.Mathlib.Nat.{zero-add, add-zero, add_assoc}
 use borrow.Author.Tests.{ltb-true, ltb-false, eqb-true, eqb-false}
-use Rattle.le.proofs.Laws.{not-both}
+use Rattle.le.proofs.Laws.{not_both}
 use Rattle.part.specs.Slice.{after}
 use Rattle.part.specs.Outcome.{and_then}
 use Rattle.refusal.specs.Refusal.{limit}
@@ -183,7 +183,7 @@ module _ (s : List ℕ) (from : ℕ) (z : byte (drop from s) (name_end (drop fro
 
   one_alone : followed (drop from s) ≡ false → (at before : ℕ) → Stands s from at before → size (drop at s) ≤ length (drop at s) → byte (drop at s) (name_end (drop at s)) ≡ 0
   one_alone f at zero here whole = z
-  one_alone f at (suc before) (behind t b st) whole = absurd (not-both b f)
+  one_alone f at (suc before) (behind t b st) whole = absurd (not_both b f)
 
   ends_more : (place : ℕ) (r : Result Unit Refusal) → size (drop from s) ≤ length (drop from s) → followed (drop from s) ≡ true → EndsRead s place (from + size (drop from s)) r → EndsRead s place from r
   ends_more place r h b (all_zero rest e) = all_zero (all_more rest) e

@@ -53,8 +53,7 @@ pub fn first(bytes: &[u8]) -> Result<(AdsRefactorInfo<'_>, &[u8]), Refusal>
     let packed = le::u32_at(bytes, 0);
     let info = AdsRefactorInfo {
         refactor_count: packed & AdsRefactorInfo::REFACTOR_COUNT_MASK,
-        next_refactor_info: packed & AdsRefactorInfo::NEXT_REFACTOR_INFO_MASK
-            == AdsRefactorInfo::NEXT_REFACTOR_INFO_MASK,
+        next_refactor_info: le::has(packed, AdsRefactorInfo::NEXT_REFACTOR_INFO_MASK),
         name: &bytes[6..6 + name],
     };
     Ok((info, &bytes[needed..]))

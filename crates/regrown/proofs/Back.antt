@@ -1,7 +1,7 @@
 -- Entries that come back from the laws of a kind of entry and of its writer.
 use Rattle.std.proofs.Common.{ℕ, ◌+◌, ◌-◌, ◌<◌, ◌≤◌, ◌≡◌, refl, ap, ◌∙◌, List, [], ◌++◌, length, drop, arith, Bor, Result, length-append, length-drop}
 use Rattle.std.specs.Prelude.{Ok}
-use Rattle.le.proofs.Laws.{le4-bytes4}
+use Rattle.le.proofs.Laws.{le4_bytes4}
 use Rattle.refusal.specs.Refusal.{limit}
 use Rattle.refusal.specs.declared.Refusal.{Refusal}
 use Rattle.walk.specs.Step.{step_at}
@@ -33,7 +33,7 @@ module _ {R S : Type 0} (read : Bor (List ℕ) → Result R Refusal) (length_of 
   unfolding grown
   whole e extra l h =
       let n = length_grown e extra in
-      record { claims = le4-bytes4 (length e + length extra) (drop 4 e ++ extra) (omega arith) ∙ omega arith; long = omega arith }
+      record { claims = le4_bytes4 (length e + length extra) (drop 4 e ++ extra) (omega arith) ∙ omega arith; long = omega arith }
 
   each : (p : P) (extra : List ℕ) → Fit p → length (grown (written p) extra) ≤ limit
       → Whole (grown (written p) extra)

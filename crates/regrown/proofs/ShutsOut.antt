@@ -3,7 +3,7 @@ use Rattle.std.proofs.Common.{ℕ, ◌≤◌, ◌≡◌, sym, ap, ◌∙◌, Boo
 use mathlib.Core.List.{append-nil}
 use lib.Dec.{leb}
 use borrow.Author.Tests.{lt-leb}
-use Rattle.le.proofs.Laws.{not-both}
+use Rattle.le.proofs.Laws.{not_both}
 use Rattle.refusal.specs.Refusal.{limit}
 use Rattle.entry.specs.Walk.{walk}
 use Rattle.regrown.specs.Regrown.{Tells, lying, grown, Grown, entry_of, upload, ComeBack}
@@ -42,6 +42,6 @@ module _ {R S T : Type 0} (Fit : R → Type 0) (written : R → List ℕ) (meant
   shuts_out =
       record {
         some = g;
-        never = λ step h d. not-both (first_told step d) (h u 0);
-        again = λ step h d. not-both (first_told step d) (sym (h u (cursor (step u 0))) ∙ second_told step d);
+        never = λ step h d. not_both (first_told step d) (h u 0);
+        again = λ step h d. not_both (first_told step d) (sym (h u (cursor (step u 0))) ∙ second_told step d);
       }

@@ -11,7 +11,7 @@ use lib.ListN.{length, take, length-append}
 use lib.Seq.{length-take-le, get_or-take}
 use borrow.Author.Tests.{le-ltb, lt-ltb, le-leb, lt-leb, ltb-true, ltb-false}
 use Rattle.le.specs.Le.{le4}
-use Rattle.le.proofs.Inside.{le4-inside}
+use Rattle.le.proofs.Inside.{le4_inside}
 use Rattle.refusal.specs.Refusal.{limit, figures_of}
 use Rattle.refusal.specs.declared.Refusal.{Refusal}
 use Rattle.refusal.specs.declared.Refusal.TheVariants.{TooShort, EntryLengthMismatch}
@@ -25,21 +25,21 @@ pub record Whole (e : List ℕ) : Type 0 where
   pub long : 4 ≤ length e
 
 -- the claim of an entry stands in its first four bytes
-claim-first : (p e q : List ℕ) (k : ℕ) → 4 ≤ k → k ≤ length e → le4 (p ++ (take k e ++ q)) (length p) ≡ le4 e 0
+claim_first : (p e q : List ℕ) (k : ℕ) → 4 ≤ k → k ≤ length e → le4 (p ++ (take k e ++ q)) (length p) ≡ le4 e 0
 unfolding le4
-claim-first p e q k h l =
+claim_first p e q k h l =
     let t : length (take k e) ≡ k = length-take-le k e l in
-    rw add-zero at (le4-inside p (take k e) q 0 (omega arith)) ∙ simp (get_or-take k e 0 0 (omega arith), get_or-take k e 1 0 (omega arith), get_or-take k e 2 0 (omega arith), get_or-take k e 3 0 (omega arith))
+    rw add-zero at (le4_inside p (take k e) q 0 (omega arith)) ∙ simp (get_or-take k e 0 0 (omega arith), get_or-take k e 1 0 (omega arith), get_or-take k e 2 0 (omega arith), get_or-take k e 3 0 (omega arith))
 
-pub claim-end : (s : List ℕ) (at : ℕ) → length s ≤ at → claim_at s at ≡ claimed None at
+pub claim_end : (s : List ℕ) (at : ℕ) → length s ≤ at → claim_at s at ≡ claimed None at
 unfolding claim_at
-claim-end s at h = simp (le-leb (length s) at h)
+claim_end s at h = simp (le-leb (length s) at h)
 
-pub claim-whole : (p e q : List ℕ) → Whole e → length (p ++ (e ++ q)) ≤ limit → claim_at (p ++ (e ++ q)) (length p) ≡ claimed (Some (Ok (length e))) (length p + length e)
+pub claim_whole : (p e q : List ℕ) → Whole e → length (p ++ (e ++ q)) ≤ limit → claim_at (p ++ (e ++ q)) (length p) ≡ claimed (Some (Ok (length e))) (length p + length e)
 unfolding claim_at
-claim-whole p e q w h =
+claim_whole p e q w h =
     let len : length (p ++ (e ++ q)) ≡ length p + (length e + length q) = simp length-append in
-    let claim : le4 (p ++ (e ++ q)) (length p) ≡ length e = rw add-zero at (le4-inside p e q 0 w.long) ∙ w.claims in
+    let claim : le4 (p ++ (e ++ q)) (length p) ≡ length e = rw add-zero at (le4_inside p e q 0 w.long) ∙ w.claims in
     simp (
       claim,
       lt-leb (length (p ++ (e ++ q))) (length p) (omega arith),
@@ -55,14 +55,14 @@ length_cut p e k b = length-append p (take k e) ∙ ap (λ (n : ℕ). length p +
 abbrev pub cut_refusal : Bool → ℕ → ℕ → ℕ → Refusal
 cut_refusal short at k size = if short then TooShort (at + 4) (at + k) else EntryLengthMismatch size k
 
-pub cut-figures : (short : Bool) (at k size : ℕ) → ltb k 4 ≡ short → figures_of (cut_refusal short at k size) ≡ cut_figures at k size
-cut-figures true at k size h = simp h
-cut-figures false at k size h = simp h
+pub cut_figures : (short : Bool) (at k size : ℕ) → ltb k 4 ≡ short → figures_of (cut_refusal short at k size) ≡ cut_figures at k size
+cut_figures true at k size h = simp h
+cut_figures false at k size h = simp h
 
-pub claim-cut : (p e : List ℕ) (k : ℕ) → Whole e → 0 < k → k < length e → length p + k ≤ limit → (short : Bool) → ltb k 4 ≡ short
+pub claim_cut : (p e : List ℕ) (k : ℕ) → Whole e → 0 < k → k < length e → length p + k ≤ limit → (short : Bool) → ltb k 4 ≡ short
     → claim_at (p ++ take k e) (length p) ≡ claimed (Some (Err (cut_refusal short (length p) k (length e)))) (length p + k)
 unfolding claim_at
-claim-cut p e k w a b h true t =
+claim_cut p e k w a b h true t =
     let l = length_cut p e k b in
     let u : k < 4 = ltb-true k 4 t in
     simp (
@@ -71,10 +71,10 @@ claim-cut p e k w a b h true t =
       le-ltb limit (length p + k) h,
       lt-ltb (length p + k - length p) 4 (omega arith),
     )
-claim-cut p e k w a b h false t =
+claim_cut p e k w a b h false t =
     let l = length_cut p e k b in
     let u : 4 ≤ k = ltb-false k 4 t in
-    let claim : le4 (p ++ take k e) (length p) ≡ length e = simp append-nil at (claim-first p e [] k u (omega arith)) ∙ w.claims in
+    let claim : le4 (p ++ take k e) (length p) ≡ length e = simp append-nil at (claim_first p e [] k u (omega arith)) ∙ w.claims in
     let left : length p + k - length p ≡ k = omega arith in
     simp (
       l,

@@ -10,7 +10,7 @@ use Rattle.refusal.specs.declared.Refusal.{Refusal}
 use Rattle.entry.specs.Entry.{claim_at}
 use Rattle.entry.specs.Walk.{stands, steps_from, steps, walk}
 use Rattle.entry.specs.Bounded.{bounded_walk}
-use Rattle.entry.proofs.Claims.{meets, moves-on, moves-within}
+use Rattle.entry.proofs.Claims.{meets, moves_on, moves_within}
 use Rattle.entry.proofs.Direct.{part_long}
 use Rattle.walk.specs.declared.Stepped.{Stepped}
 use Rattle.walk.specs.Step.{step_at}
@@ -22,7 +22,7 @@ use Rattle.symbol.specs.Kind as kind
 use Rattle.index.specs.Index.{starts}
 use Rattle.index.specs.Steps.{is_record, gives}
 use Rattle.index.proofs.Steps.{by_steps_of}
-use Rattle.regrown.proofs.Whole.{claim-end}
+use Rattle.regrown.proofs.Whole.{claim_end}
 use Rattle.room.specs.Room.{least}
 use Rattle.room.specs.Meaning.{records, walked_records, Bounds}
 
@@ -34,7 +34,7 @@ module _ (s : List ℕ) where
   made_turn at left on false true e f = omega (arith, leb-false (length s) at e)
   made_turn at left on false false e f =
       let before : at < length s = leb-false (length s) at e in
-      omega (arith, before, on (claim_at s at).next, moves-on s at before, moves-within s at before, eqb-false (claim_at s at).next at f)
+      omega (arith, before, on (claim_at s at).next, moves_on s at before, moves_within s at before, eqb-false (claim_at s at).next at f)
 
   made : (at left : ℕ) → length (steps_from s at left) ≤ length s - at
   unfolding steps_from
@@ -73,15 +73,15 @@ module _ (mode : Mode) (s : Bor (List ℕ)) where
       → (t : Option (Result AdsSymbolInfo Refusal)) → (step at).answer ≡ t
       → length (if is_record t then step at ∷ recorded (if end then [] else more) else recorded (if end then [] else more)) * 33 ≤ length s.now - at
   records_turn at more on true e (Some (Ok symbol)) f =
-      let stays : (claim_at s.now at).next ≡ at = ap (λ c. c.next) (claim-end s.now at (leb-true (length s.now) at e)) in
+      let stays : (claim_at s.now at).next ≡ at = ap (λ c. c.next) (claim_end s.now at (leb-true (length s.now) at e)) in
       absurd (omega (arith, long at symbol f, cursor_is at, stays))
   records_turn at more on true e (Some (Err why)) f = omega arith
   records_turn at more on true e None f = omega arith
   records_turn at more on false e (Some (Ok symbol)) f =
       let before : at < length s.now = leb-false (length s.now) at e in
-      omega (arith, on, long at symbol f, cursor_is at, moves-within s.now at before)
-  records_turn at more on false e (Some (Err why)) f = omega (arith, on, cursor_is at, moves-on s.now at (leb-false (length s.now) at e))
-  records_turn at more on false e None f = omega (arith, on, cursor_is at, moves-on s.now at (leb-false (length s.now) at e))
+      omega (arith, on, long at symbol f, cursor_is at, moves_within s.now at before)
+  records_turn at more on false e (Some (Err why)) f = omega (arith, on, cursor_is at, moves_on s.now at (leb-false (length s.now) at e))
+  records_turn at more on false e None f = omega (arith, on, cursor_is at, moves_on s.now at (leb-false (length s.now) at e))
 
   records_room : (at left : ℕ) → records (walk (step_at (symbol_of mode)) cursor_of s at left) * 33 ≤ length s.now - at
   unfolding walk records
@@ -119,7 +119,7 @@ module _ (mode : Mode) (s : Bor (List ℕ)) where
       turn false h = h
 
   pub starts_are : starts (pieces (symbol_of mode) s) ≡ filter (gives (symbol_of mode) s) (steps s.now)
-  starts_are = (by_steps_of (symbol_of mode) 30 kind.four (kind.short mode) (kind.never_zero mode)).starts-are s
+  starts_are = (by_steps_of (symbol_of mode) 30 kind.four (kind.short mode) (kind.never_zero mode)).starts_are s
 
   pub stored : length (starts (pieces (symbol_of mode) s)) ≡ walked_records mode s (bounded_walk s.now 0 (length s.now)).steps
   unfolding steps bounded_walk records

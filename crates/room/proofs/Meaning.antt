@@ -47,7 +47,7 @@ not_answered n why h (within l) = let e = room_within n l in absurd (let z : ◌
 not_answered n why h (above l) = let e = room_large n l in (l, cc)
 
 stopped_is : (mode : Mode) (s : Bor (List ℕ)) → stopped (pieces (symbol_of mode) s) ≡ list_any (stands s.now) (steps s.now)
-stopped_is mode s = (by_steps_of (symbol_of mode) 30 kind.four (kind.short mode) (kind.never_zero mode)).stopped-is s
+stopped_is mode s = (by_steps_of (symbol_of mode) 30 kind.four (kind.short mode) (kind.never_zero mode)).stopped_is s
 
 module _ (mode : Mode) (s : Bor (List ℕ)) (old new : List ℕ) (r : Result ℕ Refusal) (w : Writes (indexing (symbol_of mode) s) old new r) where
   -- with a slot for every entry of the least length that there is room for

@@ -9,7 +9,7 @@ use lib.Seq.{get_or-append-add}
 use borrow.Author.Tests.{le-leb, lt-leb}
 use Rattle.le.specs.Le as le
 use Rattle.le.specs.Le.{le2, le4}
-use Rattle.le.proofs.Inside.{part-whole}
+use Rattle.le.proofs.Inside.{part_whole}
 use Rattle.refusal.specs.Refusal.{limit}
 use Rattle.refusal.specs.EndBytes.{ended as ends_met}
 use Rattle.refusal.specs.declared.Mode.{Mode}
@@ -25,7 +25,7 @@ use Rattle.layout.specs.Layout.{guid_of}
 use Rattle.symbol.specs.Symbol.{attributes_of, extended_of, refactor_infos_of, with_strings, symbol_ended, ended_symbol, symbol_of}
 use Rattle.index.specs.Steps.{is_record, gives}
 use Rattle.regrown.specs.Regrown.{lying}
-use Rattle.regrown.proofs.Whole.{Whole, claim-whole}
+use Rattle.regrown.proofs.Whole.{Whole, claim_whole}
 
 -- no numbers, no flags, three empty strings
 abbrev smallest : List ℕ
@@ -110,7 +110,7 @@ module _ (mode : Mode) (s : Bor (List ℕ)) where
 module _ (mode : Mode) (m : ℕ × ℕ) (p q : List ℕ) (h : length (p ++ (smallest ++ q)) ≤ limit) where
   accepted_there : gives (symbol_of mode) (lying m (p ++ (smallest ++ q))) (length p) ≡ true
   unfolding step_at le.part
-  accepted_there = simp (claim-whole p smallest q smallest_whole h, part-whole p smallest q) (smallest_read mode _)
+  accepted_there = simp (claim_whole p smallest q smallest_whole h, part_whole p smallest q) (smallest_read mode _)
 
 pub gives_upload : (mode : Mode) (m : ℕ × ℕ) (k r left : ℕ) (p : List ℕ) → r < 33 → length (p ++ upload k r) ≤ limit → k * 33 + r ≤ left → Gives mode (lying m (p ++ upload k r)) (length p) left k
 unfolding upload
@@ -123,7 +123,7 @@ gives_upload mode m zero (suc r) (suc left) p few small most =
 gives_upload mode m (suc k) r zero p few small most = absurd (omega arith)
 gives_upload mode m (suc k) r (suc left) p few small most =
     let s : List ℕ = p ++ (smallest ++ upload k r) in
-    let next : (claim_at s (length p)).next ≡ length p + 33 = ap (λ c. c.next) (claim-whole p smallest (upload k r) smallest_whole small) in
+    let next : (claim_at s (length p)).next ≡ length p + 33 = ap (λ c. c.next) (claim_whole p smallest (upload k r) smallest_whole small) in
     let l = length-append p (smallest ++ upload k r) in
     let ih = simp (append_assoc, length-append p smallest) at (gives_upload mode m k r left (p ++ smallest) few (rw append_assoc small) (omega arith)) in
     gives_entry mode (lying m s) (length p) left k (length p + 33) (omega (arith, l, length-append smallest (upload k r))) next (λ z. omega (arith, z)) ih (accepted_there mode m p (upload k r) small)

@@ -6,8 +6,8 @@ use Rattle.std.specs.Prelude.{Option, Some, None, Ok, Err, is_ok}
 use borrow.Author.Tests.{ne_eqb}
 use Rattle.le.specs.Le.{le4}
 use Rattle.le.specs.Le as le
-use Rattle.le.proofs.Inside.{part-whole}
-use Rattle.le.proofs.Laws.{get_d_part, not-both}
+use Rattle.le.proofs.Inside.{part_whole}
+use Rattle.le.proofs.Laws.{get_d_part, not_both}
 use Rattle.part.specs.Slice.{part}
 use Rattle.part.specs.Outcome.{and_then}
 use Rattle.refusal.specs.Refusal.{limit}
@@ -22,8 +22,8 @@ use Rattle.walk.specs.Pieces.{piece_at, pieces_from, claim_there}
 use Rattle.walk.proofs.Left.{one_left, none_left}
 use Rattle.regrown.specs.Regrown.{Tells, Entry, End, lying}
 use Rattle.regrown.specs.Tells.{tells}
-use Rattle.regrown.proofs.Whole.{Whole, claim-whole}
-use Rattle.regrown.proofs.Walked.{told_from, tells-end, tells-entry}
+use Rattle.regrown.proofs.Whole.{Whole, claim_whole}
+use Rattle.regrown.proofs.Walked.{told_from, tells_end, tells_entry}
 use Rattle.salvage.specs.Salvage.{kept, dropped}
 
 -- the bytes of an entry are those of its claim, where they hold it
@@ -89,16 +89,16 @@ module _ {R S : Type 0} (read : Bor (List ℕ) → Result R Refusal) (length_of 
 
     by_read : (size : ℕ) (t : Result R Refusal) → (claim_at s.now at).size ≡ Some (Ok size) → read (part s at size) ≡ t → is_ok t ≡ true → Here s at
     by_read size (Ok r) e h k = record { size = size; back = r; claim = e; is = h }
-    by_read size (Err why) e h k = absurd (not-both k refl)
+    by_read size (Err why) e h k = absurd (not_both k refl)
 
     by_claim : (c : Option (Result ℕ Refusal)) → (claim_at s.now at).size ≡ c → is_ok (and_then (claim_there c) (λ size. read (part s at size))) ≡ true → Here s at
-    by_claim None e k = absurd (not-both k refl)
-    by_claim (Some (Err why)) e k = absurd (not-both k refl)
+    by_claim None e k = absurd (not_both k refl)
+    by_claim (Some (Err why)) e k = absurd (not_both k refl)
     by_claim (Some (Ok size)) e k = by_read size (read (part s at size)) e refl k
 
     by_stand : (b : Bool) → stands s.now at ≡ b → is_ok (piece_at read s at).answer ≡ true → Here s at
     unfolding piece_at
-    by_stand true e k = absurd (not-both k (simp e))
+    by_stand true e k = absurd (not_both k (simp e))
     by_stand false e k = by_claim (claim_at s.now at).size refl (simp e at k)
 
     pub here : is_ok (piece_at read s at).answer ≡ true → Here s at
@@ -117,12 +117,12 @@ module _ {R S : Type 0} (read : Bor (List ℕ) → Result R Refusal) (length_of 
     -- the walk over nothing but accepted entries tells their records, and then the end
     pub walk_laid : (p : List ℕ) (gs : List Good) → length (p ++ joined gs) ≤ limit → (spare : ℕ) → told_from read length_of told m (p ++ joined gs) (length p) (suc (length gs + spare)) ≡ laid (length p) gs
     unfolding joined laid
-    walk_laid p [] h spare = tells-end read length_of told m (p ++ []) (length p) (zero + spare) (simp append-nil (omega arith))
+    walk_laid p [] h spare = tells_end read length_of told m (p ++ []) (length p) (zero + spare) (simp append-nil (omega arith))
     walk_laid p (g ∷ gs) h spare =
         let each : (own : Bor (List ℕ)) (n : ℕ) → own.now ≡ g.bytes → tells length_of told (record { answer = Some (read own); cursor = record { at = n } }) ≡ Entry g.tells (length g.bytes) n =
         λ own n e. let b = g.reads own e in let l : length_of b.0 ≡ length g.bytes = long own b.0 b.1 ∙ ap length e in simp (b.1, l, b.2) in
         let ih = simp (append_assoc, length-append) at (walk_laid (p ++ g.bytes) gs (rw append_assoc h) spare) in
-        tells-entry read length_of told m p g.bytes (joined gs) (suc (length gs) + spare) g.tells g.whole h each ∙ simp (suc-add, ih)
+        tells_entry read length_of told m p g.bytes (joined gs) (suc (length gs) + spare) g.tells g.whole h each ∙ simp (suc-add, ih)
 
     -- a place where an accepted entry stands is accepted, and the entry is its piece
     module _ (p : List ℕ) (g : Good) (q : List ℕ) (h : length (p ++ (g.bytes ++ q)) ≤ limit) where
@@ -131,12 +131,12 @@ module _ {R S : Type 0} (read : Bor (List ℕ) → Result R Refusal) (length_of 
 
       own_there : (part all (length p) (length g.bytes)).now ≡ g.bytes
       unfolding le.part
-      own_there = part-whole p g.bytes q
+      own_there = part_whole p g.bytes q
 
       pub there : Here all (length p)
       there =
           let b = g.reads (part all (length p) (length g.bytes)) own_there in
-          record { size = length g.bytes; back = b.0; claim = ap (λ c. c.size) (claim-whole p g.bytes q g.whole h); is = b.1 }
+          record { size = length g.bytes; back = b.0; claim = ap (λ c. c.size) (claim_whole p g.bytes q g.whole h); is = b.1 }
 
       before : length p < length all.now
       before = simp length-append (omega (arith, g.whole.long))
@@ -152,7 +152,7 @@ module _ {R S : Type 0} (read : Bor (List ℕ) → Result R Refusal) (length_of 
       unfolding kept
       kept_there =
           let n : length p + length g.bytes - length p ≡ length g.bytes = omega arith in
-          rw left_there (simp (n, part-whole p g.bytes q))
+          rw left_there (simp (n, part_whole p g.bytes q))
 
       dropped_there : dropped (pieces_from read all (length p) (length all.now - length p)) ≡ dropped (pieces_from read all (length p + length g.bytes) (length all.now - (length p + length g.bytes)))
       unfolding dropped

@@ -7,7 +7,7 @@ use Rattle.std.proofs.lemmas.List.Elements.{All-nil, All-cons, All-head}
 use borrow.Author.Tests.{leb-false}
 use Rattle.le.specs.Le.{part}
 use Rattle.le.specs.Put.{put, Wrote}
-use Rattle.le.proofs.Laws.{put_then, put-none, length_part, same_bytes}
+use Rattle.le.proofs.Laws.{put_then, put_none, length_part, same_bytes}
 use Rattle.refusal.specs.Refusal.{figures_of}
 use Rattle.refusal.specs.declared.Refusal.{Refusal}
 use Rattle.walk.specs.declared.Piece.{Piece}
@@ -82,7 +82,7 @@ goes_on {old} {now} {new} {rest} {all} {at} {next} bs g w = record {
 }
 
 pub gone : {old now all : List ℕ} {at : ℕ} → Going old now at [] all → now ≡ put old 0 all
-gone {old} {now} {all} {at} g = sym (put-none now at) ∙ g.is
+gone {old} {now} {all} {at} g = sym (put_none now at) ∙ g.is
 
 -- what is left, behind a piece
 module _ {R : Type 0} (s : List ℕ) {left rest : List (Piece R)} {p : Piece R} (turn : left ≡ p ∷ rest) where

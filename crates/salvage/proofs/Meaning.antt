@@ -9,7 +9,7 @@ use Rattle.std.specs.Prelude.{Some, Ok, Err, is_ok, leb, ltb, if◌then◌else�
 use borrow.Author.Tests.{leb-true, leb-false, ltb-false, le-ltb, lt-ltb, eqb-true}
 use Rattle.le.specs.Le.{le4}
 use Rattle.le.specs.Le as le
-use Rattle.le.proofs.Laws.{not-both, drop-part}
+use Rattle.le.proofs.Laws.{not_both, drop_part}
 use Rattle.part.specs.Slice.{part}
 use Rattle.refusal.specs.Refusal.{limit, figures_of}
 use Rattle.refusal.specs.declared.Refusal.{Refusal}
@@ -92,7 +92,7 @@ module _ {R S : Type 0} (read : Bor (List ℕ) → Result R Refusal) (length_of 
       piece = λ z. simp z (simp (e, h));
       reason = own (part s at n) why h;
     }
-    by_own n (Ok r) e f h false k off = absurd (not-both (simp k (simp (e, h))) off)
+    by_own n (Ok r) e f h false k off = absurd (not_both (simp k (simp (e, h))) off)
     by_own n (Ok r) e f h true k off =
         let z : n ≡ 0 = omega (arith, f, eqb-true (claim_at s.now at).next at k) in
         let l : length (part s at n).now ≤ n = omega (arith, length-take n (drop at s.now)) in
@@ -113,7 +113,7 @@ module _ {R S : Type 0} (read : Bor (List ℕ) → Result R Refusal) (length_of 
     passed_own : (p n : ℕ) (more : List (Tells S)) (t : Result R Refusal) → (claim_at s.now at).size ≡ Some (Ok n) → (claim_at s.now at).next ≡ at + n → read (part s at n) ≡ t → (b : Bool) → stands s.now at ≡ b → is_ok (piece_at read s at).answer ≡ false → relaid p (tell s at ∷ more) ≡ relaid p more
     unfolding step_at piece_at relaid
     passed_own p n more (Err why) e f h b k off = simp (e, h)
-    passed_own p n more (Ok r) e f h false k off = absurd (not-both (simp k (simp (e, h))) off)
+    passed_own p n more (Ok r) e f h false k off = absurd (not_both (simp k (simp (e, h))) off)
     passed_own p n more (Ok r) e f h true k off =
         let z : n ≡ 0 = omega (arith, f, eqb-true (claim_at s.now at).next at k) in
         let l : length (part s at n).now ≤ n = omega (arith, length-take n (drop at s.now)) in
@@ -210,7 +210,7 @@ module _ {R S : Type 0} (read : Bor (List ℕ) → Result R Refusal) (length_of 
 
     kept_off : (at : ℕ) (l : List ℕ) (t : Result R Refusal) → (piece_at read s at).answer ≡ t → is_ok t ≡ false → kept s.now (piece_at read s at ∷ map (piece_at read s) l) ≡ kept s.now (map (piece_at read s) l)
     unfolding kept
-    kept_off at l (Ok r) e k = absurd (not-both refl k)
+    kept_off at l (Ok r) e k = absurd (not_both refl k)
     kept_off at l (Err why) e k = simp e
 
     says_on : (at p : ℕ) (more : List (Tells S)) (x : Here s at) → relaid p (tell s at ∷ more) ≡ Entry (told x.back) x.size (p + x.size) ∷ relaid (p + x.size) more
@@ -261,7 +261,7 @@ module _ {R S : Type 0} (read : Bor (List ℕ) → Result R Refusal) (length_of 
   -- and where nothing was dropped, it is the upload
   cover_all : {at : ℕ} {more new runs : List ℕ} → Cover read length_of told Reason s at more new runs → runs ≡ [] → new ≡ drop at s.now
   cover_all meaning.done e = sym (drop_of_length-le s.now {i = length s.now} (omega arith))
-  cover_all (meaning.entry {at = at} {long = long} h t c) e = ap (λ (l : List ℕ). le.part s.now at long ++ l) (cover_all c e) ∙ sym (drop-part s.now at long)
+  cover_all (meaning.entry {at = at} {long = long} h t c) e = ap (λ (l : List ℕ). le.part s.now at long ++ l) (cover_all c e) ∙ sym (drop_part s.now at long)
   cover_all (meaning.run h t r c) e = absurd (no_run _ _ e)
   cover_all (meaning.zero_claim h t x c) e = absurd (no_run _ _ e)
 

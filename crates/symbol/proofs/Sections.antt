@@ -5,7 +5,7 @@ use Rattle.std.specs.Bool.{beq}
 use borrow.Author.Tests.{eqb-true, ltb-true, ltb-false, le-leb}
 use lib.Seq.{take-append_seam, drop-append_seam}
 use Rattle.le.specs.Le.{le2, le4}
-use Rattle.le.proofs.Laws.{le2-bytes2, le4-bytes4}
+use Rattle.le.proofs.Laws.{le2_bytes2, le4_bytes4}
 use Rattle.part.specs.Slice.{after}
 use Rattle.refusal.specs.EndBytes.{ended}
 use Rattle.flags.specs.declared.symbol_flags.AdsSymbol2Flags.{AdsSymbol2Flags}
@@ -55,7 +55,7 @@ pub record IsExtendedBack (s : Bor (List ℕ)) (flagged : Bool) (v : AdsSymbol2F
 pub extended_back : (s : Bor (List ℕ)) (flagged : Bool) (v : AdsSymbol2Flags) (rest : List ℕ) → v.0 < 4294967296 → (if flagged then true else eqb v.0 0) ≡ true → s.now ≡ extended_bytes flagged v.0 ++ rest → IsExtendedBack s flagged v rest
 unfolding extended_of
 extended_back s true v rest l f h =
-    let n : le4 s.now 0 ≡ v.0 = rw h (le4-bytes4 v.0 rest l) in
+    let n : le4 s.now 0 ≡ v.0 = rw h (le4_bytes4 v.0 rest l) in
     let d : drop 4 s.now ≡ rest = simp h in
     let b : leb 4 (length s.now) ≡ true = le-leb 4 (length s.now) (simp h (omega arith)) in
     record { is = simp (b, n); word = simp (b, n); rest_is = simp (b, d) }
@@ -75,7 +75,7 @@ pub attributes_back : (s : Bor (List ℕ)) (flagged : Bool) (count : ℕ) (block
     → s.now ≡ attributes_bytes flagged count block.now ++ rest → IsAttributesBack s flagged count block rest
 unfolding attributes_of attributes_bytes
 attributes_back s true count block rest l g f h =
-    let c : le2 s.now 0 ≡ count = rw h (le2-bytes2 count (block.now ++ rest) l) in
+    let c : le2 s.now 0 ≡ count = rw h (le2_bytes2 count (block.now ++ rest) l) in
     let b : leb 2 (length s.now) ≡ true = le-leb 2 (length s.now) (simp h (omega arith)) in
     let d : drop 2 s.now ≡ block.now ++ rest = simp h in
     let r = attribute-again.blocks_read count block (after s 2) rest g d in

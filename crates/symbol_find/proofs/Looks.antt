@@ -6,8 +6,7 @@ use lib.ListN.{length-take, length-drop}
 use lib.Seq.{drop-drop, get_or-drop}
 use borrow.Author.Tests.{le-ltb, lt-ltb, ltb-true, ltb-false, eqb-true, eqb-false, eq-eqb}
 use Rattle.le.specs.Le.{le2, part}
-use Rattle.le.proofs.Laws.{length_part, le2-part, part-part, not-both}
-use Rattle.le.proofs.Same.{same-so-far}
+use Rattle.le.proofs.Laws.{length_part, le2_part, part_part, not_both}
 use Rattle.part.specs.Slice as slice
 use Rattle.part.specs.Outcome.{and_then}
 use Rattle.refusal.specs.declared.Mode.{Mode}
@@ -42,9 +41,14 @@ pub looks_short : (e name : List ℕ) → length e < 30 + length name → looks_
 unfolding looks_named
 looks_short e name h = simp (lt-ltb (length e) (30 + length name) h)
 
+-- a test, and nothing more
+alone : (p : Bool) → (if p then true else false) ≡ p
+alone true = refl
+alone false = refl
+
 pub looks_none : (e name : List ℕ) → 30 + length name ≤ length e → length name ≡ 0 → looks_named e name ≡ eqb (le2 e 24) 0
 unfolding looks_named
-looks_none e name h z = simp (le-ltb (length e) (30 + length name) h, ends_none e name 30 z) (same-so-far (eqb (le2 e 24) (length name)) ∙ ap (eqb (le2 e 24)) z)
+looks_none e name h z = simp (le-ltb (length e) (30 + length name) h, ends_none e name 30 z) (alone (eqb (le2 e 24) (length name)) ∙ ap (eqb (le2 e 24)) z)
 
 -- two numbers in one
 both_by : (x n a b : ℕ) → a < 32 → b < 32 → (p q : Bool) → eqb x n ≡ p → eqb a b ≡ q → eqb (x * 32 + a) (n * 32 + b) ≡ (if p then q else false)
@@ -76,7 +80,7 @@ unfolding looks_named
 looked_room e name h = by (ltb (length e) (30 + length name)) refl h
   where
     by : (few : Bool) → ltb (length e) (30 + length name) ≡ few → (if few then false else if eqb (le2 e 24) (length name) then ends_near (part e 30 (length name)) name else false) ≡ true → 30 + length name ≤ length e
-    by true f h = absurd (not-both h refl)
+    by true f h = absurd (not_both h refl)
     by false f h = ltb-false (length e) (30 + length name) f
 
 module _ (e name : List ℕ) (there : 33 + le2 e 24 ≤ length e) where
@@ -121,8 +125,8 @@ looks_more k l name h =
     let r = looked_room (take k l) name h in
     let m = length-take k l in
     let u : 30 + length name ≤ k = omega (arith, r, m) in
-    let e = le2-part l 0 k 24 (omega arith) in
-    let p = part-part l 0 k 30 (length name) u in
+    let e = le2_part l 0 k 24 (omega arith) in
+    let p = part_part l 0 k 30 (length name) u in
     simp (le-ltb (length l) (30 + length name) (omega (arith, r, m))) (simp (le-ltb (length (take k l)) (30 + length name) r, e, p) at h)
 
 -- the bytes of an upload from a place on
@@ -161,7 +165,7 @@ module _ (mode : Mode) (s : Bor (List ℕ)) (name : List ℕ) (at : ℕ) where
   own_named h size true e =
       let r = looked_room (take size (drop at s.now)) name e in
       let u : 30 + length name ≤ size = omega (arith, r, length-take size (drop at s.now)) in
-      let p = part-part (drop at s.now) 0 size 30 (length name) u ∙ part_from s.now name at in
+      let p = part_part (drop at s.now) 0 size 30 (length name) u ∙ part_from s.now name at in
       named_otherwise mode (slice.part s at size) name e (ap (λ (l : List ℕ). same_name l name) p ∙ h)
 
   -- at a place where an entry that is met has not the name, the step gives no symbol of the name

@@ -4,7 +4,7 @@ use Rattle.std.specs.Prelude.{ltb, ◌||◌, filter, take, Option, Some, None, R
 use Rattle.std.specs.List.{find as first_of, list_any}
 use Rattle.std.proofs.lemmas.List.Elements.{All-nil, All-cons, All-head, All-tail}
 use borrow.Author.Tests.{le-ltb, ltb-false, lt-ltb}
-use Rattle.le.proofs.Laws.{not-both}
+use Rattle.le.proofs.Laws.{not_both}
 use Rattle.refusal.specs.Refusal.{limit}
 use Rattle.refusal.specs.declared.Mode.{Mode}
 use Rattle.refusal.specs.declared.Refusal.{Refusal}
@@ -58,7 +58,7 @@ module _ (test : ℕ → Bool) (other : Refusal) where
   first_at (x ∷ before) behind at h e = turn (λ k. first_at before behind at k e) (test x) h
     where
       turn : (list_any test before ≡ false → first_of test (before ++ (at ∷ behind)) ≡ Some at) → (t : Bool) → (t || list_any test before) ≡ false → (if t then Some x else first_of test (before ++ (at ∷ behind))) ≡ Some at
-      turn on true k = absurd (not-both refl k)
+      turn on true k = absurd (not_both refl k)
       turn on false k = on k
 
   first_none : (places : List ℕ) → list_any test places ≡ false → first_of test places ≡ None
@@ -66,7 +66,7 @@ module _ (test : ℕ → Bool) (other : Refusal) where
   first_none (x ∷ more) h = turn (first_none more) (test x) h
     where
       turn : (list_any test more ≡ false → first_of test more ≡ None) → (t : Bool) → (t || list_any test more) ≡ false → (if t then Some x else first_of test more) ≡ None
-      turn on true k = absurd (not-both refl k)
+      turn on true k = absurd (not_both refl k)
       turn on false k = on k
 
 within : (b : Bool) (large : Refusal) (y : Result ℕ Refusal) (at : ℕ) → (if b then Err large else y) ≡ Ok at → y ≡ Ok at
@@ -80,8 +80,8 @@ module _ (mode : Mode) (s : Bor (List ℕ)) (name : List ℕ) where
   has_of at h = by (step_at (symbol_of mode) s at).answer refl h
     where
       by : (t : Option (Result AdsSymbolInfo Refusal)) → (step_at (symbol_of mode) s at).answer ≡ t → has_name name t ≡ true → HasName mode s name at
-      by None e h = absurd (not-both h refl)
-      by (Some (Err why)) e h = absurd (not-both h refl)
+      by None e h = absurd (not_both h refl)
+      by (Some (Err why)) e h = absurd (not_both h refl)
       by (Some (Ok symbol)) e h =
           let r = reads (symbol_of mode) 30 (λ r. r.length) kind.four (kind.long mode) (kind.room mode) s at symbol e in
           record { symbol = symbol; read = r.answers; named = same_of name symbol h }
@@ -96,8 +96,8 @@ module _ (mode : Mode) (s : Bor (List ℕ)) (name : List ℕ) where
   nowhere_of (x ∷ more) small h = turn (nowhere_of more small) (is_named mode s name x) refl h
     where
       turn : (list_any (is_named mode s name) more ≡ false → Nowhere mode s name more) → (t : Bool) → is_named mode s name x ≡ t → (t || list_any (is_named mode s name) more) ≡ false → Nowhere mode s name (x ∷ more)
-      turn on true e k = absurd (not-both refl k)
-      turn on false e k = All-cons (λ at. ¬ HasName mode s name at) x more (λ has. not-both (named_of x small has) e) (on k)
+      turn on true e k = absurd (not_both refl k)
+      turn on false e k = All-cons (λ at. ¬ HasName mode s name at) x more (λ has. not_both (named_of x small has) e) (on k)
 
   none_named : (places : List ℕ) → Nowhere mode s name places → list_any (is_named mode s name) places ≡ false
   none_named [] h = refl
@@ -186,7 +186,7 @@ module _ (test weaker : ℕ → Bool) (passes : (at : ℕ) → test at ≡ true 
       turn : first_of test (filter weaker more) ≡ first_of test more → (t w : Bool) → test x ≡ t → weaker x ≡ w → first_of test (if w then x ∷ filter weaker more else filter weaker more) ≡ (if t then Some x else first_of test more)
       turn on true true e f = simp e
       turn on false true e f = simp e on
-      turn on true false e f = absurd (not-both (passes x e) f)
+      turn on true false e f = absurd (not_both (passes x e) f)
       turn on false false e f = on
 
 named_gives : (mode : Mode) (s : Bor (List ℕ)) (name : List ℕ) (at : ℕ) → is_named mode s name at ≡ true → gives (symbol_of mode) s at ≡ true
@@ -201,6 +201,6 @@ unfolding find find_indexed
 same_find mode s old new n w name =
     let steps_are = symbols_by_steps mode in
     let b = built (symbol_of mode) s old new n w in
-    let slots : take n new ≡ filter (gives (symbol_of mode) s) (steps s.now) = b.first ∙ steps_are.starts-are s in
-    let none : list_any (stands s.now) (steps s.now) ≡ false = sym (steps_are.stopped-is s) ∙ b.none_stood in
+    let slots : take n new ≡ filter (gives (symbol_of mode) s) (steps s.now) = b.first ∙ steps_are.starts_are s in
+    let none : list_any (stands s.now) (steps s.now) ≡ false = sym (steps_are.stopped_is s) ∙ b.none_stood in
     simp (le-ltb limit (length s.now) b.small, none, slots, first_filter (is_named mode s name) (gives (symbol_of mode) s) (named_gives mode s name) (steps s.now))

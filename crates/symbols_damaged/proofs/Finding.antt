@@ -79,7 +79,7 @@ among_middle (x ∷ before) at behind = among_rest x (before ++ (at ∷ behind))
 module _ (mode : Mode) (s : Bor (List ℕ)) where
   slots_are : {a : List ℕ} → IsIndex mode s a → (x : ℕ) → among a x ≡ true → among (steps s.now) x ≡ true
   slots_are (built_of {old} {new} {n} w) x h =
-      let is = (built (symbol_of mode) s old new n w).first ∙ (symbols_by_steps mode).starts-are s in
+      let is = (built (symbol_of mode) s old new n w).first ∙ (symbols_by_steps mode).starts_are s in
       among_filter (gives (symbol_of mode) s) (steps s.now) x (ap (λ (l : List ℕ). among l x) (sym is) ∙ h)
 
   as_without : (name : List ℕ) {a : List ℕ} → IsIndex mode s a → find_indexed mode s a name ≡ find mode s name

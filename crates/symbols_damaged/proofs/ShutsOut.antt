@@ -8,7 +8,7 @@ use lib.Seq.{get_or-set_other}
 use lib.ListN.{length-take, length-drop}
 use Rattle.le.specs.Le.{le2, le4}
 use Rattle.le.specs.Le as le
-use Rattle.le.proofs.Laws.{not-both, get_d_part}
+use Rattle.le.proofs.Laws.{not_both, get_d_part}
 use Rattle.part.specs.Slice.{part}
 use Rattle.part.specs.Outcome.{and_then}
 use Rattle.refusal.specs.Refusal.{limit}
@@ -98,7 +98,7 @@ abbrev bad : List ℕ
 bad = set good 30 1
 
 one_of : (x p : ℕ) → among (x ∷ []) p ≡ true → p ≡ x
-one_of x p h = elim (among_cases x [] p h) [ inl e ↦ sym e | inr k ↦ absurd (not-both k refl) ]
+one_of x p h = elim (among_cases x [] p h) [ inl e ↦ sym e | inr k ↦ absurd (not_both k refl) ]
 
 whole : (p : ℕ) → (p ≡ 0) → IsWhole good p
 unfolding le4 claim_at steps steps_from
@@ -126,7 +126,7 @@ unfolding le2 le4 claim_at step_at folded same_name guid_of attributes_of extend
 bad_not = refl
 
 none_has : (s : List ℕ) → length s ≤ limit → is_named Checked (lying s) (65 ∷ []) 0 ≡ false → (p : ℕ) → among (0 ∷ []) p ≡ true → HasName Checked (lying s) (65 ∷ []) p → ⊥
-none_has s small other p q h = not-both (named_of Checked (lying s) (65 ∷ []) 0 small (subst (HasName Checked (lying s) (65 ∷ [])) (one_of 0 p q) h)) other
+none_has s small other p q h = not_both (named_of Checked (lying s) (65 ∷ []) 0 small (subst (HasName Checked (lying s) (65 ∷ [])) (one_of 0 p q) h)) other
 
 found_or : Result ℕ Refusal → ℕ
 found_or (Ok at) = at

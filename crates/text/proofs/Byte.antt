@@ -167,8 +167,8 @@ sum_some p b a (inside l m f) q h below =
     let r : 128 + (b - 128) ≡ b = omega arith in
     ap (sum_to 32) (sym q ∙ f) ∙ sum_here (b - 128) (omega arith) ∙ r
 
-pub sum-is : (p : ℕ) → 128 ≤ p → IsApart p → sum_to 32 p ≡ unwrap_or (byte_of p) 0
-sum-is p h a = by (byte_of p) refl
+pub sum_is : (p : ℕ) → 128 ≤ p → IsApart p → sum_to 32 p ≡ unwrap_or (byte_of p) 0
+sum_is p h a = by (byte_of p) refl
   where
     by : (f : Option ℕ) → byte_of p ≡ f → sum_to 32 p ≡ unwrap_or f 0
     by (Some b) e = sum_some p b a (kind b) (byte_sound e).0 h (byte_sound e).1

@@ -7,7 +7,7 @@ use borrow.Author.Tests.{le-leb, lt-leb, leb-false, eqb-false}
 use Rattle.refusal.specs.declared.Refusal.{Refusal}
 use Rattle.entry.specs.Entry.{claim_at}
 use Rattle.entry.specs.Walk.{stands}
-use Rattle.entry.proofs.Claims.{moves-on, moves-within}
+use Rattle.entry.proofs.Claims.{moves_on, moves_within}
 use Rattle.refusal.specs.declared.Mode.{Mode}
 use Rattle.walk.specs.declared.Walker.{Walker}
 use Rattle.walk.specs.Pieces.{piece_at, pieces_from, NextGives}
@@ -17,7 +17,7 @@ module _ {R : Type 0} (read : Bor (List ℕ) → Result R Refusal) (s : Bor (Lis
   ends : (at : ℕ) → at < length s.now → (b : Bool) → stands s.now at ≡ b → (at < (piece_at read s at).end) × ((piece_at read s at).end ≤ length s.now)
   unfolding piece_at
   ends at h true e = simp e (h, omega arith)
-  ends at h false e = simp e (omega (arith, moves-on s.now at h, eqb-false (claim_at s.now at).next at e), moves-within s.now at h)
+  ends at h false e = simp e (omega (arith, moves_on s.now at h, eqb-false (claim_at s.now at).next at e), moves_within s.now at h)
 
   pub piece_ends : (at : ℕ) → at < length s.now → (at < (piece_at read s at).end) × ((piece_at read s at).end ≤ length s.now)
   piece_ends at h = ends at h (stands s.now at) refl

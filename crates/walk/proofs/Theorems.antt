@@ -14,7 +14,7 @@ use Rattle.entry.specs.Walk.{stands, steps_from, steps, OneWalk}
 use Rattle.entry.specs.Claims.{Claims, ended, large, short, beyond, entry}
 use Rattle.entry.proofs.Claims.{meets, claims}
 use Rattle.entry.proofs.Direct.{part_long, claims_own, own_again}
-use Rattle.entry.proofs.Laws.{one-walk}
+use Rattle.entry.proofs.Laws.{one_walk}
 use Rattle.walk.specs.Step.{step_at}
 use Rattle.walk.specs.Pieces.{piece_at, pieces_from, claim_there}
 use Rattle.walk.proofs.Left.{none_left, piece_starts}
@@ -23,7 +23,7 @@ use Rattle.walk.specs.Theorems.{cursor_of, Reads, PiecesAreSteps, PiecesTellStep
 module _ {R : Type 0} (read : Bor (List ℕ) → Result R Refusal) where
   pub walk_is : OneWalk (step_at read) cursor_of
   unfolding step_at
-  walk_is = one-walk (step_at read) cursor_of (λ s at. refl)
+  walk_is = one_walk (step_at read) cursor_of (λ s at. refl)
 
   end_stands : (s : Bor (List ℕ)) (at : ℕ) → stands s.now at ≡ true → (piece_at read s at).end ≡ length s.now
   unfolding piece_at
@@ -55,11 +55,11 @@ module _ {R : Type 0} (read : Bor (List ℕ) → Result R Refusal) where
       (long : (e : Bor (List ℕ)) (r : R) → read e ≡ Ok r → length_of r ≡ length e.now)
       (room : (e : Bor (List ℕ)) (r : R) → read e ≡ Ok r → header ≤ length e.now)
       (s : Bor (List ℕ)) (at : ℕ) (r : R) where
-    by-claim : (c : Option (Result ℕ Refusal)) → (claim_at s.now at).size ≡ c → option_map (λ claim. and_then claim (λ size. read (part s at size))) c ≡ Some (Ok r) → Reads header read length_of s at r
+    by_claim : (c : Option (Result ℕ Refusal)) → (claim_at s.now at).size ≡ c → option_map (λ claim. and_then claim (λ size. read (part s at size))) c ≡ Some (Ok r) → Reads header read length_of s at r
     unfolding step_at
-    by-claim None e h = cc
-    by-claim (Some (Err why)) e h = cc
-    by-claim (Some (Ok size)) e h =
+    by_claim None e h = cc
+    by_claim (Some (Err why)) e h = cc
+    by_claim (Some (Ok size)) e h =
         let own : Bor (List ℕ) = part s at size in
         let m = meets s.now at size e in
         let l : length own.now ≡ size = part_long s at size m.room in
@@ -75,7 +75,7 @@ module _ {R : Type 0} (read : Bor (List ℕ) → Result R Refusal) where
 
     pub reads : (step_at read s at).answer ≡ Some (Ok r) → Reads header read length_of s at r
     unfolding step_at
-    reads h = by-claim (claim_at s.now at).size refl h
+    reads h = by_claim (claim_at s.now at).size refl h
 
   answered : (s : Bor (List ℕ)) (at : ℕ) → at < length s.now → (c : Claimed) → Claims s.now at c
       → option_map (λ claim. and_then claim (λ size. read (part s at size))) c.size ≡ Some (and_then (claim_there c.size) (λ size. read (part s at size)))
@@ -85,21 +85,21 @@ module _ {R : Type 0} (read : Bor (List ℕ) → Result R Refusal) where
   answered s at h c (beyond a b d e) = refl
   answered s at h c (entry a b d e) = refl
 
-  by-stand : (s : Bor (List ℕ)) (at : ℕ) → at < length s.now → (b : Bool) → stands s.now at ≡ b → IsAsStep read s at
+  by_stand : (s : Bor (List ℕ)) (at : ℕ) → at < length s.now → (b : Bool) → stands s.now at ≡ b → IsAsStep read s at
   unfolding step_at piece_at
-  by-stand s at h true e = record {
+  by_stand s at h true e = record {
     begins = piece_starts read s at;
     moves = λ m. absurd (omega (arith, eqb-true (claim_at s.now at).next at e));
     stays = λ m. simp e (refl, refl);
   }
-  by-stand s at h false e = record {
+  by_stand s at h false e = record {
     begins = piece_starts read s at;
     moves = λ m. simp e (answered s at h (claim_at s.now at) (claims s.now at), refl);
     stays = λ m. absurd (eqb-false (claim_at s.now at).next at e m);
   }
 
   pub pieces_tell : PiecesTellSteps read
-  pieces_tell s at h = by-stand s at h (stands s.now at) refl
+  pieces_tell s at h = by_stand s at h (stands s.now at) refl
 
   module _ (header : ℕ) (four : 4 < header) (s : Bor (List ℕ)) (small : length s.now ≤ limit) (long : header ≤ le4 s.now 0) (there : le4 s.now 0 ≤ length s.now) where
     met : (c : Claimed) → Claims s.now 0 c → c.size ≡ Some (Ok (le4 s.now 0))

@@ -4,13 +4,13 @@ use native.Mathlib.Nat.{add-zero}
 use mathlib.Core.List.{append_assoc}
 use lib.Seq.{get_or-append-add}
 use Rattle.le.specs.Le.{part}
-use Rattle.le.proofs.Inside.{part-whole}
+use Rattle.le.proofs.Inside.{part_whole}
 use Rattle.writing.specs.Layout.{strings_bytes}
 use Rattle.writing.proofs.Entry.{length_strings}
 
 -- what stands behind so many bytes: a string, and an end byte
 string_at : (before string after : List ℕ) (at : ℕ) → length before ≡ at → part (before ++ (string ++ after)) at (length string) ≡ string
-string_at before string after at h = rw h at (part-whole before string after)
+string_at before string after at h = rw h at (part_whole before string after)
 
 zero_at : (before after : List ℕ) (at : ℕ) → length before ≡ at → get_or (before ++ (0 ∷ after)) at 0 ≡ 0
 zero_at before after at h = rw (add-zero, h) at (get_or-append-add before (0 ∷ after) 0 0)

@@ -4,7 +4,7 @@ use Rattle.std.specs.Prelude.{ltb}
 use borrow.Author.Tests.{ltb-true, ltb-false}
 use lib.Seq.{take_at, drop_at}
 use Rattle.le.specs.Le.{le2, part}
-use Rattle.le.proofs.Laws.{le2-bytes2, le4-bytes4}
+use Rattle.le.proofs.Laws.{le2_bytes2, le4_bytes4}
 use Rattle.refusal.specs.declared.Refusal.{Refusal}
 use Rattle.refusal.specs.Refusal.{limit}
 use Rattle.writing.specs.Checks.{strings_checked, room_checked}
@@ -72,11 +72,11 @@ lengths_laid name type comment h k l = record { name_length = omega arith; type_
 
 attributes_laid : (count : ℕ) (block : List ℕ) → count ≤ 65535 → AttributesLaid count block
 unfolding attributes_bytes
-attributes_laid count block h = record { count_is = le2-bytes2 count block (omega arith); block_is = refl; nothing = refl }
+attributes_laid count block h = record { count_is = le2_bytes2 count block (omega arith); block_is = refl; nothing = refl }
 
 entry_laid : (rest : List ℕ) → length rest + 4 ≤ 16777216 → EntryLaid rest
 unfolding entry_bytes
-entry_laid rest h = record { claims = le4-bytes4 (length rest + 4) rest (omega arith) ∙ omega arith; behind = refl }
+entry_laid rest h = record { claims = le4_bytes4 (length rest + 4) rest (omega arith) ∙ omega arith; behind = refl }
 
 pub layouts_meant : LayoutsMeant
 layouts_meant = record { strings = strings_laid; lengths = lengths_laid; attributes = attributes_laid; entry = entry_laid }

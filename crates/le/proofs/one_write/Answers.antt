@@ -1,4 +1,4 @@
-use Rattle.le.proofs.Place.{one_write}
+use Rattle.le.proofs.One.{one_write}
 use Rattle.le.proofs.one_write.Goals as goal
 
 pub returns : goal.returns

@@ -1,5 +1,5 @@
 use Rattle.std.proofs.Common.{◌≡◌, ℕ, ◌+◌, Option, unwrap_or, inl, inr, refl, sym, ap, ◌∙◌, arith, get_or, eqb, if◌then◌else◌}
-use Rattle.text.proofs.Byte.{sum_to, sum_step, sum-is, byte_high}
+use Rattle.text.proofs.Byte.{sum_to, sum_step, sum_is, byte_high}
 use Rattle.text.specs.Text.{points}
 use Rattle.text.proofs.encoder.byte_of.Goals.{then-p-ge160+else-p-lt256, else-p-ge160}
 use Rattle.text.proofs.encoder.byte_of.Goals as goal
@@ -24,4 +24,4 @@ returns c =
     let i : c.loop-i.i ≡ 32 = omega arith in
     c.loop-i.invariant.sum
     ∙ ap (λ (n : ℕ). sum_to n c.args.p) i
-    ∙ sum-is c.args.p c.requires (elim c.if-p-ge160.branch [ then-p-ge160+else-p-lt256 w ↦ inr w.if-p-lt256.false | else-p-ge160 w ↦ inl w.if-p-ge160.false ])
+    ∙ sum_is c.args.p c.requires (elim c.if-p-ge160.branch [ then-p-ge160+else-p-lt256 w ↦ inr w.if-p-lt256.false | else-p-ge160 w ↦ inl w.if-p-ge160.false ])
