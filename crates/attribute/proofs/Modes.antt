@@ -11,7 +11,7 @@ use Rattle.refusal.specs.declared.Refusal.{Refusal}
 use Rattle.refusal.proofs.EndsMeant.{zero_passes, passed_zero, first_refused}
 use Rattle.attribute.specs.declared.AdsAttribute.{AdsAttribute}
 use Rattle.attribute.specs.Attribute.{first_of, ends, alone}
-use Rattle.attribute.specs.Modes.{end_bytes, Modes, AttributesModes}
+use Rattle.attribute.specs.Modes.{end_bytes, Modes, TestedFirst, AttributesModes}
 use Rattle.attribute.proofs.Again.{n_of, v_of, here, fits, is_here, ends_here, length_name, length_value}
 
 -- the end bytes that are looked at are those of the attribute that is here
@@ -48,6 +48,18 @@ module _ {A : Type 0} (ends : A → List (ℕ × ℕ)) where
     refused_alike = λ why p. is ∙ p;
     first = λ a e p i. cc;
   }
+
+-- what is tested before it is read
+passed : {A : Type 0} (t : Result Unit Refusal) (p : Result A Refusal) (a : A) → and_then t (λ _. p) ≡ Ok a → (t ≡ Ok tt) × (p ≡ Ok a)
+passed (Ok u) p a h = (refl, h)
+passed (Err why) p a h = cc
+
+pub tested_first : {A : Type 0} (ends : List (ℕ × ℕ)) (checked present : Result A Refusal) → checked ≡ and_then (ended ends) (λ _. present) → TestedFirst ends checked present
+tested_first ends checked present m = record {
+  alike = λ z. m ∙ ap (λ (t : Result Unit Refusal). and_then t (λ _. present)) (zero_passes ends z);
+  first = λ b f. m ∙ ap (λ (t : Result Unit Refusal). and_then t (λ _. present)) (ap ended f.among ∙ first_refused f.before f.behind b f.zero f.not);
+  read = λ a h. let p = passed (ended ends) present a (sym m ∙ h) in (passed_zero ends p.0, p.1);
+}
 
 checked_is : (s : Bor (List ℕ)) (t : Bool) → ltb limit (length s.now) ≡ t → (w : Result (AdsAttribute × Bor (List ℕ)) Refusal) → first_of s ≡ w
     → alone Checked s ≡ and_then (alone Present s) (tested (end_bytes s.now))

@@ -16,6 +16,13 @@ pub record Modes {A : Type 0} (ends : A → List (ℕ × ℕ)) (checked present 
   pub refused_alike : (why : Refusal) → present ≡ Err why → checked ≡ Err why
   pub first : (a : A) (b : ℕ × ℕ) → present ≡ Ok a → FirstNot (ends a) b → checked ≡ Err (EndByte b.0 b.1)
 
+-- where all of these end bytes are 0 both modes answer alike; else the checked mode tells the first that is not, with its place. So what it reads has
+-- 0 in each of them, and is what the present mode reads
+pub record TestedFirst {A : Type 0} (ends : List (ℕ × ℕ)) (checked present : Result A Refusal) : Type 0 where
+  pub alike : AllZero ends → checked ≡ present
+  pub first : (b : ℕ × ℕ) → FirstNot ends b → checked ≡ Err (EndByte b.0 b.1)
+  pub read : (a : A) → checked ≡ Ok a → AllZero ends × (present ≡ Ok a)
+
 -- the end bytes of an attribute of these bytes, with their places: behind its name, then behind its value
 abbrev pub end_bytes : List ℕ → AdsAttribute → List (ℕ × ℕ)
 end_bytes s a =
