@@ -6,6 +6,7 @@ pub mod Written
 pub mod Fit
 pub mod Modes
 pub mod Inside
+pub mod Behind
 pub mod Asked
 pub mod Left
 pub mod Stopped

@@ -8,11 +8,10 @@ use Rattle.refusal.specs.EndBytes.{ended}
 use Rattle.refusal.specs.EndsMeant.{AllZero}
 use Rattle.refusal.specs.declared.Mode.TheVariants.{Present, Checked}
 use Rattle.refusal.specs.declared.Refusal.{Refusal}
-use Rattle.refusal.specs.declared.Refusal.TheVariants.{TooLarge}
 use Rattle.refusal.proofs.EndsMeant.{zero_passes, passed_zero, first_refused}
 use Rattle.attribute.specs.declared.AdsAttribute.{AdsAttribute}
 use Rattle.attribute.specs.Attribute.{first_of, ends, alone}
-use Rattle.attribute.specs.Modes.{end_bytes, Modes, AttributesModes}
+use Rattle.attribute.specs.Modes.{end_bytes, Modes, TestedFirst, AttributesModes}
 use Rattle.attribute.proofs.Again.{n_of, v_of, here, fits, is_here, ends_here, length_name, length_value}
 
 -- the end bytes that are looked at are those of the attribute that is here
@@ -23,42 +22,53 @@ ends_are s there = ends_here s 0 0 there ∙ rw (length_name s there, length_val
     at_places : (n v w : ℕ) → v ≡ w → ◌≡◌ {A = List (ℕ × ℕ)} ((0 + n, get_or s.now n 0) ∷ (0 + v, get_or s.now v 0) ∷ []) ((n, get_or s.now n 0) ∷ (w, get_or s.now w 0) ∷ [])
     at_places n v w e = rw (zero-add n, zero-add v, e) refl
 
--- in both modes a refusal is the same one, and an attribute is this one
-module _ (s : Bor (List ℕ)) (b : AdsAttribute) (present : alone Present s ≡ Ok b) (checked : alone Checked s ≡ and_then (ended (end_bytes s.now b)) (λ _. Ok b)) where
-  by_test : (t : Result Unit Refusal) → ended (end_bytes s.now b) ≡ t → (a : AdsAttribute) → and_then t (λ _. Ok b) ≡ Ok a → (alone Present s ≡ Ok a) × AllZero (end_bytes s.now a)
-  by_test (Err why) e a h = cc
-  by_test (Ok u) e a h =
-      let same : b ≡ a = cc in
-      (present ∙ ap Ok same, subst (λ c. AllZero (end_bytes s.now c)) same (passed_zero (end_bytes s.now b) e))
+-- where what the present mode accepts is tested by its end bytes
+module _ {A : Type 0} (ends : A → List (ℕ × ℕ)) where
+  abbrev pub tested : A → Result A Refusal
+  tested a = and_then (ended (ends a)) (λ _. Ok a)
 
-  accepted : Modes s
-  accepted = record {
-    ended = λ a h. by_test (ended (end_bytes s.now b)) refl a (sym checked ∙ h);
+  by_test : (b : A) (t : Result Unit Refusal) → ended (ends b) ≡ t → (a : A) → and_then t (λ _. Ok b) ≡ Ok a → (◌≡◌ {A = Result A Refusal} (Ok b) (Ok a)) × AllZero (ends a)
+  by_test b (Err why) e a h = cc
+  by_test b (Ok u) e a h = let same : b ≡ a = cc in (h, subst (λ c. AllZero (ends c)) same (passed_zero (ends b) e))
+
+  pub in_modes : (checked present : Result A Refusal) → checked ≡ and_then present tested → Modes ends checked present
+  in_modes checked (Ok b) is = record {
+    ended = λ a h. by_test b (ended (ends b)) refl a (sym is ∙ h);
     agree = λ a p z.
-        let same : b ≡ a = cc (sym present ∙ p) in
-        checked ∙ ap (λ (t : Result Unit Refusal). and_then t (λ _. Ok b)) (zero_passes (end_bytes s.now b) (subst (λ c. AllZero (end_bytes s.now c)) (sym same) z)) ∙ ap Ok same;
-    refused_alike = λ why p. let z : ◌≡◌ {A = Result AdsAttribute Refusal} (Ok b) (Err why) = sym present ∙ p in cc;
+        let same : b ≡ a = cc in
+        is ∙ ap (λ (t : Result Unit Refusal). and_then t (λ _. Ok b)) (zero_passes (ends b) (subst (λ c. AllZero (ends c)) (sym same) z)) ∙ p;
+    refused_alike = λ why p. cc;
     first = λ a e p i.
-        let same : b ≡ a = cc (sym present ∙ p) in
-        checked ∙ ap (λ (t : Result Unit Refusal). and_then t (λ _. Ok b)) (ap (λ c. ended (end_bytes s.now c)) same ∙ ap ended i.among ∙ first_refused i.before i.behind e i.zero i.not);
+        let same : b ≡ a = cc in
+        is ∙ ap (λ (t : Result Unit Refusal). and_then t (λ _. Ok b)) (ap (λ c. ended (ends c)) same ∙ ap ended i.among ∙ first_refused i.before i.behind e i.zero i.not);
+  }
+  in_modes checked (Err y) is = record {
+    ended = λ a h. let z : ◌≡◌ {A = Result A Refusal} (Err y) (Ok a) = sym is ∙ h in cc;
+    agree = λ a p z. cc;
+    refused_alike = λ why p. is ∙ p;
+    first = λ a e p i. cc;
   }
 
-module _ (s : Bor (List ℕ)) (y : Refusal) (present : alone Present s ≡ Err y) (checked : alone Checked s ≡ Err y) where
-  refused : Modes s
-  refused = record {
-    ended = λ a h. let z : ◌≡◌ {A = Result AdsAttribute Refusal} (Err y) (Ok a) = sym checked ∙ h in cc;
-    agree = λ a p z. let y : ◌≡◌ {A = Result AdsAttribute Refusal} (Err y) (Ok a) = sym present ∙ p in cc;
-    refused_alike = λ why p. checked ∙ sym present ∙ p;
-    first = λ a e p i. let z : ◌≡◌ {A = Result AdsAttribute Refusal} (Err y) (Ok a) = sym present ∙ p in cc;
-  }
+-- what is tested before it is read
+passed : {A : Type 0} (t : Result Unit Refusal) (p : Result A Refusal) (a : A) → and_then t (λ _. p) ≡ Ok a → (t ≡ Ok tt) × (p ≡ Ok a)
+passed (Ok u) p a h = (refl, h)
+passed (Err why) p a h = cc
 
-by_first : (s : Bor (List ℕ)) (t : Bool) → ltb limit (length s.now) ≡ t → (w : Result (AdsAttribute × Bor (List ℕ)) Refusal) → first_of s ≡ w → Modes s
-by_first s true l w f = refused s (TooLarge (length s.now)) (simp l) (simp l)
-by_first s false l (Err why) f = refused s why (simp (l, f)) (simp (l, f))
-by_first s false l (Ok p) f =
+pub tested_first : {A : Type 0} (ends : List (ℕ × ℕ)) (checked present : Result A Refusal) → checked ≡ and_then (ended ends) (λ _. present) → TestedFirst ends checked present
+tested_first ends checked present m = record {
+  alike = λ z. m ∙ ap (λ (t : Result Unit Refusal). and_then t (λ _. present)) (zero_passes ends z);
+  first = λ b f. m ∙ ap (λ (t : Result Unit Refusal). and_then t (λ _. present)) (ap ended f.among ∙ first_refused f.before f.behind b f.zero f.not);
+  read = λ a h. let p = passed (ended ends) present a (sym m ∙ h) in (passed_zero ends p.0, p.1);
+}
+
+checked_is : (s : Bor (List ℕ)) (t : Bool) → ltb limit (length s.now) ≡ t → (w : Result (AdsAttribute × Bor (List ℕ)) Refusal) → first_of s ≡ w
+    → alone Checked s ≡ and_then (alone Present s) (tested (end_bytes s.now))
+checked_is s true l w f = simp l
+checked_is s false l (Err why) f = simp (l, f)
+checked_is s false l (Ok p) f =
     let t = fits s p f in
     let g : first_of s ≡ Ok (here s) = f ∙ ap Ok (sym (is_here s p f)) in
-    accepted s (here s).0 (simp (l, g)) (simp (l, g, ends_are s t))
+    simp (l, g, ends_are s t)
 
 pub attributes_modes : AttributesModes
-attributes_modes s = by_first s (ltb limit (length s.now)) refl (first_of s) refl
+attributes_modes s = in_modes (end_bytes s.now) (alone Checked s) (alone Present s) (checked_is s (ltb limit (length s.now)) refl (first_of s) refl)

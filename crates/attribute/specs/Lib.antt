@@ -5,6 +5,7 @@ pub mod Writing
 pub mod Fit
 pub mod Modes
 pub mod Inside
+pub mod Behind
 pub mod Asked
 pub mod Stopped
 pub mod Laid

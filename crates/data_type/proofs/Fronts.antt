@@ -17,7 +17,8 @@ use Rattle.field.specs.Field.{joined}
 use Rattle.data_type.specs.DataType.{sub_items_of}
 use Rattle.data_type.specs.declared.members.Position.{Position}
 use Rattle.data_type.specs.Members.{below}
-use Rattle.data_type.specs.Layout.{strings_end, string_bytes, HasStrings, front, record_of}
+use Rattle.field.specs.Modes.{strings_end, string_bytes}
+use Rattle.data_type.specs.Layout.{HasStrings, front, record_of}
 use Rattle.data_type.specs.Stand.{under}
 use Rattle.part.proofs.Slice.{after_after}
 use Rattle.data_type.proofs.Parts.{bor}

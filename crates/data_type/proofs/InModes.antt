@@ -6,7 +6,6 @@ use Rattle.le.specs.Le.{le2, le4, has}
 use Rattle.part.specs.Slice.{part, after}
 use Rattle.part.specs.Outcome.{outcome, and_then}
 use Rattle.refusal.specs.EndBytes.{ended, in_mode}
-use Rattle.refusal.proofs.EndsMeant.{zero_passes, passed_zero, first_refused}
 use Rattle.refusal.specs.declared.Mode.{Mode}
 use Rattle.refusal.specs.declared.Mode.TheVariants.{Present, Checked}
 use Rattle.refusal.specs.declared.Refusal.{Refusal}
@@ -16,15 +15,17 @@ use Rattle.walk.specs.Step.{parse_of}
 use Rattle.field.specs.declared.front.Front.{Front}
 use Rattle.field.specs.Front.{with_strings, front_of}
 use Rattle.field.specs.Tail.{tail_of}
-use Rattle.field.proofs.Modes.{both}
+use Rattle.attribute.proofs.Behind.{ended_both}
+use Rattle.attribute.proofs.Modes.{tested_first}
 use Rattle.data_type.specs.declared.AdsDataTypeInfo.{AdsDataTypeInfo}
 use Rattle.data_type.specs.declared.array.ArrayInfos.{ArrayInfos}
 use Rattle.part.proofs.Outcome.{both_passed}
 use Rattle.data_type.specs.declared.reader.ReadSubItems.{ReadSubItems}
 use Rattle.field.specs.Field.{joined}
 use Rattle.data_type.specs.DataType.{ItemReader, sub_items_of, taken, items_from, arrays_of, type_with, too_deep, item_by, type_at, type_of}
-use Rattle.data_type.specs.Layout.{strings_end, arrays_end, string_bytes, HasStrings, front}
-use Rattle.data_type.specs.Ends.{tail_met, items_met, met_with, item_met, met_at, end_bytes, IsOfModes, TypesChecked}
+use Rattle.field.specs.Modes.{strings_end, string_bytes}
+use Rattle.data_type.specs.Layout.{arrays_end, HasStrings, front}
+use Rattle.data_type.specs.Ends.{tail_met, items_met, met_with, item_met, met_at, end_bytes, TypesChecked}
 use Rattle.part.specs.End.{IsEnd}
 use Rattle.part.proofs.Slice.{after_after, is_end, end_after}
 use Rattle.data_type.proofs.Numbers.{heads, fills}
@@ -51,7 +52,7 @@ then_by (Err why) p checked present ys h = refl
 then_met : {A B : Type 0} (c p : Result A Refusal) (xs : List (ℕ × ℕ)) (checked present : A → Result B Refusal) (ys : A → List (ℕ × ℕ)) → Met c xs p → ((a : A) → p ≡ Ok a → Met (checked a) (ys a) (present a))
     → Met (and_then c checked) (xs ++ outcome p ys (λ why. [])) (and_then p present)
 then_met c p xs checked present ys h k =
-    ap (λ (r : Result _ Refusal). and_then r checked) h ∙ then_by (ended xs) p checked present ys k ∙ ap (λ (t : Result Unit Refusal). and_then t (λ _. and_then p present)) (sym (both xs (outcome p ys (λ why. []))))
+    ap (λ (r : Result _ Refusal). and_then r checked) h ∙ then_by (ended xs) p checked present ys k ∙ ap (λ (t : Result Unit Refusal). and_then t (λ _. and_then p present)) (sym (ended_both xs (outcome p ys (λ why. []))))
 
 then_free : {A B : Type 0} (p : Result A Refusal) (checked present : A → Result B Refusal) (ys : A → List (ℕ × ℕ)) → ((a : A) → p ≡ Ok a → Met (checked a) (ys a) (present a))
     → Met (and_then p checked) (outcome p ys (λ why. [])) (and_then p present)
@@ -191,18 +192,5 @@ at_met (suc left) e =
 parsed_met : (s : Bor (List ℕ)) → Met (parse_of 42 (type_of Checked) s) (end_bytes s) (parse_of 42 (type_of Present) s)
 parsed_met s = then_free (claim_of 42 s.now) _ _ (λ size. met_at 15 (part s 0 size)) (λ size q. at_met 15 (part s 0 size))
 
--- what that says of the modes
-passed : (t : Result Unit Refusal) (p : Result AdsDataTypeInfo Refusal) (r : AdsDataTypeInfo) → and_then t (λ _. p) ≡ Ok r → (t ≡ Ok tt) × (p ≡ Ok r)
-passed (Ok u) p r h = (refl, h)
-passed (Err why) p r h = cc
-
-modes_of : (ends : List (ℕ × ℕ)) (checked present : Result AdsDataTypeInfo Refusal) → Met checked ends present → IsOfModes ends checked present
-modes_of ends checked present m =
-    record {
-      alike = λ z. m ∙ ap (λ (t : Result Unit Refusal). and_then t (λ _. present)) (zero_passes ends z);
-      first = λ b f. m ∙ ap (λ (t : Result Unit Refusal). and_then t (λ _. present)) (ap ended f.among ∙ first_refused f.before f.behind b f.zero f.not);
-      read = λ r h. let p = passed (ended ends) present r (sym m ∙ h) in (passed_zero ends p.0, p.1);
-    }
-
 pub types_checked : TypesChecked
-types_checked s = modes_of (end_bytes s) (parse_of 42 (type_of Checked) s) (parse_of 42 (type_of Present) s) (parsed_met s)
+types_checked s = tested_first (end_bytes s) (parse_of 42 (type_of Checked) s) (parse_of 42 (type_of Present) s) (parsed_met s)

@@ -14,7 +14,7 @@ use Rattle.data_type.specs.declared.AdsDataTypeInfo.{AdsDataTypeInfo}
 use Rattle.data_type.specs.declared.array.ArrayInfos.{ArrayInfos}
 use Rattle.data_type.specs.Array.{listed}
 use Rattle.data_type.specs.DataType.{arrays_of, type_of}
-use Rattle.data_type.specs.Layout.{strings_end}
+use Rattle.field.specs.Modes.{strings_end}
 use Rattle.data_type.specs.Theorems.{array_at, IsArrays, ArraysMeant}
 use Rattle.data_type.proofs.Arrays.{length_all}
 use Rattle.part.proofs.Slice.{length_part}

@@ -29,7 +29,8 @@ use Rattle.data_type.specs.DataType.{taken, items_from, item_at, arrays_of, type
 use Rattle.walk.specs.Mapped.{map_ok}
 use Rattle.data_type.specs.Members.{members_of}
 use Rattle.data_type.specs.List.{slots_of}
-use Rattle.data_type.specs.Layout.{strings_end, arrays_end, string_bytes, HasStrings, front}
+use Rattle.field.specs.Modes.{strings_end, string_bytes}
+use Rattle.data_type.specs.Layout.{arrays_end, HasStrings, front}
 use Rattle.data_type.specs.Refused.{Asked, Whole, Many, Claims, IsRefused, strings, ends, arrays, items, sections, deep, few, outside, below, first, later, IsRootRefused, TypesRefused}
 use Rattle.data_type.specs.Refused as refused
 use Rattle.data_type.proofs.Turns.{item_deep, item_untaken, item_unread, item_read}

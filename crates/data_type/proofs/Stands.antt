@@ -21,7 +21,8 @@ use Rattle.data_type.specs.declared.reader.ReadSubItems as items
 use Rattle.field.specs.Field.{joined}
 use Rattle.data_type.specs.DataType.{taken, items_from, item_at, arrays_of, sub_items_of, type_at, type_of}
 use Rattle.data_type.specs.Members.{root, below, members_below, members_of}
-use Rattle.data_type.specs.Layout.{strings_end, arrays_end, HasStrings, front, record_of}
+use Rattle.field.specs.Modes.{strings_end}
+use Rattle.data_type.specs.Layout.{arrays_end, HasStrings, front, record_of}
 use Rattle.data_type.specs.Stand.{under, What, Entry, Items, Stand, entry, none, item, IsRoot, TypesStand}
 use Rattle.data_type.proofs.Turns.{item_read}
 use Rattle.data_type.proofs.Entry.{is_read}

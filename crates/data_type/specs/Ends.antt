@@ -1,15 +1,13 @@
 -- docs/FORMAT.md, "Modes": the end bytes of a data type that are met, in order, each with its place in the entry that has it; in whichever mode, all else is alike.
-use Rattle.std.specs.Prelude.{ℕ, zero, suc, ◌+◌, ◌-◌, ◌≡◌, List, [], ◌∷◌, ◌++◌, Result, Ok, Err, leb, length, get_or, if◌then◌else◌}
+use Rattle.std.specs.Prelude.{ℕ, zero, suc, List, [], ◌++◌, leb, length, if◌then◌else◌}
 use Rattle.std.specs.Borrow.{Bor}
 use Rattle.le.specs.Le.{le2, le4, has}
 use Rattle.part.specs.Outcome.{outcome}
-use Rattle.refusal.specs.EndsMeant.{AllZero, FirstNot}
 use Rattle.refusal.specs.declared.Mode.TheVariants.{Present, Checked}
-use Rattle.refusal.specs.declared.Refusal.{Refusal}
-use Rattle.refusal.specs.declared.Refusal.TheVariants.{EndByte}
-use Rattle.attribute.specs.declared.AdsAttribute.{AdsAttribute}
 use Rattle.attribute.specs.declared.Attributes.{Attributes}
 use Rattle.attribute.specs.Attribute as attribute
+use Rattle.attribute.specs.Behind.{bytes_behind}
+use Rattle.attribute.specs.Modes.{TestedFirst}
 use Rattle.entry.specs.Entry.{claim_of}
 use Rattle.walk.specs.Step.{parse_of}
 use Rattle.part.specs.Slice.{part, after}
@@ -17,20 +15,12 @@ use Rattle.layout.specs.Layout.{guid_of}
 use Rattle.field.specs.Tail.{sections_of}
 use Rattle.data_type.specs.declared.AdsDataTypeInfo.{AdsDataTypeInfo}
 use Rattle.data_type.specs.DataType.{ItemReader, taken, items_from, too_deep, item_by, type_at, type_of}
-use Rattle.data_type.specs.Layout.{strings_end, arrays_end, string_bytes, front}
-
--- the byte of an entry behind a string that lies in it, with its place
-abbrev pub byte_behind : Bor (List ℕ) → Bor (List ℕ) → ℕ × ℕ
-byte_behind e s = let at : ℕ = s.ref_ptr.1 - e.ref_ptr.1 + length s.now in (at, get_or e.now at 0)
-
--- of attributes that lie in it: of each that behind its name, then that behind its value
-unfoldable pub attribute_bytes : Bor (List ℕ) → List AdsAttribute → List (ℕ × ℕ)
-attribute_bytes e [] = []
-attribute_bytes e (a ∷ more) = byte_behind e a.name ∷ byte_behind e a.value ∷ attribute_bytes e more
+use Rattle.field.specs.Modes.{strings_end, string_bytes}
+use Rattle.data_type.specs.Layout.{arrays_end, front}
 
 -- those of the attributes of an entry, up to one that is refused, from the bytes behind its sub-items on
 abbrev pub tail_met : Bor (List ℕ) → Bor (List ℕ) → List (ℕ × ℕ)
-tail_met e s = let a : Attributes = (sections_of (front e) (guid_of s (has (le4 e.now 28) 0x0080)).1).0 in attribute_bytes e (attribute.listed a.bytes a.count)
+tail_met e s = let a : Attributes = (sections_of (front e) (guid_of s (has (le4 e.now 28) 0x0080)).1).0 in bytes_behind e (attribute.listed a.bytes a.count)
 
 -- of so many sub-items, each met whole before the next, up to one that is refused
 unfoldable pub items_met : (Bor (List ℕ) → List (ℕ × ℕ)) → ItemReader → Bor (List ℕ) → ℕ → List (ℕ × ℕ)
@@ -59,12 +49,5 @@ met_at (suc left) e = met_with (item_met (met_at left)) (item_by (type_at Presen
 abbrev pub end_bytes : Bor (List ℕ) → List (ℕ × ℕ)
 end_bytes s = outcome (claim_of 42 s.now) (λ size. met_at 15 (part s 0 size)) (λ why. [])
 
--- where all of them are 0 both modes answer alike; else the checked mode tells the first that is not, with its place. So what it reads has
--- 0 in each of them, and is what the present mode reads
-pub record IsOfModes (ends : List (ℕ × ℕ)) (checked present : Result AdsDataTypeInfo Refusal) : Type 0 where
-  pub alike : AllZero ends → checked ≡ present
-  pub first : (b : ℕ × ℕ) → FirstNot ends b → checked ≡ Err (EndByte b.0 b.1)
-  pub read : (r : AdsDataTypeInfo) → checked ≡ Ok r → AllZero ends × (present ≡ Ok r)
-
 abbrev pub TypesChecked : Type 0
-TypesChecked = (s : Bor (List ℕ)) → IsOfModes (end_bytes s) (parse_of 42 (type_of Checked) s) (parse_of 42 (type_of Present) s)
+TypesChecked = (s : Bor (List ℕ)) → TestedFirst (end_bytes s) (parse_of 42 (type_of Checked) s) (parse_of 42 (type_of Present) s)

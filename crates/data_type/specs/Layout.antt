@@ -1,5 +1,5 @@
 -- docs/FORMAT.md, "Data type entries": what stands where in the bytes of an entry, by the numbers of its header.
-use Rattle.std.specs.Prelude.{ℕ, ◌+◌, ◌*◌, ◌≤◌, ◌≡◌, List, [], ◌∷◌, length, get_or}
+use Rattle.std.specs.Prelude.{ℕ, ◌+◌, ◌*◌, ◌≤◌, ◌≡◌, List, length}
 use Rattle.std.specs.Borrow.{Bor}
 use Rattle.le.specs.Le.{le2, le4}
 use Rattle.part.specs.Slice.{part, after}
@@ -9,23 +9,12 @@ use Rattle.refusal.specs.declared.Mode.TheVariants.{Checked}
 use Rattle.field.specs.declared.front.Front.{Front}
 use Rattle.field.specs.declared.tail.Tail.{Tail}
 use Rattle.field.specs.Front.{with_strings}
+use Rattle.field.specs.Modes.{strings_end, string_bytes}
 use Rattle.data_type.specs.declared.AdsDataTypeInfo.{AdsDataTypeInfo}
 
--- where the strings end, each with one end byte
-abbrev pub strings_end : List ℕ → ℕ
-strings_end s = 45 + le2 s 32 + le2 s 34 + le2 s 36
-
--- and the array records behind them, 8 bytes each
+-- where the array records behind the strings end, 8 bytes each
 abbrev pub arrays_end : List ℕ → ℕ
 arrays_end s = strings_end s + 8 * le2 s 38
-
--- the end bytes of name, type and comment, each with its place
-abbrev pub string_bytes : List ℕ → List (ℕ × ℕ)
-string_bytes s =
-    let name : ℕ = 42 + le2 s 32 in
-    let type : ℕ = name + 1 + le2 s 34 in
-    let comment : ℕ = type + 1 + le2 s 36 in
-    (name, get_or s name 0) ∷ (type, get_or s type 0) ∷ (comment, get_or s comment 0) ∷ []
 
 -- the strings are there, and in the checked mode each ends in 0
 pub record HasStrings (mode : Mode) (e : Bor (List ℕ)) : Type 0 where

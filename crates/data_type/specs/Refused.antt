@@ -15,7 +15,8 @@ use Rattle.data_type.specs.declared.members.Member.{Member}
 use Rattle.data_type.specs.declared.members.Position.{Position}
 use Rattle.data_type.specs.DataType.{type_of}
 use Rattle.data_type.specs.List.{members_written}
-use Rattle.data_type.specs.Layout.{strings_end, arrays_end, string_bytes, HasStrings}
+use Rattle.field.specs.Modes.{strings_end, string_bytes}
+use Rattle.data_type.specs.Layout.{arrays_end, HasStrings}
 use Rattle.data_type.specs.Stand.{Entry, Items, Stand}
 
 -- an entry in its own bytes; or so many sub-items at the start of some bytes

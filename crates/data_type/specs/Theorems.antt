@@ -10,7 +10,7 @@ use Rattle.data_type.specs.declared.AdsDataTypeInfo.{AdsDataTypeInfo}
 use Rattle.data_type.specs.declared.array.AdsArrayInfo.{AdsArrayInfo}
 use Rattle.data_type.specs.Array.{numbered}
 use Rattle.data_type.specs.DataType.{type_of}
-use Rattle.data_type.specs.Layout.{strings_end}
+use Rattle.field.specs.Modes.{strings_end}
 
 -- what this reader accepts the field reader accepts, with the record's field: both take the same bytes for array records, sub-items and tail
 abbrev pub TypesAsFields : Type 0

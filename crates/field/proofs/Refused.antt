@@ -6,6 +6,9 @@ use borrow.Author.Tests.{le-ltb, lt-ltb, ltb-true, ltb-false}
 use Rattle.le.specs.Le.{le2}
 use Rattle.part.specs.Slice.{after}
 use Rattle.part.specs.Outcome.{and_then}
+use Rattle.refusal.specs.EndBytes.{ended}
+use Rattle.refusal.specs.EndsMeant.{AllZero}
+use Rattle.refusal.proofs.EndsMeant.{ends_meant}
 use Rattle.refusal.specs.declared.Mode.{Mode}
 use Rattle.refusal.specs.declared.Mode.TheVariants.{Present, Checked}
 use Rattle.refusal.specs.declared.Refusal.{Refusal}
@@ -16,12 +19,10 @@ use Rattle.field.specs.Field.{field_of}
 use Rattle.field.specs.Kind.{short}
 use Rattle.field.specs.Laid.{Shows}
 use Rattle.field.specs.Placed.{attributes_at, attributes_there}
-use Rattle.field.specs.Ended.{IsEnded}
-use Rattle.field.specs.Modes.{strings_met}
+use Rattle.field.specs.Modes.{end_bytes}
 use Rattle.field.specs.Refused.{IsRefused, header, strings, end_byte, attribute, FieldsRefused}
 use Rattle.field.proofs.Placed.{read_there}
-use Rattle.field.proofs.Ended.{tested, passed, found}
-use Rattle.field.proofs.Modes.{is_of_modes, in_modes}
+use Rattle.field.proofs.Modes.{checked_is, fields_modes}
 
 module _ (e : Bor (List ℕ)) where
   abbrev needed : ℕ
@@ -32,19 +33,19 @@ module _ (e : Bor (List ℕ)) where
   no_strings mode h s = simp (le-ltb (length e.now) 42 h, s)
 
   -- whatever the mode, where the checked one finds no end byte that is not 0
-  in_mode : HasStrings e → (mode : Mode) → (mode ≡ Checked → All (IsEnded e) (strings_met e)) → field_of mode e ≡ field_of Present e
-  in_mode h Present a = refl
-  in_mode h Checked a = (is_of_modes e).alike h (a refl)
+  in_mode : (mode : Mode) → (mode ≡ Checked → AllZero (end_bytes e)) → field_of mode e ≡ field_of Present e
+  in_mode Present a = refl
+  in_mode Checked a = (fields_modes e).tested.alike (a refl)
 
   refused : (mode : Mode) (why : Refusal) → IsRefused mode e why → field_of mode e ≡ Err why
   refused mode why (header h) = short mode e h
   refused mode why (strings h s) = no_strings mode h (lt-ltb (length e.now) needed s)
-  refused mode why (end_byte h m s f) = ap (λ (x : Mode). field_of x e) m ∙ (is_of_modes e).first h s f
-  refused mode why (attribute h a t n w s) = in_mode h mode a ∙ (read_there e h).refused t n w s
+  refused mode why (end_byte m b f) = ap (λ (x : Mode). field_of x e) m ∙ (fields_modes e).tested.first b f
+  refused mode why (attribute h a t n w s) = in_mode mode a ∙ (read_there e h).refused t n w s
 
   -- an entry that has a header and strings, and that the present mode refuses
   module _ (mode : Mode) (why : Refusal) (h : HasStrings e) where
-    by_attribute : (mode ≡ Checked → All (IsEnded e) (strings_met e)) → field_of Present e ≡ Err why → IsRefused mode e why
+    by_attribute : (mode ≡ Checked → AllZero (end_bytes e)) → field_of Present e ≡ Err why → IsRefused mode e why
     by_attribute a p = by_there (attributes_there e.now) refl
       where
         by_shown : (t : attributes_there e.now ≡ true) (n : ℕ) (w : Option Refusal) → Shows (after e (attributes_at e.now + 2)) (le2 e.now (attributes_at e.now)) n w → IsRefused mode e why
@@ -58,16 +59,16 @@ module _ (e : Bor (List ℕ)) where
         by_there true t = let x = (read_there e h).some t in by_shown t x.n x.why x.shows
         by_there false t = let r = (read_there e h).without t in cc
 
-  by_test : (why : Refusal) (h : HasStrings e) (x : Result Unit Refusal) → tested e (strings_met e) ≡ x → and_then x (λ _. field_of Present e) ≡ Err why → IsRefused Checked e why
-  by_test why h (Ok u) t p = by_attribute Checked why h (λ m. passed e (strings_met e) t) p
+  by_test : (why : Refusal) → HasStrings e → (x : Result Unit Refusal) → ended (end_bytes e) ≡ x → and_then x (λ _. field_of Present e) ≡ Err why → IsRefused Checked e why
+  by_test why h (Ok u) t p = by_attribute Checked why h (λ m. (ends_meant (end_bytes e)).passed t) p
   by_test why h (Err w) t p =
-      let f = found e (strings_met e) w t in
+      let f = (ends_meant (end_bytes e)).refused w t in
       let same : w ≡ why = cc in
-      subst (IsRefused Checked e) (sym f.is ∙ same) (end_byte h refl f.s f.first)
+      subst (IsRefused Checked e) (sym f.1.1 ∙ same) (end_byte refl f.0 f.1.0)
 
   by_mode : (mode : Mode) (why : Refusal) → HasStrings e → field_of mode e ≡ Err why → IsRefused mode e why
   by_mode Present why h p = by_attribute Present why h (λ m. cc) p
-  by_mode Checked why h p = by_test why h (tested e (strings_met e)) refl (sym (in_modes e h Checked) ∙ p)
+  by_mode Checked why h p = by_test why h (ended (end_bytes e)) refl (sym (checked_is e) ∙ p)
 
   only : (mode : Mode) (why : Refusal) → field_of mode e ≡ Err why → IsRefused mode e why
   only mode why p = by_header (ltb (length e.now) 42) refl (ltb (length e.now) needed) refl

@@ -9,7 +9,6 @@ pub mod Told
 pub mod Within
 pub mod Laid
 pub mod Placed
-pub mod Ended
 pub mod Modes
 pub mod Refused
 pub mod Written

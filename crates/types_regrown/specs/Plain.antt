@@ -17,7 +17,7 @@ use Rattle.field.specs.Field as field
 use Rattle.field.specs.Field.{behind_items, field_of}
 use Rattle.data_type.specs.declared.AdsDataTypeInfo.{AdsDataTypeInfo}
 use Rattle.data_type.specs.DataType.{sub_items_of, ItemReader, items_from, item_at, arrays_of, type_with, type_at}
-use Rattle.data_type.specs.Layout.{strings_end}
+use Rattle.field.specs.Modes.{strings_end}
 use Rattle.data_type.proofs.Turns.{type_step}
 use Rattle.data_type.proofs.Numbers.{heads}
 
