@@ -164,7 +164,7 @@ static bool documented(enum function function, uint32_t status)
 {
     uint32_t bit = status == VINDASKOT_FINISHED       ? FINISHED
                    : status == VINDASKOT_OUT_OF_STEPS ? OUT_OF_STEPS
-                   : status <= 16                     ? NUMBER(status)
+                   : status <= 19                     ? NUMBER(status)
                                                       : 0;
     seen[function] |= bit;
     return (functions[function].statuses & bit) != 0;

@@ -43,6 +43,9 @@ static const char *in_words(uint32_t refusal)
         [13] = "name not found",
         [14] = "no such attribute",
         [16] = "an end byte is not 0",
+        [17] = "a symbol that a sheet can't hold",
+        [18] = "a bad row of a sheet",
+        [19] = "not in plain form",
     };
     bool known = refusal < sizeof words / sizeof *words && words[refusal] != NULL;
     return known ? words[refusal] : "unknown status";

@@ -8,7 +8,7 @@
  * How a call answers
  *   The result is a status:
  *     VINDASKOT_DONE (0)            the call did what it is for
- *     1 to 16                       a refusal: the table below
+ *     1 to 19                       a refusal: the table below
  *     VINDASKOT_FINISHED (100)      a walk is at the end
  *     VINDASKOT_OUT_OF_STEPS (101)  a bounded walk has used its steps and is not at the end
  *   answer[0], answer[1] are set by every call. After a refusal they are its figures, expected and got. After any
@@ -62,6 +62,10 @@
  *   15  data type entries nest too deep                 16, 17
  *   16  checked mode: an end byte is not 0              its place in the entry (in a record or a chain by itself, from
  *                                                       bytes[0] on), the byte
+ *   17  a symbol that a sheet can't hold                entry number from 0; 1 GUID, 2 attributes or 3 extended flags
+ *                                                       flagged, 5 unread bytes or an end byte that is not 0
+ *   18  a bad row of a sheet                            row, the header being 1; 0 for its shape, else the column from 1
+ *   19  an upload that is not in plain form             place in the upload of the first byte that departs, 0
  */
 #ifndef VINDASKOT_H
 #define VINDASKOT_H

@@ -58,10 +58,17 @@ pub enum RefusalKind {
     /// In the [checked mode](crate::Mode::Checked), an end byte that is not 0: its place in the entry, or in a record or
     /// chain that is read by itself; the byte.
     EndByte = 16,
+    /// A symbol that a sheet can't hold: which entry of the upload, from 0; the first that applies of 1 GUID, 2 attributes
+    /// or 3 extended flags flagged, 5 unread bytes or an end byte that is not 0.
+    NotInSheet = 17,
+    /// A bad row of a sheet: the row, the header being 1; 0 for its shape, else the column from 1.
+    BadSheet = 18,
+    /// An upload that is not in plain form: the place in the upload of the first byte that departs, 0.
+    NotPlain = 19,
 }
 
 impl RefusalKind {
-    const ALL: [Self; 16] = [
+    const ALL: [Self; 19] = [
         Self::UnexpectedLength,
         Self::TooShort,
         Self::EntryLengthMismatch,
@@ -78,6 +85,9 @@ impl RefusalKind {
         Self::NoSuchNumber,
         Self::TooDeep,
         Self::EndByte,
+        Self::NotInSheet,
+        Self::BadSheet,
+        Self::NotPlain,
     ];
 
     /// The number of refusals of this kind.
@@ -114,6 +124,9 @@ impl RefusalKind {
                 "deep met",
             ),
             Self::EndByte => ("end byte is not 0", "", ""),
+            Self::NotInSheet => ("not for a sheet", "", ""),
+            Self::BadSheet => ("bad sheet", "", ""),
+            Self::NotPlain => ("not in plain form", "", ""),
         }
     }
 }
@@ -149,6 +162,16 @@ fn fault(number: usize) -> &'static str {
     }
 }
 
+fn left_out(reason: usize) -> &'static str {
+    match reason {
+        1 => "its GUID is flagged",
+        2 => "its attributes are flagged",
+        3 => "its extended flags are flagged",
+        5 => "it has unread bytes, or an end byte that is not 0",
+        _ => "unknown",
+    }
+}
+
 impl fmt::Display for Refusal {
     fn fmt(&self, f: &mut fmt::Formatter<'_>) -> fmt::Result {
         let Self {
@@ -168,6 +191,9 @@ impl fmt::Display for Refusal {
             }
             RefusalKind::BadText => write!(f, ": {} at byte {expected}", fault(got)),
             RefusalKind::EndByte => write!(f, ": {got} at byte {expected}"),
+            RefusalKind::NotInSheet => write!(f, ": entry {expected}, {}", left_out(got)),
+            RefusalKind::BadSheet => write!(f, ": row {expected}, column {got}"),
+            RefusalKind::NotPlain => write!(f, ": byte {expected} departs"),
             RefusalKind::BadHexadecimal | RefusalKind::NameNotFound => Ok(()),
             _ => write!(f, ": {expected} {first}, {got} {second}"),
         }

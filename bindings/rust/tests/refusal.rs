@@ -33,7 +33,13 @@ const TOLD: &str = "\
 14 3 9 no such number: 3 there, 9 asked
 15 16 17 data type entries nest too deep: 16 deep at most, 17 deep met
 16 41 88 end byte is not 0: 88 at byte 41
-17 1 2 expected 1, got 2
+17 3 1 not for a sheet: entry 3, its GUID is flagged
+17 3 2 not for a sheet: entry 3, its attributes are flagged
+17 3 3 not for a sheet: entry 3, its extended flags are flagged
+17 3 5 not for a sheet: entry 3, it has unread bytes, or an end byte that is not 0
+18 2 5 bad sheet: row 2, column 5
+19 1455 0 not in plain form: byte 1455 departs
+20 1 2 expected 1, got 2
 99 1 2 expected 1, got 2";
 
 #[test]
@@ -49,7 +55,7 @@ fn words_and_figures() {
 
 #[test]
 fn kinds_by_number() {
-    for number in 1..=16 {
+    for number in 1..=19 {
         let why = refusal(number, 0, 0);
         let kind = why.kind().unwrap();
         assert_eq!(kind.number(), number);
@@ -59,7 +65,8 @@ fn kinds_by_number() {
     assert_eq!(refusal(13, 0, 0).kind(), Some(RefusalKind::NameNotFound));
     assert_eq!(refusal(15, 0, 0).kind(), Some(RefusalKind::TooDeep));
     assert_eq!(refusal(16, 0, 0).kind(), Some(RefusalKind::EndByte));
-    for number in [0, 17] {
+    assert_eq!(refusal(19, 0, 0).kind(), Some(RefusalKind::NotPlain));
+    for number in [0, 20] {
         assert_eq!(refusal(number, 0, 0).kind(), None);
     }
 }

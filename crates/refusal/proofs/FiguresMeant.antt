@@ -20,6 +20,9 @@ use Rattle.refusal.specs.declared.Refusal.TheVariants.{
   NoSuchNumber,
   TooDeep,
   EndByte,
+  NotInSheet,
+  BadSheet,
+  NotPlain,
 }
 use Rattle.refusal.specs.Refusal.{figures_of}
 use Rattle.refusal.specs.FiguresMeant.{FiguresMeant}
@@ -42,7 +45,10 @@ told f =
     else if eqb f.number 13 then NameNotFound
     else if eqb f.number 14 then NoSuchNumber f.expected f.got
     else if eqb f.number 15 then TooDeep
-    else EndByte f.expected f.got
+    else if eqb f.number 16 then EndByte f.expected f.got
+    else if eqb f.number 17 then NotInSheet f.expected f.got
+    else if eqb f.number 18 then BadSheet f.expected f.got
+    else NotPlain f.expected
 
 told_back : (r : Refusal) → told (figures_of r) ≡ r
 told_back (UnexpectedLength needed present) = refl
@@ -61,6 +67,9 @@ told_back NameNotFound = refl
 told_back (NoSuchNumber count asked) = refl
 told_back TooDeep = refl
 told_back (EndByte place byte) = refl
+told_back (NotInSheet entry reason) = refl
+told_back (BadSheet row column) = refl
+told_back (NotPlain place) = refl
 
 from_1 : (r : Refusal) → 1 ≤ (figures_of r).number
 from_1 (UnexpectedLength needed present) = omega arith
@@ -79,29 +88,35 @@ from_1 NameNotFound = omega arith
 from_1 (NoSuchNumber count asked) = omega arith
 from_1 TooDeep = omega arith
 from_1 (EndByte place byte) = omega arith
+from_1 (NotInSheet entry reason) = omega arith
+from_1 (BadSheet row column) = omega arith
+from_1 (NotPlain place) = omega arith
 
-to_16 : (r : Refusal) → (figures_of r).number ≤ 16
-to_16 (UnexpectedLength needed present) = omega arith
-to_16 (TooShort needed present) = omega arith
-to_16 (EntryLengthMismatch needed available) = omega arith
-to_16 (ClaimBelowHeader header claim) = omega arith
-to_16 (TooLarge length) = omega arith
-to_16 (OutputTooSmall needed lent) = omega arith
-to_16 (TooLong most actual) = omega arith
-to_16 (SectionsDisagree section) = omega arith
-to_16 (BadBlock count good) = omega arith
-to_16 ZeroEntryLength = omega arith
-to_16 (BadText place kind) = omega arith
-to_16 BadHexadecimal = omega arith
-to_16 NameNotFound = omega arith
-to_16 (NoSuchNumber count asked) = omega arith
-to_16 TooDeep = omega arith
-to_16 (EndByte place byte) = omega arith
+to_19 : (r : Refusal) → (figures_of r).number ≤ 19
+to_19 (UnexpectedLength needed present) = omega arith
+to_19 (TooShort needed present) = omega arith
+to_19 (EntryLengthMismatch needed available) = omega arith
+to_19 (ClaimBelowHeader header claim) = omega arith
+to_19 (TooLarge length) = omega arith
+to_19 (OutputTooSmall needed lent) = omega arith
+to_19 (TooLong most actual) = omega arith
+to_19 (SectionsDisagree section) = omega arith
+to_19 (BadBlock count good) = omega arith
+to_19 ZeroEntryLength = omega arith
+to_19 (BadText place kind) = omega arith
+to_19 BadHexadecimal = omega arith
+to_19 NameNotFound = omega arith
+to_19 (NoSuchNumber count asked) = omega arith
+to_19 TooDeep = omega arith
+to_19 (EndByte place byte) = omega arith
+to_19 (NotInSheet entry reason) = omega arith
+to_19 (BadSheet row column) = omega arith
+to_19 (NotPlain place) = omega arith
 
 pub figures_meant : FiguresMeant
 figures_meant = record {
   from = from_1;
-  to = to_16;
+  to = to_19;
   apart = λ r q e. sym (told_back r) ∙ ap told e ∙ told_back q;
   largest = refl;
   large = λ length. refl;

@@ -4,11 +4,11 @@ use Rattle.refusal.specs.declared.Refusal.{Refusal}
 use Rattle.refusal.specs.declared.Refusal.TheVariants.{TooLarge, TooDeep}
 use Rattle.refusal.specs.Refusal.{figures_of, limit}
 
--- the numbers are 1 to 16, and a number with its two figures tells which refusal it is and what it is made of: no two refusals have the same. The limit and the
+-- the numbers are 1 to 19, and a number with its two figures tells which refusal it is and what it is made of: no two refusals have the same. The limit and the
 -- deepest level, by their numbers
 pub record FiguresMeant : Type 0 where
   pub from : (r : Refusal) → 1 ≤ (figures_of r).number
-  pub to : (r : Refusal) → (figures_of r).number ≤ 16
+  pub to : (r : Refusal) → (figures_of r).number ≤ 19
   pub apart : (r q : Refusal) → figures_of r ≡ figures_of q → r ≡ q
   pub largest : limit ≡ 16777216
   pub large : (length : ℕ) → figures_of (TooLarge length) ≡ record { number = 5; expected = 16777216; got = length }

@@ -19,6 +19,9 @@ use Rattle.refusal.specs.declared.Refusal.TheVariants.{
   NoSuchNumber,
   TooDeep,
   EndByte,
+  NotInSheet,
+  BadSheet,
+  NotPlain,
 }
 
 -- the largest input, and the largest entry that is written, in bytes
@@ -49,3 +52,6 @@ figures_of NameNotFound = numbered 13 0 0
 figures_of (NoSuchNumber count asked) = numbered 14 count asked
 figures_of TooDeep = numbered 15 deepest (deepest + 1)
 figures_of (EndByte place byte) = numbered 16 place byte
+figures_of (NotInSheet entry reason) = numbered 17 entry reason
+figures_of (BadSheet row column) = numbered 18 row column
+figures_of (NotPlain place) = numbered 19 place 0

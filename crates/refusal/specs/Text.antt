@@ -18,6 +18,9 @@ use Rattle.refusal.specs.declared.Refusal.TheVariants.{
   NoSuchNumber,
   TooDeep,
   EndByte,
+  NotInSheet,
+  BadSheet,
+  NotPlain,
 }
 
 -- a number between two texts, and two numbers
@@ -44,3 +47,6 @@ text_of NameNotFound = codes "name not found"
 text_of (NoSuchNumber count asked) = two (codes "no such number: ") count (codes " there, ") asked (codes " asked")
 text_of TooDeep = codes "data type entries nest too deep: 16 deep at most, 17 deep met"
 text_of (EndByte place byte) = codes "end byte is not 0: " ++ (decimal byte ++ (codes " at byte " ++ decimal place))
+text_of (NotInSheet entry reason) = codes "not for a sheet: entry " ++ (decimal entry ++ (codes ", reason " ++ decimal reason))
+text_of (BadSheet row column) = codes "bad sheet: row " ++ (decimal row ++ (codes ", column " ++ decimal column))
+text_of (NotPlain place) = one (codes "not in plain form: byte ") place (codes " departs")

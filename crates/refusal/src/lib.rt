@@ -61,6 +61,13 @@ pub enum Refusal {
     TooDeep,
     /// 16: in the checked mode, an end byte that is not 0, at this place of the entry or of a record that is read alone.
     EndByte { place: usize, byte: u8 },
+    /// 17: a symbol that a sheet can't hold: which entry of the upload, from 0, and the first that applies of 1 GUID, 2 attributes or
+    /// 3 extended flags flagged, 5 unread bytes or an end byte that is not 0.
+    NotInSheet { entry: usize, reason: usize },
+    /// 18: a bad row of a sheet, the header being 1: column 0 for its shape, else the column from 1 whose cell is bad.
+    BadSheet { row: usize, column: usize },
+    /// 19: an upload that is not in plain form: the place in the upload of the first byte that departs.
+    NotPlain { place: usize },
 }
 
 /// A refusal in numbers (docs/FORMAT.md, "Refusals").
@@ -96,6 +103,9 @@ impl Refusal {
             Refusal::NoSuchNumber { count, asked } => numbered(14, count, asked),
             Refusal::TooDeep => numbered(15, DEEPEST, DEEPEST + 1),
             Refusal::EndByte { place, byte } => numbered(16, place, byte as usize),
+            Refusal::NotInSheet { entry, reason } => numbered(17, entry, reason),
+            Refusal::BadSheet { row, column } => numbered(18, row, column),
+            Refusal::NotPlain { place } => numbered(19, place, 0),
         }
     }
 }
@@ -157,6 +167,12 @@ impl fmt::Display for Refusal {
                 f,
                 "end byte is not 0: {byte} at byte {place}"
             ),
+            Refusal::NotInSheet { entry, reason } => write!(
+                f,
+                "not for a sheet: entry {entry}, reason {reason}"
+            ),
+            Refusal::BadSheet { row, column } => write!(f, "bad sheet: row {row}, column {column}"),
+            Refusal::NotPlain { place } => write!(f, "not in plain form: byte {place} departs"),
         }
     }
 }
@@ -191,7 +207,7 @@ pub fn ends_meant()
     ensures { EndsMeant }
 {}
 
-/// A number from 1 to 16 and its two figures tell which refusal it is and what it is made of.
+/// A number from 1 to 19 and its two figures tell which refusal it is and what it is made of.
 pub fn figures_meant()
     ensures { FiguresMeant }
 {}

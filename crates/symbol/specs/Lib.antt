@@ -9,3 +9,4 @@ pub mod Writable
 pub mod ReadOn
 pub mod ReadBack
 pub mod Barred
+pub mod Again

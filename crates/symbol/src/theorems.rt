@@ -7,6 +7,7 @@ ghost use Rattle.symbol.specs.Writable.{HoldsBytes, SymbolsWritten};
 ghost use Rattle.symbol.specs.Barred.{SymbolsBarred};
 ghost use Rattle.symbol.specs.ReadOn.{SymbolsReadOn};
 ghost use Rattle.symbol.specs.ReadBack.{SymbolsReadBack};
+ghost use Rattle.symbol.specs.Again.{SymbolsCut};
 
 use crate::NewSymbol;
 
@@ -64,4 +65,9 @@ pub fn symbols_read_on()
 /// A symbol that is written, its entry grown by any bytes at its end, is read in either mode as what was meant.
 pub fn symbols_read_back()
     ensures { SymbolsReadBack }
+{}
+
+/// A symbol to write of one that was read has as its blocks the bytes of the attributes and refactor records that are shown.
+pub fn symbols_cut()
+    ensures { SymbolsCut }
 {}

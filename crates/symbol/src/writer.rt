@@ -8,7 +8,10 @@ ghost use Rattle.writing.specs.Checks.{IsShort};
 ghost use Rattle.writing.specs.Writing.{Writes};
 ghost use Rattle.writing.specs.Owned.{NotWritten};
 ghost use Rattle.symbol.specs.Writing.{numbers_bytes, header_bytes, guid_bytes, extended_bytes, sections_bytes, symbol_bytes, agree, sections_checked, symbol_checked, symbol_written, IsSized};
+ghost use Rattle.symbol.specs.Again.{new_of, attributes_size, refactors_size};
+ghost use Rattle.symbol.specs.Symbol.{extended_word};
 
+use crate::AdsSymbolInfo;
 use flags::index_group::IndexGroup;
 use flags::index_offset::IndexOffset;
 use flags::symbol_flags::{AdsSymbol2Flags, AdsSymbolFlags};
@@ -45,6 +48,66 @@ pub struct NewSymbol<'a> {
     pub extended_flags: AdsSymbol2Flags,
     /// There exactly if the extended flags say so.
     pub refactor_infos: Block<'a>,
+}
+
+impl<'a> NewSymbol<'a> {
+    /// A symbol that was read, to be written. Its blocks are the attributes and refactor records that are shown; what is
+    /// flagged and absent is not given, and what is unread is left out.
+    #[tactic(auto, unfolding(crate::specs::Again::new_of))]
+    pub fn from_symbol(symbol: &AdsSymbolInfo<'a>) -> Self
+        ensures { result ≡ new_of symbol.now }
+    {
+        let attributes = symbol.attributes;
+        let chain = symbol.refactor_infos;
+        NewSymbol {
+            index_group: symbol.index_group,
+            index_offset: symbol.index_offset,
+            size: symbol.size,
+            data_type_id: symbol.data_type_id,
+            flags: symbol.flags,
+            high: symbol.high,
+            name: symbol.name,
+            type_name: symbol.type_name,
+            comment: symbol.comment,
+            guid: symbol.guid,
+            attributes: Block {
+                bytes: part::part_of(attributes.bytes, 0, attributes_size(symbol)),
+                count: attributes.count,
+            },
+            extended_flags: given_or_none(symbol.extended_flags),
+            refactor_infos: Block {
+                bytes: part::part_of(chain.bytes, 0, refactors_size(symbol)),
+                count: chain.count,
+            },
+        }
+    }
+}
+
+// The bytes of the attributes that are shown: behind them stand the extended flags, if they are there, and the chain.
+fn attributes_size(symbol: &AdsSymbolInfo<'_>) -> usize
+    ensures { result ≡ attributes_size symbol.now }
+{
+    let extended = size_if(symbol.extended_flags.is_some(), 4);
+    let behind = symbol.refactor_infos.bytes.len();
+    let attributes = symbol.attributes.bytes.len();
+    attributes.saturating_sub(behind).saturating_sub(extended)
+}
+
+// The bytes of the refactor records that are shown.
+fn refactors_size(symbol: &AdsSymbolInfo<'_>) -> usize
+    ensures { result ≡ refactors_size symbol.now }
+{
+    let chain = symbol.refactor_infos.bytes.len();
+    chain.saturating_sub(symbol.unread.len())
+}
+
+fn given_or_none(extended: Option<AdsSymbol2Flags>) -> AdsSymbol2Flags
+    ensures { result ≡ record { 0 = extended_word extended } }
+{
+    match extended {
+        Some(flags) => flags,
+        None => AdsSymbol2Flags(0),
+    }
 }
 
 impl NewSymbol<'_> {
