@@ -9,7 +9,7 @@ use refusal::{Mode, Refusal};
 use std::marker::PhantomData;
 
 /// An entry of a kind whose header is there, before it is read.
-#[derive(Clone, Copy, Debug)]
+#[derive_where(Clone, Copy, Debug)]
 pub struct Unread<'a, E> {
     /// The entry's own bytes.
     pub bytes: &'a [u8],
