@@ -1,4 +1,3 @@
 pub mod Find
-pub mod Unread
 pub mod Looks
 pub mod Meaning

@@ -4,56 +4,12 @@
 ghost use Rattle.std.specs.Prelude.{◌≡◌, Some, drop, is_ok, length, true};
 ghost use Rattle.symbol.specs.Symbol.{symbol_of};
 ghost use Rattle.symbol_find.specs.Looks.{look_of, looks_named};
-ghost use Rattle.symbol_find.specs.Unread.{unread_of, four, long, room, short, never_zero};
 ghost use Rattle.symbol_find.specs.Find.{has_name, is_named, find, find_indexed};
 ghost use Rattle.symbol_find.specs.Meaning.{FoundIsFirst, RefusedIsNowhere, FindMeant, AnyCase, SameFind, UselessShutOut};
 
 use refusal::{LIMIT, Mode, Refusal};
 use symbol::AdsSymbolInfo;
-use walk::{Accepts, Entry, Walker};
-
-// An entry whose header is there, before it is read.
-#[derive(Clone, Copy, Debug)]
-struct Unread<'a> {
-    bytes: &'a [u8],
-}
-
-impl<'a> Entry<'a> for Unread<'a> {
-    ghost HEADER = { 30 };
-
-    ghost read = { unread_of };
-
-    ghost length_of = { λ r. length r.bytes.now };
-
-    ghost four = { four };
-
-    ghost long = { long };
-
-    ghost room = { room };
-
-    ghost short = { short };
-
-    ghost never_zero = { never_zero };
-
-    fn header() -> usize
-        ensures { result ≡ 30 }
-    {
-        30
-    }
-
-    #[tactic(auto, unfolding(crate::specs::Unread::unread_of))]
-    #[inline(always)]
-    fn read(own: &'a [u8], _mode: Mode) -> Result<Self, Refusal> {
-        let length = own.len();
-        if length < 30 {
-            return Err(Refusal::TooShort {
-                needed: 30,
-                present: length,
-            });
-        }
-        Ok(Unread { bytes: own })
-    }
-}
+use walk::{Accepts, Unread, Walker};
 
 // What a first look compares, as one number: a length, and the low bits of a last byte, which both cases of a letter share. One test is guessed wrong less often than two.
 #[inline(always)]
@@ -140,11 +96,12 @@ pub fn find(bytes: &[u8], mode: Mode, name: &[u8]) -> Result<usize, Refusal>
     if length > LIMIT {
         return Err(Refusal::TooLarge { length });
     }
-    for piece in Walker::<Unread>::new(bytes, mode) {
+    for piece in Walker::<Unread<AdsSymbolInfo>>::new(bytes, mode) {
+        let start = piece.start;
         match piece.answer {
             Ok(entry) => {
                 if has_name(entry.bytes, mode, name) {
-                    return Ok(piece.start);
+                    return Ok(start);
                 }
             }
             Err(Refusal::ZeroEntryLength) => return Err(Refusal::ZeroEntryLength),

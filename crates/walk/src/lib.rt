@@ -17,8 +17,10 @@ ghost use Rattle.walk.specs.Pieces.{piece_at, pieces, walker_left, NextGives};
 ghost use Rattle.walk.specs.Theorems.{cursor_of, StepsRead, PiecesAreSteps, PiecesTellSteps, BehindIsUnread};
 
 mod accepted;
+mod unread;
 
 pub use accepted::{Accepted, Accepts};
+pub use unread::Unread;
 use entry::Walked;
 use refusal::{Mode, Refusal};
 use std::marker::PhantomData;
