@@ -6,6 +6,7 @@ mod encoder;
 
 ghost use Rattle.std.specs.Prelude.{◌≡◌, ℕ, ◌+◌, ◌≤◌, ◌<◌, length, get_or, Ok};
 ghost use Rattle.writing.specs.Writing.{Writes};
+ghost use Rattle.text.specs.Text.{code_point};
 ghost use Rattle.text.specs.RoundTrip.{BytesComeBack, TextComesBack};
 ghost use Rattle.text.specs.Faults.{FaultsMeant, TableMeant};
 
@@ -19,6 +20,22 @@ const POINTS: [u16; 32] = [
     0x0152, 0x008D, 0x017D, 0x008F, 0x0090, 0x2018, 0x2019, 0x201C, 0x201D, 0x2022, 0x2013, 0x2014,
     0x02DC, 0x2122, 0x0161, 0x203A, 0x0153, 0x009D, 0x017E, 0x0178,
 ];
+
+/// The character of a byte.
+#[tactic(auto, unfolding(crate::specs::Text::code_point, crate::specs::Text::points))]
+pub fn code_point(byte: u8) -> char
+    ensures { result ≡ code_point byte }
+{
+    let table = &POINTS;
+    if 0x80 <= byte && byte < 0xA0 {
+        let i = usize::from(byte - 0x80);
+        return match char::from_u32(u32::from(table[i])) {
+            Some(point) => point,
+            None => unreachable!(),
+        };
+    }
+    char::from(byte)
+}
 
 fn larger(a: u8, b: u8) -> u8
     ensures { (a ≤ result) × (b ≤ result) }
