@@ -2857,7 +2857,7 @@ uint32_t __wrap_vindaskot_attribute_write(const uint8_t *name, size_t name_len, 
 #elif FAULT == 311 /* a name index is in the order of the upload */
 uint32_t __wrap_vindaskot_name_index_build_in(BYTES, uint32_t *starts, size_t count, uint64_t *answer)
 {
-    return __real_vindaskot_index_build_in(bytes, bytes_len, checked, starts, count, answer);
+    return vindaskot_index_build_in(bytes, bytes_len, checked, starts, count, answer);
 }
 
 #elif FAULT == 312 /* of the same names in a name index the last in the upload goes first */

@@ -65,7 +65,12 @@ fn hold<E: Named>(upload: &[u8], mode: Mode, accepted: Vec<(usize, Vec<u8>)>, na
     let index = NameIndex::<E>::build(upload, mode, &mut slots).unwrap();
     assert_eq!(index.starts(), starts_of(&ordered));
     assert_eq!((index.len(), index.is_empty()), (count, count == 0));
-    assert!(index.iter().map(|start| start as u32).eq(starts_of(&ordered)));
+    assert!(
+        index
+            .iter()
+            .map(|start| start as u32)
+            .eq(starts_of(&ordered))
+    );
     for name in names {
         let folded = name.to_ascii_lowercase();
         let first = accepted.iter().find(|(_, own)| *own == folded);
@@ -170,8 +175,7 @@ fn names_that_are_chosen_against_a_sort_take_no_longer() {
         }
         let entries = accepted(&upload, Mode::Present);
         let mut slots = vec![0; entries.len()];
-        let index =
-            NameIndex::<AdsSymbolInfo>::build(&upload, Mode::Present, &mut slots).unwrap();
+        let index = NameIndex::<AdsSymbolInfo>::build(&upload, Mode::Present, &mut slots).unwrap();
         let mut ordered = entries;
         ordered.sort_by(|(x, a), (y, b)| a.cmp(b).then(x.cmp(y)));
         assert_eq!(index.starts(), starts_of(&ordered));
