@@ -425,6 +425,24 @@ pub fn find_indexed(by: FindIndexed, bytes: &[u8], slots: &[u32], name: &[u8]) -
     done("find_indexed", status, answer)
 }
 
+pub fn name_index_build(bytes: &[u8], slots: &mut [u32]) -> usize {
+    let mut answer = [0; 2];
+    let (start, to) = (bytes.as_ptr(), slots.as_mut_ptr());
+    let (n, m) = (bytes.len(), slots.len());
+    let status = unsafe { sys::vindaskot_name_index_build_in(start, n, false, to, m, &mut answer) };
+    done("name_index_build", status, answer)
+}
+
+pub fn find_ordered(bytes: &[u8], slots: &[u32], name: &[u8]) -> usize {
+    let mut answer = [0; 2];
+    let (upload, starts, asked) = (bytes.as_ptr(), slots.as_ptr(), name.as_ptr());
+    let (n, m, len) = (bytes.len(), slots.len(), name.len());
+    let status = unsafe {
+        sys::vindaskot_find_ordered_in(upload, n, false, starts, m, asked, len, &mut answer)
+    };
+    done("find_ordered", status, answer)
+}
+
 type Convert = unsafe extern "C" fn(*const u8, usize, *mut u8, usize, answer: &mut [u64; 2]) -> u32;
 
 /// `vindaskot_decode` and `vindaskot_encode` of this archive, or of an earlier one.

@@ -64,6 +64,18 @@ pub fn collecting<'a>(upload: &'a [u8]) -> Contender<'a> {
     })
 }
 
+/// The starts in the order of the folded names, as a Rust user has them: the records, their names folded once, and a sort.
+pub fn collecting_names<'a>(upload: &'a [u8]) -> Contender<'a> {
+    Box::new(move || {
+        let kept = collect(upload);
+        let fold =
+            |(at, record): &(usize, AdsSymbolInfo)| (record.name().to_ascii_lowercase(), *at);
+        let mut keys: Vec<_> = kept.iter().map(fold).collect();
+        keys.sort_by(|a, b| a.0.cmp(&b.0).then(a.1.cmp(&b.1)));
+        Pass::leaving(keys.iter().map(|(_, at)| *at as u64).sum(), (kept, keys))
+    })
+}
+
 /// Where the first record of a name starts, with nothing kept: the Rust's own step, up to that record.
 pub fn stepped(upload: &[u8], name: &str) -> usize {
     let mut cursor = 0;

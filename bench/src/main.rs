@@ -6,6 +6,7 @@ mod clock;
 mod dice;
 mod find;
 mod growth;
+mod names;
 mod report;
 mod rig;
 mod salvage;
@@ -90,6 +91,8 @@ fn main() {
     find::rows(&mut report, seed, "index and finding, names alike", &alike);
     let what = "index and finding, names that end alike";
     find::rows(&mut report, seed, what, &ends_alike);
+    names::rows(&mut report, seed, "name index", &rig);
+    names::rows(&mut report, seed, "name index, names alike", &alike);
     salvage::rows(&mut report, &rig);
     text::rows(&mut report, seed);
     write::rows(&mut report, &rig);

@@ -12,6 +12,7 @@
  *   boundary_kinds.c   which of the end bytes an answer is about, so that each kind is counted
  *   boundary_salvage.c what is kept of a damaged upload, and what is dropped
  *   boundary_room.c    slots that are set aside by an upload's length
+ *   boundary_names.c   name indexes, finding by halving, branches
  *   boundary_text.c    text that is counted before it is written
  *   boundary_types.c   whole data types
  *   boundary_trees.c   data types at random, sound and damaged
@@ -90,6 +91,16 @@ enum group {
     ROOM_ENOUGH,
     ROOM_FULL,
     ROOM_STOPPED,
+    NAMES_BUILT,
+    NAMES_SHORT_OF,
+    NAMES_FOUND,
+    NAMES_TWINS,
+    NAMES_NONE,
+    NAMES_ELSEWHERE,
+    BRANCHES,
+    BRANCHES_HALVED,
+    BRANCHES_SHORT_OF,
+    BRANCHES_ELSEWHERE,
     TEXTS,
     COUNTED,
     TYPES_READ,
@@ -235,6 +246,14 @@ enum function {
     TYPE_ATTRIBUTE_NAMED_IN,
     TYPE_MEMBER_IN,
     TYPE_MEMBERS_IN,
+    NAME_INDEX_BUILD_IN,
+    FIND_ORDERED_IN,
+    BRANCH_IN,
+    BRANCH_ORDERED_IN,
+    TYPE_NAME_INDEX_BUILD_IN,
+    TYPE_FIND_ORDERED_IN,
+    TYPE_BRANCH_IN,
+    TYPE_BRANCH_ORDERED_IN,
     FUNCTIONS
 };
 
@@ -309,6 +328,14 @@ struct told call_type_attribute(struct bytes bytes, size_t number);
 struct told call_type_attribute_named(struct bytes bytes, struct bytes name);
 struct told call_type_member(struct bytes bytes, size_t number);
 struct told call_type_members(struct bytes bytes, struct room slots);
+struct told call_name_index_build(struct bytes bytes, struct room slots);
+struct told call_find_ordered(struct bytes bytes, struct bytes slots, struct bytes name);
+struct told call_branch(struct bytes bytes, struct bytes slots, struct bytes text, struct room out);
+struct told call_branch_ordered(struct bytes bytes, struct bytes slots, struct bytes text, struct room out);
+struct told call_type_name_index_build(struct bytes bytes, struct room slots);
+struct told call_type_find_ordered(struct bytes bytes, struct bytes slots, struct bytes name);
+struct told call_type_branch(struct bytes bytes, struct bytes slots, struct bytes text, struct room out);
+struct told call_type_branch_ordered(struct bytes bytes, struct bytes slots, struct bytes text, struct room out);
 struct told call_decode(struct bytes src, struct room out);
 struct told call_encode(struct bytes src, struct room out);
 
@@ -489,6 +516,9 @@ void try_rooms(void);
 void try_room(struct bytes bytes);
 void try_room_lengths(void);
 void try_room_limit(size_t len);
+void try_symbol_names(struct bytes bytes);
+void try_type_names(struct bytes bytes);
+void try_name_limit(size_t len);
 void try_types(void);
 void try_type(struct bytes bytes);
 void try_type_walk(struct bytes bytes);

@@ -101,6 +101,16 @@ static const struct {
                                  TYPE | NUMBER(13)},
     [TYPE_MEMBER_IN] = {"vindaskot_type_member_in", OF_TYPE, true, false, false, TYPE | NUMBER(14)},
     [TYPE_MEMBERS_IN] = {"vindaskot_type_members_in", 0, false, false, false, TYPE | NUMBER(6)},
+    [NAME_INDEX_BUILD_IN] = {"vindaskot_name_index_build_in", 0, false, false, false,
+                              DONE | NUMBER(5) | NUMBER(10) | NUMBER(6)},
+    [FIND_ORDERED_IN] = {"vindaskot_find_ordered_in", 0, false, false, false, DONE | NUMBER(5) | NUMBER(13)},
+    [BRANCH_IN] = {"vindaskot_branch_in", 0, false, false, false, DONE | NUMBER(5) | NUMBER(6)},
+    [BRANCH_ORDERED_IN] = {"vindaskot_branch_ordered_in", 0, false, false, false, DONE | NUMBER(5) | NUMBER(6)},
+    [TYPE_NAME_INDEX_BUILD_IN] = {"vindaskot_type_name_index_build_in", 0, false, false, false,
+                              DONE | NUMBER(5) | NUMBER(10) | NUMBER(6)},
+    [TYPE_FIND_ORDERED_IN] = {"vindaskot_type_find_ordered_in", 0, false, false, false, DONE | NUMBER(5) | NUMBER(13)},
+    [TYPE_BRANCH_IN] = {"vindaskot_type_branch_in", 0, false, false, false, DONE | NUMBER(5) | NUMBER(6)},
+    [TYPE_BRANCH_ORDERED_IN] = {"vindaskot_type_branch_ordered_in", 0, false, false, false, DONE | NUMBER(5) | NUMBER(6)},
 };
 
 /* The one function that tells a path. */
@@ -513,6 +523,82 @@ struct told call_type_members(struct bytes b, struct room slots)
     uint64_t *at = (uint64_t *)(void *)slots.at;
     uint32_t status = vindaskot_type_members_in(b.at, b.len, mode == CHECKED, at, slots.len / 8, f->answer);
     return finish_out(TYPE_MEMBERS_IN, status, slots, 8);
+}
+
+/* Slots that are read, as numbers. */
+static const uint32_t *starts(struct bytes slots)
+{
+    return (const uint32_t *)(const void *)slots.at;
+}
+
+struct told call_name_index_build(struct bytes b, struct room slots)
+{
+    struct frame *f = begin_out(NAME_INDEX_BUILD_IN, slots);
+    uint32_t *at = (uint32_t *)(void *)slots.at;
+    uint32_t status =
+        vindaskot_name_index_build_in(b.at, b.len, mode == CHECKED, at, slots.len / 4, f->answer);
+    return finish_out(NAME_INDEX_BUILD_IN, status, slots, 4);
+}
+
+struct told call_find_ordered(struct bytes b, struct bytes slots, struct bytes n)
+{
+    struct frame *f = begin(FIND_ORDERED_IN, 0);
+    uint32_t status = vindaskot_find_ordered_in(b.at, b.len, mode == CHECKED, starts(slots), slots.len / 4, n.at,
+                                                n.len, f->answer);
+    return finish(FIND_ORDERED_IN, status);
+}
+
+struct told call_branch(struct bytes b, struct bytes slots, struct bytes t, struct room out)
+{
+    struct frame *f = begin_out(BRANCH_IN, out);
+    uint32_t *at = (uint32_t *)(void *)out.at;
+    uint32_t status = vindaskot_branch_in(b.at, b.len, mode == CHECKED, starts(slots), slots.len / 4, t.at, t.len, at,
+                                          out.len / 4, f->answer);
+    return finish_out(BRANCH_IN, status, out, 4);
+}
+
+struct told call_branch_ordered(struct bytes b, struct bytes slots, struct bytes t, struct room out)
+{
+    struct frame *f = begin_out(BRANCH_ORDERED_IN, out);
+    uint32_t *at = (uint32_t *)(void *)out.at;
+    uint32_t status = vindaskot_branch_ordered_in(b.at, b.len, mode == CHECKED, starts(slots), slots.len / 4, t.at,
+                                                  t.len, at, out.len / 4, f->answer);
+    return finish_out(BRANCH_ORDERED_IN, status, out, 4);
+}
+
+struct told call_type_name_index_build(struct bytes b, struct room slots)
+{
+    struct frame *f = begin_out(TYPE_NAME_INDEX_BUILD_IN, slots);
+    uint32_t *at = (uint32_t *)(void *)slots.at;
+    uint32_t status =
+        vindaskot_type_name_index_build_in(b.at, b.len, mode == CHECKED, at, slots.len / 4, f->answer);
+    return finish_out(TYPE_NAME_INDEX_BUILD_IN, status, slots, 4);
+}
+
+struct told call_type_find_ordered(struct bytes b, struct bytes slots, struct bytes n)
+{
+    struct frame *f = begin(TYPE_FIND_ORDERED_IN, 0);
+    uint32_t status = vindaskot_type_find_ordered_in(b.at, b.len, mode == CHECKED, starts(slots), slots.len / 4, n.at,
+                                                n.len, f->answer);
+    return finish(TYPE_FIND_ORDERED_IN, status);
+}
+
+struct told call_type_branch(struct bytes b, struct bytes slots, struct bytes t, struct room out)
+{
+    struct frame *f = begin_out(TYPE_BRANCH_IN, out);
+    uint32_t *at = (uint32_t *)(void *)out.at;
+    uint32_t status = vindaskot_type_branch_in(b.at, b.len, mode == CHECKED, starts(slots), slots.len / 4, t.at, t.len, at,
+                                          out.len / 4, f->answer);
+    return finish_out(TYPE_BRANCH_IN, status, out, 4);
+}
+
+struct told call_type_branch_ordered(struct bytes b, struct bytes slots, struct bytes t, struct room out)
+{
+    struct frame *f = begin_out(TYPE_BRANCH_ORDERED_IN, out);
+    uint32_t *at = (uint32_t *)(void *)out.at;
+    uint32_t status = vindaskot_type_branch_ordered_in(b.at, b.len, mode == CHECKED, starts(slots), slots.len / 4, t.at,
+                                                  t.len, at, out.len / 4, f->answer);
+    return finish_out(TYPE_BRANCH_ORDERED_IN, status, out, 4);
 }
 
 struct told call_decode(struct bytes src, struct room out)

@@ -957,8 +957,10 @@ void try_limits(void)
                 limit_ends(len);
                 try_salvage_limit(len);
                 try_room_limit(len);
-                if (mode != PRESENT)
-                    try_type_limit(len);
+                if (mode == PRESENT)
+                    continue;
+                try_type_limit(len);
+                try_name_limit(len);
             }
             mode = PRESENT;
             limit_texts(len);

@@ -840,6 +840,7 @@ static void try_damaged(struct bytes b)
 {
     try_salvage(b);
     try_room(b);
+    try_symbol_names(b);
 }
 
 /* Data types have no call that takes no mode. */
@@ -849,6 +850,7 @@ static void try_tree(struct bytes b)
         return;
     try_type(b);
     try_type_walk(b);
+    try_type_names(b);
 }
 
 static void try_case(uint64_t number)

@@ -2854,6 +2854,86 @@ uint32_t __wrap_vindaskot_attribute_write(const uint8_t *name, size_t name_len, 
     return status;
 }
 
+#elif FAULT == 311 /* a name index is in the order of the upload */
+uint32_t __wrap_vindaskot_name_index_build_in(BYTES, uint32_t *starts, size_t count, uint64_t *answer)
+{
+    return vindaskot_index_build_in(bytes, bytes_len, checked, starts, count, answer);
+}
+
+#elif FAULT == 312 /* of the same names in a name index the last in the upload goes first */
+uint32_t __real_vindaskot_name_index_build_in(BYTES, uint32_t *starts, size_t count, uint64_t *answer);
+uint32_t __wrap_vindaskot_name_index_build_in(BYTES, uint32_t *starts, size_t count, uint64_t *answer)
+{
+    uint32_t status = __real_vindaskot_name_index_build_in(bytes, bytes_len, checked, starts, count, answer);
+    for (size_t i = 1; status == VINDASKOT_DONE && i < answer[0]; i++) {
+        const uint8_t *one = bytes + starts[i - 1], *other = bytes + starts[i];
+        size_t len = (size_t)(one[24] | one[25] << 8);
+        if (memcmp(one + 24, other + 24, 2) == 0 && memcmp(one + 30, other + 30, len) == 0) {
+            uint32_t start = starts[i];
+            starts[i] = starts[i - 1];
+            starts[i - 1] = start;
+        }
+    }
+    return status;
+}
+
+#elif FAULT == 313 /* halving does not look at the last slot */
+uint32_t __real_vindaskot_find_ordered_in(BYTES, INDEX, NAMED, uint64_t *answer);
+uint32_t __wrap_vindaskot_find_ordered_in(BYTES, INDEX, NAMED, uint64_t *answer)
+{
+    return __real_vindaskot_find_ordered_in(bytes, bytes_len, checked, starts, count - (count > 0), name, name_len,
+                                            answer);
+}
+
+#elif FAULT == 314 /* halving does not look at the first slot */
+uint32_t __real_vindaskot_find_ordered_in(BYTES, INDEX, NAMED, uint64_t *answer);
+uint32_t __wrap_vindaskot_find_ordered_in(BYTES, INDEX, NAMED, uint64_t *answer)
+{
+    size_t passed = count > 0;
+    return __real_vindaskot_find_ordered_in(bytes, bytes_len, checked, starts + passed, count - passed, name, name_len,
+                                            answer);
+}
+
+#elif FAULT == 315 /* the empty text has no branch */
+uint32_t __real_vindaskot_branch_in(BYTES, INDEX, NAMED, uint32_t *out, size_t out_len, uint64_t *answer);
+uint32_t __wrap_vindaskot_branch_in(BYTES, INDEX, NAMED, uint32_t *out, size_t out_len, uint64_t *answer)
+{
+    return __real_vindaskot_branch_in(bytes, bytes_len, checked, starts, name_len == 0 ? 0 : count, name, name_len, out,
+                                      out_len, answer);
+}
+
+#elif FAULT == 316 /* a start that stands twice is answered once */
+uint32_t __real_vindaskot_branch_in(BYTES, INDEX, NAMED, uint32_t *out, size_t out_len, uint64_t *answer);
+uint32_t __wrap_vindaskot_branch_in(BYTES, INDEX, NAMED, uint32_t *out, size_t out_len, uint64_t *answer)
+{
+    static uint32_t once[70000];
+    size_t used = 0;
+    for (size_t i = 0; i < count; i++) {
+        size_t earlier = 0;
+        while (earlier < used && once[earlier] != starts[i])
+            earlier++;
+        if (earlier == used)
+            once[used++] = starts[i];
+    }
+    return __real_vindaskot_branch_in(bytes, bytes_len, checked, once, used, name, name_len, out, out_len, answer);
+}
+
+#elif FAULT == 317 /* a branch by halving begins one slot late */
+uint32_t __real_vindaskot_branch_ordered_in(BYTES, INDEX, NAMED, uint32_t *out, size_t out_len, uint64_t *answer);
+uint32_t __wrap_vindaskot_branch_ordered_in(BYTES, INDEX, NAMED, uint32_t *out, size_t out_len, uint64_t *answer)
+{
+    size_t passed = count > 0;
+    return __real_vindaskot_branch_ordered_in(bytes, bytes_len, checked, starts + passed, count - passed, name, name_len,
+                                              out, out_len, answer);
+}
+
+#elif FAULT == 318 /* data types are found in the mode that was not asked for */
+uint32_t __real_vindaskot_type_find_ordered_in(BYTES, INDEX, NAMED, uint64_t *answer);
+uint32_t __wrap_vindaskot_type_find_ordered_in(BYTES, INDEX, NAMED, uint64_t *answer)
+{
+    return __real_vindaskot_type_find_ordered_in(bytes, bytes_len, !checked, starts, count, name, name_len, answer);
+}
+
 #elif FAULT == 0
 /* No fault but a control: the search that 23 to 33, 38 and 39 share, with the right comparison, the salvage that 91 to
  * 117 and 132 share, and the reader of data types that those from 169 on share. */

@@ -615,6 +615,55 @@ uint32_t vindaskot_type_member_in(const uint8_t *bytes, size_t bytes_len, bool c
 uint32_t vindaskot_type_members_in(const uint8_t *bytes, size_t bytes_len, bool checked, uint64_t *slots,
                                    size_t slots_len, uint64_t answer[VINDASKOT_AT_LEAST 2]);
 
+/* ---- Name index ---- */
+
+/* The start of every accepted symbol of an upload, in the order of the names there: A to Z equal to a to z, a name
+ * before a longer one that begins with it, and where names are the same the first in the upload before. They go from
+ * slots[0] on; answer[0]: how many. These, and not all slots that were lent, are the name index, which the calls below
+ * are given: what stands behind them is as it was. It takes n log n comparisons of names and no other memory;
+ * vindaskot_room tells how many slots are always enough. Refusals: 5, 10, 6. */
+uint32_t vindaskot_name_index_build_in(const uint8_t *bytes, size_t bytes_len, bool checked, uint32_t *slots,
+                                       size_t slots_len, uint64_t answer[VINDASKOT_AT_LEAST 2]);
+
+/* answer[0]: where the first symbol of that name starts, as vindaskot_find_indexed_in answers, by halving: some 13
+ * names are looked at among 9,000. Any slots may be given: what is answered has the name, but slots that are not in the
+ * order of the names may hide one that has it. Refusals: 5, 13. */
+uint32_t vindaskot_find_ordered_in(const uint8_t *bytes, size_t bytes_len, bool checked,
+                                   const uint32_t *slots, size_t slots_len, const uint8_t *name,
+                                   size_t name_len, uint64_t answer[VINDASKOT_AT_LEAST 2]);
+
+/* The branch of a text: those of the slots at which a symbol starts whose name begins with the text, A to Z equal to a
+ * to z, in the slots' order, from out[0] on; the empty text's is every symbol. answer[0]: how many. Any slots may be
+ * given, of a name index or of another: one that starts no accepted symbol is passed over, and one that stands twice is
+ * answered twice. Every slot is looked at. Refusals: 5, 6 (which counts the entries of the branch). */
+uint32_t vindaskot_branch_in(const uint8_t *bytes, size_t bytes_len, bool checked, const uint32_t *slots,
+                             size_t slots_len, const uint8_t *text, size_t text_len, uint32_t *out,
+                             size_t out_len, uint64_t answer[VINDASKOT_AT_LEAST 2]);
+
+/* The same of a name index, whose branch is a run of neighbours, by halving: only the branch's own slots are looked at,
+ * and two more for each halving. Of slots that are not in the order of the names it writes those that match of some
+ * that are neighbours. Refusals: 5, 6. */
+uint32_t vindaskot_branch_ordered_in(const uint8_t *bytes, size_t bytes_len, bool checked,
+                                     const uint32_t *slots, size_t slots_len, const uint8_t *text,
+                                     size_t text_len, uint32_t *out, size_t out_len,
+                                     uint64_t answer[VINDASKOT_AT_LEAST 2]);
+
+/* The same of an upload of data types, by the names of its entries, not of their members: what a symbol's type name
+ * leads to. */
+uint32_t vindaskot_type_name_index_build_in(const uint8_t *bytes, size_t bytes_len, bool checked,
+                                            uint32_t *slots, size_t slots_len,
+                                            uint64_t answer[VINDASKOT_AT_LEAST 2]);
+uint32_t vindaskot_type_find_ordered_in(const uint8_t *bytes, size_t bytes_len, bool checked,
+                                        const uint32_t *slots, size_t slots_len, const uint8_t *name,
+                                        size_t name_len, uint64_t answer[VINDASKOT_AT_LEAST 2]);
+uint32_t vindaskot_type_branch_in(const uint8_t *bytes, size_t bytes_len, bool checked, const uint32_t *slots,
+                                  size_t slots_len, const uint8_t *text, size_t text_len, uint32_t *out,
+                                  size_t out_len, uint64_t answer[VINDASKOT_AT_LEAST 2]);
+uint32_t vindaskot_type_branch_ordered_in(const uint8_t *bytes, size_t bytes_len, bool checked,
+                                          const uint32_t *slots, size_t slots_len, const uint8_t *text,
+                                          size_t text_len, uint32_t *out, size_t out_len,
+                                          uint64_t answer[VINDASKOT_AT_LEAST 2]);
+
 /* ---- Text ---- */
 
 #define VINDASKOT_TEXT_STACK 512u

@@ -554,6 +554,90 @@ unsafe extern "C" {
         slots_len: usize,
         answer: &mut [u64; 2],
     ) -> u32;
+    pub fn vindaskot_name_index_build_in(
+        bytes: *const u8,
+        bytes_len: usize,
+        checked: bool,
+        slots: *mut u32,
+        slots_len: usize,
+        answer: &mut [u64; 2],
+    ) -> u32;
+    pub fn vindaskot_find_ordered_in(
+        bytes: *const u8,
+        bytes_len: usize,
+        checked: bool,
+        slots: *const u32,
+        slots_len: usize,
+        name: *const u8,
+        name_len: usize,
+        answer: &mut [u64; 2],
+    ) -> u32;
+    pub fn vindaskot_branch_in(
+        bytes: *const u8,
+        bytes_len: usize,
+        checked: bool,
+        slots: *const u32,
+        slots_len: usize,
+        text: *const u8,
+        text_len: usize,
+        out: *mut u32,
+        out_len: usize,
+        answer: &mut [u64; 2],
+    ) -> u32;
+    pub fn vindaskot_branch_ordered_in(
+        bytes: *const u8,
+        bytes_len: usize,
+        checked: bool,
+        slots: *const u32,
+        slots_len: usize,
+        text: *const u8,
+        text_len: usize,
+        out: *mut u32,
+        out_len: usize,
+        answer: &mut [u64; 2],
+    ) -> u32;
+    pub fn vindaskot_type_name_index_build_in(
+        bytes: *const u8,
+        bytes_len: usize,
+        checked: bool,
+        slots: *mut u32,
+        slots_len: usize,
+        answer: &mut [u64; 2],
+    ) -> u32;
+    pub fn vindaskot_type_find_ordered_in(
+        bytes: *const u8,
+        bytes_len: usize,
+        checked: bool,
+        slots: *const u32,
+        slots_len: usize,
+        name: *const u8,
+        name_len: usize,
+        answer: &mut [u64; 2],
+    ) -> u32;
+    pub fn vindaskot_type_branch_in(
+        bytes: *const u8,
+        bytes_len: usize,
+        checked: bool,
+        slots: *const u32,
+        slots_len: usize,
+        text: *const u8,
+        text_len: usize,
+        out: *mut u32,
+        out_len: usize,
+        answer: &mut [u64; 2],
+    ) -> u32;
+    pub fn vindaskot_type_branch_ordered_in(
+        bytes: *const u8,
+        bytes_len: usize,
+        checked: bool,
+        slots: *const u32,
+        slots_len: usize,
+        text: *const u8,
+        text_len: usize,
+        out: *mut u32,
+        out_len: usize,
+        answer: &mut [u64; 2],
+    ) -> u32;
     pub fn vindaskot_decode(
         src: *const u8,
         src_len: usize,
