@@ -1,6 +1,6 @@
+mod Spelling
 mod Rows
 mod Lines
 mod Texts
-mod Spelling
 mod Anywhere
 pub mod Meaning
