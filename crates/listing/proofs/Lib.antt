@@ -1,4 +1,3 @@
-mod Spelling
 mod Rows
 mod Lines
 mod Texts

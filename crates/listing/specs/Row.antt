@@ -12,12 +12,12 @@ hex s = if length s == 0 then codes "-" else encode_upper s
 abbrev pub field : ℕ → List ℕ → List ℕ
 field n more = decimal n ++ (codes " " ++ more)
 
--- line at len group offset size type flags unread attrs refs name typename high
-unfoldable pub entry_row : ℕ → ℕ → AdsSymbolInfo → List ℕ
-entry_row line start info =
+-- line at len group offset size type flags unread attrs refs name typename high, where the two names are spelt so
+unfoldable pub entry_row : ℕ → ℕ → AdsSymbolInfo → List ℕ → List ℕ → List ℕ
+entry_row line start info name type_name =
     field line (field start (field info.length (field info.index_group.0 (field info.index_offset.0 (field info.size (field info.data_type_id
     (field info.flags.0 (field (length info.unread.now) (field info.attributes.count (field info.refactor_infos.count
-    (hex info.name.now ++ (codes " " ++ (hex info.type_name.now ++ (codes " " ++ decimal info.high))))))))))))))
+    (name ++ (codes " " ++ (type_name ++ (codes " " ++ decimal info.high))))))))))))))
 
 -- why there is no entry: number, E and G
 unfoldable pub refusal_row : ℕ → ℕ → Figures → List ℕ

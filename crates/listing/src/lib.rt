@@ -18,7 +18,7 @@ pub mod row;
 
 use memchr::memchr;
 use refusal::{Mode, Refusal};
-use row::{EntryRow, Hex, RefusalRow};
+use row::{EntryRow, RefusalRow};
 use std::alloc::{AllocError, Global};
 use std::io;
 use std::io::{ErrorKind, Read, Write};
@@ -98,10 +98,14 @@ fn row_text(piece: Piece<AdsSymbolInfo<'_>>, line: u64, alloc: Global) -> Result
     let start = piece.start;
     match piece.answer {
         Ok(symbol) => {
+            let name = row::spell(symbol.name, alloc)?;
+            let type_name = row::spell(symbol.type_name, alloc)?;
             let row = EntryRow {
                 line,
                 start,
                 info: &symbol,
+                name: name.as_str(),
+                type_name: type_name.as_str(),
             };
             format!(in alloc; "{row}\n")
         }

@@ -1,37 +1,21 @@
 //! A row of the listing: a value that prints itself.
-ghost use Rattle.std.specs.Prelude.{Some, [], ◌∷◌};
-ghost use Rattle.std.specs.Fmt.{WritesOnOk};
-ghost use Rattle.hex.specs.Hex.{encode_upper};
+ghost use Rattle.std.specs.Prelude.{◌≡◌, Some, IfOk, string_bytes};
 ghost use Rattle.listing.specs.Row.{hex, entry_row, refusal_row};
 
 use refusal::Figures;
+use std::alloc::{AllocError, Global};
 use std::fmt;
 use symbol::AdsSymbolInfo;
 
-// Two digits of a byte, in capitals.
-fn write_byte<W: fmt::Write>(byte: u8, f: &mut fmt::Formatter<W>) -> fmt::Result
-    ensures { WritesOnOk W.write_str_gives f.old result (encode_upper (byte ∷ [])) f.new }
-{
-    write!(f, "{byte:02X}")
-}
-
 /// Bytes in hexadecimal, in capitals; a dash where there are none.
-#[derive(Clone, Copy)]
-pub struct Hex<'a>(pub &'a [u8]);
-
-impl fmt::Display for Hex<'_> {
-    ghost output = { λ s. Some (hex s.0.now) };
-
-    #[tactic(auto, unfolding(crate::specs::Row::hex))]
-    fn fmt<W: fmt::Write>(&self, f: &mut fmt::Formatter<W>) -> fmt::Result {
-        if self.0.is_empty() {
-            return write!(f, "-");
-        }
-        for byte in self.0 {
-            write_byte(*byte, f)?;
-        }
-        Ok(())
+#[tactic(auto, unfolding(crate::specs::Row::hex))]
+pub fn spell(bytes: &[u8], alloc: Global) -> Result<String, AllocError>
+    ensures { IfOk result (λ text. string_bytes text ≡ hex bytes.now) }
+{
+    if bytes.is_empty() {
+        return format!(in alloc; "-");
     }
+    hex::encode_upper(alloc, bytes)
 }
 
 /// An entry that was read.
@@ -43,10 +27,14 @@ pub struct EntryRow<'a> {
     pub start: usize,
     /// The symbol that was read there.
     pub info: &'a AdsSymbolInfo<'a>,
+    /// Its name, spelt in digits.
+    pub name: &'a str,
+    /// Its type's name, likewise.
+    pub type_name: &'a str,
 }
 
 impl fmt::Display for EntryRow<'_> {
-    ghost output = { λ r. Some (entry_row r.line r.start r.info.now) };
+    ghost output = { λ r. Some (entry_row r.line r.start r.info.now r.name.now r.type_name.now) };
 
     #[tactic(auto, unfolding(crate::specs::Row::entry_row))]
     fn fmt<W: fmt::Write>(&self, f: &mut fmt::Formatter<W>) -> fmt::Result {
@@ -62,8 +50,8 @@ impl fmt::Display for EntryRow<'_> {
         let unread = info.unread.len();
         let attributes = info.attributes.count;
         let refactors = info.refactor_infos.count;
-        let name = Hex(info.name);
-        let type_name = Hex(info.type_name);
+        let name = self.name;
+        let type_name = self.type_name;
         let high = info.high;
         write!(
             f,
