@@ -1,6 +1,5 @@
 mod Rows
 mod Lines
 mod Texts
-mod Spelling
 mod Anywhere
 pub mod Meaning

@@ -9,12 +9,10 @@ use Rattle.std.specs.declared.result.Result.TheVariants.{Ok, Err}
 use Rattle.std.specs.Io.KnownBytes.{Appends, Consumes, IsAtEnd, Keeps}
 use Rattle.std.proofs.KnownBytes.{Appends-trans, Appends-kept, Consumes-trans}
 use borrow.Author.Tests.{lt-ltb, ltb-true, ltb-false}
-use Rattle.le.specs.Le.{part}
-use Rattle.le.proofs.Laws.{part_rest}
 use Rattle.memchr.specs.Find.{is_byte, Passes, Nowhere}
 use Rattle.refusal.specs.declared.Mode.{Mode}
 use Rattle.listing.specs.Listing.{longest, line_text, header, lines, lines_text, listing, listing_of_ended, goes_on, AppendsFront, Reading}
-use Rattle.listing.proofs.Rows.{front_more, front_longer, front_whole}
+use Rattle.listing.proofs.Rows.{behind, behind_is, front_more, front_longer, front_whole}
 use Rattle.listing.specs.declared.Line.{Line}
 
 -- the first line of some lines goes on
@@ -237,21 +235,9 @@ pub on_ok : {T E P Q : Type 0} (r : Result T E) → (P → Q) → OnOk r P → O
 on_ok (Ok x) f p = f p
 on_ok (Err e) f p = tt
 
--- parts of what is looked at
-pub part_front : (s : List ℕ) (n : ℕ) → part s 0 n ≡ take n s
-unfolding part
-part_front s n = refl
-
-pub part_after : (s : List ℕ) (k : ℕ) → part s (k + 1) (length s) ≡ drop (suc k) s
-part_after s k = let e : k + 1 ≡ suc k = omega arith in part_rest s (k + 1) (length s) (omega arith) ∙ ap (λ (m : ℕ). drop m s) e
-
-pub drop_less : (n : ℕ) (s : List ℕ) → length (drop n s) ≤ length s - n
-drop_less zero s = omega arith
-drop_less (suc n) [] = omega arith
-drop_less (suc n) (c ∷ s) = omega (arith, drop_less n s)
-
-pub less_after : (s : List ℕ) (k : ℕ) → k < length s → length (part s (k + 1) (length s)) < length s
-less_after s k h = omega (arith, h, ap length (part_after s k), drop_less (suc k) s)
+-- what is left behind a line and its LF
+pub after_line : (s : List ℕ) (k : ℕ) → behind s (k + 1) ≡ drop (suc k) s
+after_line s k = let e : k + 1 ≡ suc k = omega arith in behind_is s (k + 1) ∙ ap (λ (m : ℕ). drop m s) e
 
 -- ---- what is written where an error ends it
 lines_append : (mode : Mode) (n : ℕ) (xs ys : List (List ℕ)) → lines_text mode n (xs ++ ys) ≡ lines_text mode n xs ++ lines_text mode (n + length xs) ys

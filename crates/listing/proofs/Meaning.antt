@@ -3,7 +3,7 @@ use Rattle.std.proofs.Common.{ℕ, ◌≡◌, refl, Bool, true, false, List, len
 use Rattle.std.specs.Prelude.{ltb, codes, decimal}
 use Rattle.std.specs.Fmt.{digits}
 use borrow.Author.Tests.{lt-ltb, le-ltb}
-use Rattle.hex.specs.Hex.{decode_pairs, decode_of}
+use Rattle.hex.specs.Hex.{decode_pairs, decode_of, encode_with}
 use Rattle.hex.specs.declared.error.FromHexError.{FromHexError}
 use Rattle.le.specs.Le.{le2, le4}
 use Rattle.refusal.specs.declared.Mode.{Mode}
@@ -19,7 +19,7 @@ use Rattle.listing.specs.Listing.{longest, row, rows, line_text, listing}
 use Rattle.listing.specs.Meaning.{six_lines, six_listed, bad_row, ListingMeant}
 
 letters : listing Present six_lines ≡ six_listed
-unfolding digits decode_pairs le2 le4 claim_at piece_at pieces_from attribute.first_of attribute.listed attribute.after_listed refactor.first_of refactor.listed refactor.chained guid_of attributes_of extended_of refactor_infos_of with_strings ended_symbol symbol_of hex entry_row refusal_row row line_text listing
+unfolding digits decode_pairs encode_with le2 le4 claim_at piece_at pieces_from attribute.first_of attribute.listed attribute.after_listed refactor.first_of refactor.listed refactor.chained guid_of attributes_of extended_of refactor_infos_of with_strings ended_symbol symbol_of hex entry_row refusal_row row line_text listing
 letters = refl
 
 bad_is : (mode : Mode) (line : ℕ) → rows mode line None ≡ bad_row line

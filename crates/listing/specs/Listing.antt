@@ -13,7 +13,7 @@ use Rattle.walk.specs.declared.Piece.{Piece}
 use Rattle.walk.specs.Pieces.{pieces}
 use Rattle.symbol.specs.declared.AdsSymbolInfo.{AdsSymbolInfo}
 use Rattle.symbol.specs.Symbol.{symbol_of}
-use Rattle.listing.specs.Row.{entry_row, refusal_row}
+use Rattle.listing.specs.Row.{hex, entry_row, refusal_row}
 use Rattle.listing.specs.declared.Line.{Line}
 use Rattle.listing.specs.declared.Failure.{Failure}
 use Rattle.listing.specs.declared.Failure.TheVariants.{Input, Endless, Output}
@@ -26,7 +26,7 @@ longest = 32768
 
 -- the row of what was read at a place of an upload
 abbrev pub answer_row : ℕ → ℕ → Result AdsSymbolInfo Refusal → List ℕ
-answer_row line start (Ok symbol) = entry_row line start symbol
+answer_row line start (Ok symbol) = entry_row line start symbol (hex symbol.name.now) (hex symbol.type_name.now)
 answer_row line start (Err why) = refusal_row line start (figures_of why)
 
 unfoldable pub row : ℕ → Piece AdsSymbolInfo → List ℕ

@@ -1,30 +1,23 @@
 -- docs/FORMAT.md, "Listing". The rows of a listing: numbers in decimal, bytes in hexadecimal, one space between.
-use Rattle.std.specs.Prelude.{ℕ, ◌+◌, ◌/◌, ◌%◌, ◌==◌, nat_lt, length, List, [], ◌∷◌, ◌++◌, codes, decimal, if◌then◌else◌}
-use Rattle.std.specs.List.{flat_map}
+use Rattle.std.specs.Prelude.{ℕ, ◌==◌, length, List, ◌++◌, codes, decimal, if◌then◌else◌}
+use Rattle.hex.specs.Hex.{encode_upper}
 use Rattle.refusal.specs.declared.Figures.{Figures}
 use Rattle.symbol.specs.declared.AdsSymbolInfo.{AdsSymbolInfo}
 
--- a hexadecimal digit, in capitals
-abbrev pub digit : ℕ → ℕ
-digit value = if nat_lt value 10 then 48 + value else 55 + value
-
-abbrev pub pair : ℕ → List ℕ
-pair byte = digit (byte / 16) ∷ digit (byte % 16) ∷ []
-
--- two digits for each byte, and "-" where there is none
+-- two digits for each byte, in capitals, and "-" where there is none
 unfoldable pub hex : List ℕ → List ℕ
-hex s = if length s == 0 then codes "-" else flat_map pair s
+hex s = if length s == 0 then codes "-" else encode_upper s
 
 -- a number, and a space after it
 abbrev pub field : ℕ → List ℕ → List ℕ
 field n more = decimal n ++ (codes " " ++ more)
 
--- line at len group offset size type flags unread attrs refs name typename high
-unfoldable pub entry_row : ℕ → ℕ → AdsSymbolInfo → List ℕ
-entry_row line start info =
+-- line at len group offset size type flags unread attrs refs name typename high, where the two names are spelt so
+unfoldable pub entry_row : ℕ → ℕ → AdsSymbolInfo → List ℕ → List ℕ → List ℕ
+entry_row line start info name type_name =
     field line (field start (field info.length (field info.index_group.0 (field info.index_offset.0 (field info.size (field info.data_type_id
     (field info.flags.0 (field (length info.unread.now) (field info.attributes.count (field info.refactor_infos.count
-    (hex info.name.now ++ (codes " " ++ (hex info.type_name.now ++ (codes " " ++ decimal info.high))))))))))))))
+    (name ++ (codes " " ++ (type_name ++ (codes " " ++ decimal info.high))))))))))))))
 
 -- why there is no entry: number, E and G
 unfoldable pub refusal_row : ℕ → ℕ → Figures → List ℕ

@@ -18,7 +18,7 @@ pub mod row;
 
 use memchr::memchr;
 use refusal::{Mode, Refusal};
-use row::{EntryRow, Hex, RefusalRow};
+use row::{EntryRow, RefusalRow};
 use std::alloc::{AllocError, Global};
 use std::io;
 use std::io::{ErrorKind, Read, Write};
@@ -83,7 +83,7 @@ fn put<W: Write>(bytes: &[u8], output: &mut W) -> io::Result<()>
                 if n == 0 {
                     return Err(io::Error::from(ErrorKind::WriteZero));
                 }
-                rest = le::part_of(rest, n, rest.len());
+                rest = &rest[n..];
             }
             Err(why) => return Err(why),
         }
@@ -98,10 +98,14 @@ fn row_text(piece: Piece<AdsSymbolInfo<'_>>, line: u64, alloc: Global) -> Result
     let start = piece.start;
     match piece.answer {
         Ok(symbol) => {
+            let name = row::spell(symbol.name, alloc)?;
+            let type_name = row::spell(symbol.type_name, alloc)?;
             let row = EntryRow {
                 line,
                 start,
                 info: &symbol,
+                name: name.as_str(),
+                type_name: type_name.as_str(),
             };
             format!(in alloc; "{row}\n")
         }
@@ -196,13 +200,13 @@ impl Line {
     }
 
     // Adds the digits of a line that goes on.
-    #[tactic(auto, unfolding(le::specs::Le::part))]
     fn hold(&mut self, digits: &[u8]) -> io::Result<()>
         ensures number { self.new.number ≡ self.old.number }
         ensures digits { OnOk result (self.new.digits.items ≡ self.old.digits.items ++ take (longest + 1 - length self.old.digits.items) digits.now) }
     {
         let room = (LONGEST + 1).saturating_sub(self.digits.len());
-        self.digits.extend_from_slice(le::part_of(digits, 0, room))?;
+        self.digits
+            .extend_from_slice(&digits[..room.min(digits.len())])?;
         Ok(())
     }
 
@@ -238,9 +242,9 @@ impl Line {
     {
         let mut rest = part;
         while let Some(end) = memchr(b'\n', rest) {
-            self.hold(le::part_of(rest, 0, end))?;
+            self.hold(&rest[..end])?;
             self.end(mode, alloc, output)?;
-            rest = le::part_of(rest, end + 1, rest.len());
+            rest = &rest[end + 1..];
         }
         self.hold(rest)
     }
@@ -311,7 +315,7 @@ pub fn list<R: Read, W: Write>(
                 return Ok(());
             }
             Ok(n) => {
-                line.take(le::part_of(&part, 0, n), mode, alloc, output)?;
+                line.take(&part[..n], mode, alloc, output)?;
                 taken += n as u64;
             }
             Err(why) => return Err(Failure::Input(why)),

@@ -27,11 +27,9 @@ pub fn name_at(bytes: &[u8], places: NamePlaces, at: usize) -> &[u8]
     if length - places.name < at {
         return &bytes[..0];
     }
-    le::part_of(
-        bytes,
-        at + places.name,
-        le::u16_at(bytes, at + places.length) as usize,
-    )
+    let told = le::u16_at(bytes, at + places.length) as usize;
+    let rest = &bytes[at + places.name..];
+    &rest[..told.min(rest.len())]
 }
 
 // Whether the four bytes from a place on are the same in both, as one number: the compiler reads them at once.

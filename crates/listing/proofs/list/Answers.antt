@@ -1,9 +1,7 @@
-use Rattle.std.proofs.Common.{ℕ, ◌<◌, ◌≤◌, ◌≡◌, List, [], ◌++◌, length, refl, sym, ap, subst, ◌∙◌, arith, rules}
+use Rattle.std.proofs.Common.{ℕ, ◌<◌, ◌≤◌, ◌≡◌, List, [], ◌++◌, length, take, refl, sym, arith, rules}
 use Rattle.std.proofs.Math.ListN.{length-append}
-use Rattle.std.specs.Io.KnownBytes.{Consumes}
 use Rattle.std.proofs.KnownBytes.{Consumes-nil, Consumes-trans, Consumes-kept}
-use Rattle.le.proofs.Laws.{length_part}
-use Rattle.listing.proofs.Lines.{begins, comes, flushes, number_fits, at_end, all_kept, so_far, part_front, on_err, front_so_far, front_ended, front_listed, front_of_input, front_any, header_front}
+use Rattle.listing.proofs.Lines.{begins, comes, flushes, number_fits, at_end, all_kept, so_far, on_err, front_so_far, front_ended, front_listed, front_of_input, front_any, header_front}
 use Rattle.listing.proofs.list.Goals as goal
 
 pub loop-taken-init : goal.loop-taken-init
@@ -12,8 +10,7 @@ loop-taken-init g c = ([], Consumes-nil _, begins c.in_ok-put.ensures.all refl c
 pub take-requires : goal.take-requires
 take-requires g c =
     let long : length c.read_on.new.part ≡ 8192 = search rules in
-    let part : length c.part_of.result.now ≡ c.in-Ok.n =
-    ap length c.part_of.ensures.result_value ∙ length_part c.read_on.new.part 0 c.in-Ok.n (omega (arith, c.in-Ok.ensures.bound)) in
+    let part : length (take c.in-Ok.n c.read_on.new.part) ≡ c.in-Ok.n = sym c.in-Ok.ensures.bound.1 in
     let few : c.in-Ok.n ≤ 8192 = omega (arith, c.in-Ok.ensures.bound, long) in
     omega (arith, number_fits c.loop-taken.invariant.0 c.loop-taken.invariant.2, c.loop-taken.invariant.3, c.loop-taken-test.true, part, few)
 
@@ -41,13 +38,12 @@ pub loop-taken-preserved : goal.loop-taken-preserved
 loop-taken-preserved g c =
     let read : List ℕ = c.loop-taken.invariant.0 in
     let i = flushes read [] (g.W.Write.contents c.flush.new.self) c.loop-taken.invariant.2 c.flush.ensures.bytes in
-    let part : length c.part_of.result.now ≡ c.in-Ok.n =
-    ap length c.part_of.ensures.result_value ∙ length_part c.read_on.new.part 0 c.in-Ok.n (omega (arith, c.in-Ok.ensures.bound)) in (
-      read ++ c.part_of.result.now,
-      Consumes-trans _ _ _ read c.part_of.result.now c.loop-taken.invariant.1
-          (subst (Consumes (g.R.Read.remaining c.loop-taken.input) (g.R.Read.remaining c.read_on.new.input)) (sym (c.part_of.ensures.result_value ∙ part_front c.read_on.new.part c.in-Ok.n)) c.in-Ok.ensures.ok),
-      c.in_ok-take-in-Ok.ensures.all (read ++ c.part_of.result.now) (g.W.Write.contents c.args.output.now) (comes read c.part_of.result.now i),
-      omega (arith, c.loop-taken.invariant.3, part, length-append read c.part_of.result.now),
+    let part : length (take c.in-Ok.n c.read_on.new.part) ≡ c.in-Ok.n = sym c.in-Ok.ensures.bound.1 in (
+      read ++ (take c.in-Ok.n c.read_on.new.part),
+      Consumes-trans _ _ _ read (take c.in-Ok.n c.read_on.new.part) c.loop-taken.invariant.1
+          c.in-Ok.ensures.ok,
+      c.in_ok-take-in-Ok.ensures.all (read ++ (take c.in-Ok.n c.read_on.new.part)) (g.W.Write.contents c.args.output.now) (comes read (take c.in-Ok.n c.read_on.new.part) i),
+      omega (arith, c.loop-taken.invariant.3, part, length-append read (take c.in-Ok.n c.read_on.new.part)),
     )
 
 pub returns-in_err-put-clause-front : goal.returns-in_err-put-clause-front
@@ -86,10 +82,10 @@ returns-in_err-take-in-Ok-clause-front g c =
     let read : List ℕ = c.loop-taken.invariant.0 in
     let i = flushes read [] (g.W.Write.contents c.flush.new.self) c.loop-taken.invariant.2 c.flush.ensures.bytes in
     on_err c.from_residual-in_err-take-in-Ok.result
-    (front_of_input c.args.mode (g.W.Write.contents c.args.output.now) (g.W.Write.contents c.take.new.output) (g.R.Read.remaining c.args.input.now) (g.R.Read.remaining c.read_on.new.input) (read ++ c.part_of.result.now)
-    (Consumes-trans _ _ _ read c.part_of.result.now c.loop-taken.invariant.1
-    (subst (Consumes (g.R.Read.remaining c.loop-taken.input) (g.R.Read.remaining c.read_on.new.input)) (sym (c.part_of.ensures.result_value ∙ part_front c.read_on.new.part c.in-Ok.n)) c.in-Ok.ensures.ok))
-    (λ more. c.in_err-take-in-Ok.ensures.front (read ++ c.part_of.result.now) more (g.W.Write.contents c.args.output.now) (comes read c.part_of.result.now i)))
+    (front_of_input c.args.mode (g.W.Write.contents c.args.output.now) (g.W.Write.contents c.take.new.output) (g.R.Read.remaining c.args.input.now) (g.R.Read.remaining c.read_on.new.input) (read ++ (take c.in-Ok.n c.read_on.new.part))
+    (Consumes-trans _ _ _ read (take c.in-Ok.n c.read_on.new.part) c.loop-taken.invariant.1
+    c.in-Ok.ensures.ok)
+    (λ more. c.in_err-take-in-Ok.ensures.front (read ++ (take c.in-Ok.n c.read_on.new.part)) more (g.W.Write.contents c.args.output.now) (comes read (take c.in-Ok.n c.read_on.new.part) i)))
 
 pub returns-in-Err-clause-front : goal.returns-in-Err-clause-front
 returns-in-Err-clause-front g c =

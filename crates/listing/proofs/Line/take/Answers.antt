@@ -1,29 +1,27 @@
-use Rattle.std.proofs.Common.{List, ℕ, ◌+◌, ◌-◌, ◌++◌, length, take, sym, ap, subst, ◌∙◌, arith}
-use Rattle.listing.specs.Listing.{longest, Reading}
-use Rattle.listing.proofs.Lines.{holds, turns, on_ok, on_err, front_so_far, front_of_line, part_front, part_after, less_after}
+use Rattle.std.proofs.Common.{List, ℕ, ◌+◌, sym, subst, arith}
+use Rattle.listing.specs.Listing.{Reading}
+use Rattle.listing.proofs.Lines.{holds, turns, on_ok, on_err, front_so_far, front_of_line, after_line}
+use Rattle.listing.proofs.Rows.{behind_less}
 use Rattle.listing.proofs.Line.take.Goals as goal
 
 pub loop-end-smaller : goal.loop-end-smaller
-loop-end-smaller g c = omega (arith, ap length c.part_of-rest.ensures.result_value, less_after c.loop-end.rest.now c.in-Some.end c.in-Some.ensures.0.high)
+loop-end-smaller g c = behind_less c.loop-end.rest.now (c.in-Some.end + 1) (omega arith) (omega (arith, c.in-Some.ensures.0.high))
 
 pub loop-end-preserved : goal.loop-end-preserved
 loop-end-preserved g c = (
-  omega (arith, c.loop-end.invariant.0, ap length c.part_of-rest.ensures.result_value, less_after c.loop-end.rest.now c.in-Some.end c.in-Some.ensures.0.high),
+  omega (arith, c.loop-end.invariant.0, behind_less c.loop-end.rest.now (c.in-Some.end + 1) (omega arith) (omega (arith, c.in-Some.ensures.0.high))),
   omega (
     arith,
     c.loop-end.invariant.1,
     c.in_ok-end.ensures.number,
     c.hold.ensures.number,
-    ap length c.part_of-rest.ensures.result_value,
-    less_after c.loop-end.rest.now c.in-Some.end c.in-Some.ensures.0.high,
+    behind_less c.loop-end.rest.now (c.in-Some.end + 1) (omega arith) (omega (arith, c.in-Some.ensures.0.high)),
   ),
   λ read before r.
       subst (λ (x : List ℕ). Reading c.args.mode read x before (g.W.Write.contents c.end.new.output) c.end.new.self)
-      (sym (part_after c.loop-end.rest.now c.in-Some.end) ∙ sym c.part_of-rest.ensures.result_value)
+      (sym (after_line c.loop-end.rest.now c.in-Some.end))
       (turns read c.loop-end.rest.now c.in-Some.end c.hold.new.self c.end.new.self (g.W.Write.contents c.end.new.output) (c.loop-end.invariant.2 read before r)
-      c.in-Some.ensures.0.high c.in-Some.ensures.0.before c.in-Some.ensures.1 c.hold.ensures.number
-      (c.in_ok-hold.ensures.digits
-      ∙ ap (λ (x : List ℕ). c.loop-end.self.digits.items ++ take (longest + 1 - length c.loop-end.self.digits.items) x) (c.part_of.ensures.result_value ∙ part_front c.loop-end.rest.now c.in-Some.end))
+      c.in-Some.ensures.0.high c.in-Some.ensures.0.before c.in-Some.ensures.1 c.hold.ensures.number c.in_ok-hold.ensures.digits
       c.in_ok-end.ensures.all c.in_ok-end.ensures.number c.in_ok-end.ensures.digits),
 )
 
@@ -41,9 +39,7 @@ returns-in_err-end-clause-front g c =
     on_err c.from_residual-in_err-end.result
     (λ read more before r.
     front_of_line read c.loop-end.rest.now more c.in-Some.end c.hold.new.self (g.W.Write.contents c.end.new.output) (c.loop-end.invariant.2 read before r)
-    c.in-Some.ensures.0.high c.in-Some.ensures.0.before c.in-Some.ensures.1 c.hold.ensures.number
-    (c.in_ok-hold.ensures.digits
-    ∙ ap (λ (x : List ℕ). c.loop-end.self.digits.items ++ take (longest + 1 - length c.loop-end.self.digits.items) x) (c.part_of.ensures.result_value ∙ part_front c.loop-end.rest.now c.in-Some.end))
+    c.in-Some.ensures.0.high c.in-Some.ensures.0.before c.in-Some.ensures.1 c.hold.ensures.number c.in_ok-hold.ensures.digits
     c.in_err-end.ensures.front)
 
 pub returns-clause-front : goal.returns-clause-front
