@@ -27,7 +27,7 @@ use Rattle.data_type.specs.declared.array.ArrayInfos.{ArrayInfos}
 use Rattle.data_type.specs.declared.members.SubItem.{SubItem}
 use Rattle.data_type.specs.declared.members.Member.{Member}
 use Rattle.data_type.specs.declared.members.Position.{Position}
-use Rattle.data_type.specs.declared.reader.ReadSubItems.{ReadSubItems}
+use Rattle.data_type.specs.declared.reader.SubItemsRead.{SubItemsRead}
 use Rattle.data_type.specs.Array.{listed, first_of}
 use Rattle.data_type.specs.Members.{root, below, item_in, each, members_below}
 use Rattle.data_type.specs.DataType.{taken, ItemReader, items_from, arrays_of, sub_items_of, type_with, too_deep, item_by, type_at, levels, type_of}
@@ -147,11 +147,11 @@ Read x y =
     ((why : Refusal) × (x ≡ Err why) × (y ≡ Err why))
     ⊎ ((m : ℕ × ℕ) × (q : AdsDataTypeInfo) × (r : AdsDataTypeInfo) × (s : Bor (List ℕ)) × (x ≡ Ok (q, moved m s)) × (y ≡ Ok (r, s)) × (q.member_count ≡ r.member_count))
 
-abbrev Counted : Result ReadSubItems Refusal → Result ReadSubItems Refusal → Type 0
-Counted x y = ((why : Refusal) × (x ≡ Err why) × (y ≡ Err why)) ⊎ ((m : ℕ × ℕ) × (i : ReadSubItems) × (x ≡ Ok (record { rest = moved m i.rest; members = i.members })) × (y ≡ Ok i))
+abbrev Counted : Result SubItemsRead Refusal → Result SubItemsRead Refusal → Type 0
+Counted x y = ((why : Refusal) × (x ≡ Err why) × (y ≡ Err why)) ⊎ ((m : ℕ × ℕ) × (i : SubItemsRead) × (x ≡ Ok (record { rest = moved m i.rest; members = i.members })) × (y ≡ Ok i))
 
 module _ (item : ItemReader) (alike : (m : ℕ × ℕ) (s : Bor (List ℕ)) → Read (item (moved m s)) (item s)) where
-  counted_by : (n p q : ℕ) (x y : Result ReadSubItems Refusal) → p ≡ q → Counted x y
+  counted_by : (n p q : ℕ) (x y : Result SubItemsRead Refusal) → p ≡ q → Counted x y
       → Counted (and_then x (λ more. Ok (record { rest = more.rest; members = 1 + p + more.members }))) (and_then y (λ more. Ok (record { rest = more.rest; members = 1 + q + more.members })))
   counted_by n p q x y e (inl w) = rw (w.1, w.2) (inl (w.0, refl, refl))
   counted_by n p q x y e (inr w) = rw (w.2, w.3, e) (inr (w.0, record { rest = w.1.rest; members = 1 + q + w.1.members }, refl, refl))

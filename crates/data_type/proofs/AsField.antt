@@ -10,7 +10,7 @@ use Rattle.field.specs.Field.{behind_items, field_of}
 use Rattle.field.proofs.Items.{items_step}
 use Rattle.data_type.specs.declared.AdsDataTypeInfo.{AdsDataTypeInfo}
 use Rattle.data_type.specs.declared.array.ArrayInfos.{ArrayInfos}
-use Rattle.data_type.specs.declared.reader.ReadSubItems.{ReadSubItems}
+use Rattle.data_type.specs.declared.reader.SubItemsRead.{SubItemsRead}
 use Rattle.data_type.specs.DataType.{taken, items_from, item_at, arrays_of, type_at, type_of}
 use Rattle.data_type.specs.Theorems.{TypesAsFields}
 use Rattle.data_type.proofs.Inside.{turn, accepted_at}
@@ -29,14 +29,14 @@ passed_over : (s behind : Bor (List ℕ)) → Behind s behind → ahead s (le4 s
 passed_over s behind b = let room = b.room in let m : min (le4 s.now 0) (length s.now) ≡ le4 s.now 0 = omega arith in ap (after s) m ∙ sym b.is
 
 -- sub-items that were read are passed over to the same place
-pub skipped : (mode : Mode) (left n : ℕ) (s : Bor (List ℕ)) (items : ReadSubItems) → items_from (item_at mode left) s n ≡ Ok items → after_items s n ≡ items.rest
+pub skipped : (mode : Mode) (left n : ℕ) (s : Bor (List ℕ)) (items : SubItemsRead) → items_from (item_at mode left) s n ≡ Ok items → after_items s n ≡ items.rest
 unfolding items_from after_items
-skipped mode left zero s items h = let e : record { rest = s; members = 0 } ≡ items = cc h in ap (λ (x : ReadSubItems). x.rest) e
+skipped mode left zero s items h = let e : record { rest = s; members = 0 } ≡ items = cc h in ap (λ (x : SubItemsRead). x.rest) e
 skipped mode left (suc n) s items h =
     let t = turn mode left s n items h in
     let b = behind_taken s t.own t.behind t.takes in
     let z : suc n - 1 ≡ n = omega arith in
-    items_step s (suc n) b.four (omega arith) ∙ ap (after_items (ahead s (le4 s.now 0))) z ∙ ap (λ (x : Bor (List ℕ)). after_items x n) (passed_over s t.behind b) ∙ skipped mode left n t.behind t.more t.rest ∙ ap (λ (x : ReadSubItems). x.rest) t.is
+    items_step s (suc n) b.four (omega arith) ∙ ap (after_items (ahead s (le4 s.now 0))) z ∙ ap (λ (x : Bor (List ℕ)). after_items x n) (passed_over s t.behind b) ∙ skipped mode left n t.behind t.more t.rest ∙ ap (λ (x : SubItemsRead). x.rest) t.is
 
 pub arrays_skipped : (f : Front) (a : ArrayInfos × Bor (List ℕ)) → arrays_of f ≡ Ok a → ahead f.rest (8 * f.array_count) ≡ a.1
 unfolding arrays_of

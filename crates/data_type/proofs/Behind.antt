@@ -13,20 +13,20 @@ use Rattle.field.specs.Tail.{sections_of, attribute_ends}
 use Rattle.layout.proofs.Guid.{end_guid}
 use Rattle.field.proofs.Within.{end_mask, end_methods, is_list}
 use Rattle.data_type.specs.declared.AdsDataTypeInfo.{AdsDataTypeInfo}
-use Rattle.data_type.specs.declared.reader.ReadSubItems.{ReadSubItems}
+use Rattle.data_type.specs.declared.reader.SubItemsRead.{SubItemsRead}
 use Rattle.data_type.specs.DataType.{ItemReader, items_from}
 use Rattle.part.proofs.Outcome.{both_passed}
 
 -- sub-items that were read, where each leaves an end
 pub end_rest : {e : Bor (List ℕ)} (item : ItemReader) → ((s : Bor (List ℕ)) (p : AdsDataTypeInfo × Bor (List ℕ)) → item s ≡ Ok p → IsEnd e s → IsEnd e p.1)
-    → (n : ℕ) (s : Bor (List ℕ)) (items : ReadSubItems) → items_from item s n ≡ Ok items → IsEnd e s → IsEnd e items.rest
+    → (n : ℕ) (s : Bor (List ℕ)) (items : SubItemsRead) → items_from item s n ≡ Ok items → IsEnd e s → IsEnd e items.rest
 unfolding items_from
-end_rest {e} item each zero s items h i = let z : record { rest = s; members = 0 } ≡ items = cc h in subst (λ (x : ReadSubItems). IsEnd e x.rest) z i
+end_rest {e} item each zero s items h i = let z : record { rest = s; members = 0 } ≡ items = cc h in subst (λ (x : SubItemsRead). IsEnd e x.rest) z i
 end_rest {e} item each (suc n) s items h i =
     let p = both_passed (item s) h in
     let m = both_passed (items_from item p.0.1 n) p.1.1 in
     let w : record { rest = m.0.rest; members = 1 + p.0.0.member_count + m.0.members } ≡ items = cc m.1.1 in
-    let z : m.0.rest ≡ items.rest = ap (λ (x : ReadSubItems). x.rest) w in
+    let z : m.0.rest ≡ items.rest = ap (λ (x : SubItemsRead). x.rest) w in
     subst (IsEnd e) z (end_rest item each n p.0.1 m.0 m.1.0 (each s p.0 p.1.0 i))
 
 module _ (e : Bor (List ℕ)) where

@@ -21,7 +21,7 @@ use Rattle.field.specs.Front.{with_strings, front_of}
 use Rattle.layout.specs.Layout.{guid_of}
 use Rattle.field.specs.Tail.{after_mask, after_methods, attributes_of, tail_of}
 use Rattle.data_type.specs.declared.AdsDataTypeInfo.{AdsDataTypeInfo}
-use Rattle.data_type.specs.declared.reader.ReadSubItems.{ReadSubItems}
+use Rattle.data_type.specs.declared.reader.SubItemsRead.{SubItemsRead}
 use Rattle.field.specs.Field.{joined}
 use Rattle.data_type.specs.DataType.{sub_items_of, ItemReader, taken, items_from, item_at, arrays_of, type_with, type_at, type_of}
 use Rattle.data_type.specs.Chain.{around, chain, HasMembers, TypesNest}
@@ -86,7 +86,7 @@ module _ (e : Bor (List ℕ)) (count : ℕ) (items : List ℕ) (a : Around e cou
   unfolding with_strings
   counted = a.counts
 
-  with_items : (mode : Mode) (item : ItemReader) (items : ReadSubItems) → items_from item first count ≡ Ok items → type_with mode item e ≡ Ok (record_of items.members items.rest)
+  with_items : (mode : Mode) (item : ItemReader) (items : SubItemsRead) → items_from item first count ≡ Ok items → type_with mode item e ≡ Ok (record_of items.members items.rest)
   unfolding type_with
   with_items mode item items h =
       let c : f.sub_item_count ≡ count = counted in

@@ -8,7 +8,7 @@ use Rattle.field.specs.declared.tail.Tail.{Tail}
 use Rattle.field.specs.Front.{with_strings, front_of}
 use Rattle.field.specs.Tail.{tail_of}
 use Rattle.data_type.specs.declared.array.ArrayInfos.{ArrayInfos}
-use Rattle.data_type.specs.declared.reader.ReadSubItems.{ReadSubItems}
+use Rattle.data_type.specs.declared.reader.SubItemsRead.{SubItemsRead}
 use Rattle.field.specs.Field.{joined}
 use Rattle.data_type.specs.DataType.{items_from, item_at, arrays_of, sub_items_of, type_with, type_at}
 use Rattle.data_type.proofs.Turns.{type_step}
@@ -41,7 +41,7 @@ module _ (mode : Mode) (left : ℕ) (e : Bor (List ℕ)) where
       unfolding type_with
       items_refused why i = type_step mode left e ∙ simp (h, k, i)
 
-      module _ (items : ReadSubItems) (i : items_from (item_at mode left) a.1 f.sub_item_count ≡ Ok items) where
+      module _ (items : SubItemsRead) (i : items_from (item_at mode left) a.1 f.sub_item_count ≡ Ok items) where
         pub tail_refused : (why : Refusal) → tail_of mode f items.rest ≡ Err why → type_at mode left e ≡ Err why
         unfolding type_with
         tail_refused why l = type_step mode left e ∙ simp (h, k, i, l)

@@ -20,7 +20,7 @@ use Rattle.attribute.proofs.Modes.{tested_first}
 use Rattle.data_type.specs.declared.AdsDataTypeInfo.{AdsDataTypeInfo}
 use Rattle.data_type.specs.declared.array.ArrayInfos.{ArrayInfos}
 use Rattle.part.proofs.Outcome.{both_passed}
-use Rattle.data_type.specs.declared.reader.ReadSubItems.{ReadSubItems}
+use Rattle.data_type.specs.declared.reader.SubItemsRead.{SubItemsRead}
 use Rattle.field.specs.Field.{joined}
 use Rattle.data_type.specs.DataType.{ItemReader, sub_items_of, taken, items_from, arrays_of, type_with, too_deep, item_by, type_at, type_of}
 use Rattle.field.specs.Modes.{strings_end, string_bytes}
@@ -127,7 +127,7 @@ module _ (met : Bor (List ℕ) → List (ℕ × ℕ)) (checked present : ItemRea
         (λ f g. then_free (arrays_of f) _ _ (λ a. behind_arrays a.1 f.sub_item_count)
         (λ a b.
         let w = front_was Present e f g in
-        let t : (items : ReadSubItems) → items_from present a.1 f.sub_item_count ≡ Ok items → Met (tail_of Checked f items.rest) (tail_met e items.rest) (tail_of Present f items.rest) =
+        let t : (items : SubItemsRead) → items_from present a.1 f.sub_item_count ≡ Ok items → Met (tail_of Checked f items.rest) (tail_met e items.rest) (tail_of Present f items.rest) =
         λ items k. subst (λ (x : Front). Met (tail_of Checked x items.rest) (tail_met e items.rest) (tail_of Present x items.rest)) w.1 (tail_is_met e items.rest (end_rest present (leaves e) f.sub_item_count a.1 items k (end_first e f a w g b))) in
         then_met (items_from checked a.1 f.sub_item_count) (items_from present a.1 f.sub_item_count) (items_met met present a.1 f.sub_item_count) _ _ (λ items. tail_met e items.rest) (items_are_met f.sub_item_count a.1)
         (λ items k. mapped (tail_of Checked f items.rest) (tail_of Present f items.rest) (tail_met e items.rest) (λ t. record { field = joined f t; arrays = a.0; sub_items = sub_items_of f a.1; member_count = items.members }) (t items k))))

@@ -9,7 +9,7 @@ use Rattle.field.specs.Front.{front_of}
 use Rattle.data_type.specs.declared.AdsDataTypeInfo.{AdsDataTypeInfo}
 use Rattle.data_type.specs.declared.members.Member.{Member}
 use Rattle.data_type.specs.declared.members.Position.{Position}
-use Rattle.data_type.specs.declared.reader.ReadSubItems.{ReadSubItems}
+use Rattle.data_type.specs.declared.reader.SubItemsRead.{SubItemsRead}
 use Rattle.data_type.specs.DataType.{taken, items_from, item_at, type_at, type_of}
 use Rattle.part.proofs.Outcome.{both_passed}
 use Rattle.data_type.specs.Accepted.{Accepted, accepted}
@@ -19,19 +19,19 @@ use Rattle.data_type.proofs.Entry.{fits, arrays_fit}
 use Rattle.data_type.proofs.Steps.{none_left, one_left}
 
 -- the first of some sub-items, and those behind it
-pub record Turn (mode : Mode) (left : ℕ) (s : Bor (List ℕ)) (n : ℕ) (items : ReadSubItems) : Type 0 where
+pub record Turn (mode : Mode) (left : ℕ) (s : Bor (List ℕ)) (n : ℕ) (items : SubItemsRead) : Type 0 where
   pub deeper : ℕ
   pub some : left ≡ suc deeper
   pub own : Bor (List ℕ)
   pub behind : Bor (List ℕ)
   pub info : AdsDataTypeInfo
-  pub more : ReadSubItems
+  pub more : SubItemsRead
   pub takes : taken s ≡ Ok (own, behind)
   pub entry : type_at mode deeper own ≡ Ok info
   pub rest : items_from (item_at mode left) behind n ≡ Ok more
   pub is : record { rest = more.rest; members = 1 + info.member_count + more.members } ≡ items
 
-pub turn : (mode : Mode) (left : ℕ) (s : Bor (List ℕ)) (n : ℕ) (items : ReadSubItems) → items_from (item_at mode left) s (suc n) ≡ Ok items → Turn mode left s n items
+pub turn : (mode : Mode) (left : ℕ) (s : Bor (List ℕ)) (n : ℕ) (items : SubItemsRead) → items_from (item_at mode left) s (suc n) ≡ Ok items → Turn mode left s n items
 unfolding items_from item_at
 turn mode zero s n items h = cc
 turn mode (suc left) s n items h =
@@ -58,7 +58,7 @@ accepted_at mode left e r h = accepted mode (item_at mode left) e r (sym (type_s
 
 -- the sub-items of an entry that was read were read
 pub record Holds (mode : Mode) (left : ℕ) (r : AdsDataTypeInfo) : Type 0 where
-  pub items : ReadSubItems
+  pub items : SubItemsRead
   pub read : items_from (item_at mode left) r.sub_items.bytes r.sub_items.count ≡ Ok items
   pub count : r.member_count ≡ items.members
 
@@ -90,7 +90,7 @@ unfolding below
 below_depth p place offset h = simp (lt-ltb p.depth 16 h)
 
 -- a sub-item, then its members, then those behind it
-module _ (mode : Mode) (left : ℕ) (s : Bor (List ℕ)) (n : ℕ) (items : ReadSubItems) (t : Turn mode left s n items) (above : Position) (end : ℕ) where
+module _ (mode : Mode) (left : ℕ) (s : Bor (List ℕ)) (n : ℕ) (items : SubItemsRead) (t : Turn mode left s n items) (above : Position) (end : ℕ) where
   abbrev pub here : Position
   here = below above (end - length s.now) t.info.field.offset
 
@@ -102,9 +102,9 @@ module _ (mode : Mode) (left : ℕ) (s : Bor (List ℕ)) (n : ℕ) (items : Read
       ∙ ap (λ (m : ℕ). record { position = here; own = t.own } ∷ (members_below k here (end - length s.now + length t.own.now) t.info.sub_items.bytes t.info.sub_items.count ++ members_below (suc k) above end t.behind m)) z
 
 -- what holds of no sub-item, and of a sub-item, what it holds and those behind it where it holds of these, holds of all that were read
-module _ (mode : Mode) (P : Position → ℕ → Bor (List ℕ) → ℕ → ReadSubItems → List Member → Type 0)
+module _ (mode : Mode) (P : Position → ℕ → Bor (List ℕ) → ℕ → SubItemsRead → List Member → Type 0)
     (none : (above : Position) (end : ℕ) (s : Bor (List ℕ)) → P above end s 0 (record { rest = s; members = 0 }) [])
-    (more : (left : ℕ) (s : Bor (List ℕ)) (n : ℕ) (items : ReadSubItems) (t : Turn mode left s n items) (above : Position) (end : ℕ) (inner : ReadSubItems) (held rest : List Member)
+    (more : (left : ℕ) (s : Bor (List ℕ)) (n : ℕ) (items : SubItemsRead) (t : Turn mode left s n items) (above : Position) (end : ℕ) (inner : SubItemsRead) (held rest : List Member)
     → above.depth + left ≡ 16 → inner.members ≡ t.info.member_count → items_from (item_at mode t.deeper) t.info.sub_items.bytes t.info.sub_items.count ≡ Ok inner
     → P (here mode left s n items t above end) (end - length s.now + length t.own.now) t.info.sub_items.bytes t.info.sub_items.count inner held
     → P above end t.behind n t.more rest
@@ -113,12 +113,12 @@ module _ (mode : Mode) (P : Position → ℕ → Bor (List ℕ) → ℕ → Read
   below_deeper p place offset left deeper e h = let d = below_depth p place offset (omega arith) in omega arith
 
   items_all : (left : ℕ)
-      → ((deeper : ℕ) → left ≡ suc deeper → (p : Position) (e : ℕ) (n : ℕ) (s : Bor (List ℕ)) (items : ReadSubItems) → p.depth + deeper ≡ 16 → items_from (item_at mode deeper) s n ≡ Ok items → P p e s n items (members_below deeper p e s n))
-      → (n : ℕ) (above : Position) (end : ℕ) (s : Bor (List ℕ)) (items : ReadSubItems) → above.depth + left ≡ 16 → items_from (item_at mode left) s n ≡ Ok items → P above end s n items (members_below left above end s n)
+      → ((deeper : ℕ) → left ≡ suc deeper → (p : Position) (e : ℕ) (n : ℕ) (s : Bor (List ℕ)) (items : SubItemsRead) → p.depth + deeper ≡ 16 → items_from (item_at mode deeper) s n ≡ Ok items → P p e s n items (members_below deeper p e s n))
+      → (n : ℕ) (above : Position) (end : ℕ) (s : Bor (List ℕ)) (items : SubItemsRead) → above.depth + left ≡ 16 → items_from (item_at mode left) s n ≡ Ok items → P above end s n items (members_below left above end s n)
   unfolding items_from
   items_all left each zero above end s items h i =
       let e : record { rest = s; members = 0 } ≡ items = cc i in
-      subst (λ (x : ReadSubItems). P above end s 0 x (members_below left above end s 0)) e (subst (λ (ms : List Member). P above end s 0 (record { rest = s; members = 0 }) ms) (sym (none_left above end s left 0 refl)) (none above end s))
+      subst (λ (x : SubItemsRead). P above end s 0 x (members_below left above end s 0)) e (subst (λ (ms : List Member). P above end s 0 (record { rest = s; members = 0 }) ms) (sym (none_left above end s left 0 refl)) (none above end s))
   items_all left each (suc n) above end s items h i =
       let t = turn mode left s n items i in
       let o = holds mode t.deeper t.own t.info t.entry in
@@ -128,11 +128,11 @@ module _ (mode : Mode) (P : Position → ℕ → Bor (List ℕ) → ℕ → Read
       let m = more left s n items t above end o.items (members_below t.deeper p (end - length s.now + length t.own.now) t.info.sub_items.bytes t.info.sub_items.count) (members_below left above end t.behind n) h (sym o.count) o.read inner rest in
       subst (P above end s (suc n) items) (sym (brings_at left t.deeper t.some s n items t above end)) m
     where
-      brings_at : (left k : ℕ) → left ≡ suc k → (s : Bor (List ℕ)) (n : ℕ) (items : ReadSubItems) (t : Turn mode left s n items) (above : Position) (end : ℕ) → members_below left above end s (suc n)
+      brings_at : (left k : ℕ) → left ≡ suc k → (s : Bor (List ℕ)) (n : ℕ) (items : SubItemsRead) (t : Turn mode left s n items) (above : Position) (end : ℕ) → members_below left above end s (suc n)
           ≡ record { position = here mode left s n items t above end; own = t.own } ∷ (members_below k (here mode left s n items t above end) (end - length s.now + length t.own.now) t.info.sub_items.bytes t.info.sub_items.count ++ members_below left above end t.behind n)
       brings_at left k e s n items t above end = rw e (brings mode left s n items t above end k)
 
-  pub all_of : (left n : ℕ) (above : Position) (end : ℕ) (s : Bor (List ℕ)) (items : ReadSubItems) → above.depth + left ≡ 16 → items_from (item_at mode left) s n ≡ Ok items → P above end s n items (members_below left above end s n)
+  pub all_of : (left n : ℕ) (above : Position) (end : ℕ) (s : Bor (List ℕ)) (items : SubItemsRead) → above.depth + left ≡ 16 → items_from (item_at mode left) s n ≡ Ok items → P above end s n items (members_below left above end s n)
   all_of zero n above end s items h i = items_all zero (λ deeper e p f m d r k l. absurd (omega (arith, e))) n above end s items h i
   all_of (suc left) n above end s items h i =
       items_all (suc left) (λ deeper e p f m d r k l.
@@ -146,14 +146,14 @@ counted mode e r h =
     all_of mode (λ above end s n items ms. length ms ≡ items.members) (λ above end s. refl)
     (λ left s n items t above end inner held rest d c o p q.
     let l = length-append held rest in
-    let i : 1 + t.info.member_count + t.more.members ≡ items.members = ap (λ (x : ReadSubItems). x.members) t.is in
+    let i : 1 + t.info.member_count + t.more.members ≡ items.members = ap (λ (x : SubItemsRead). x.members) t.is in
     omega arith)
     15 r.sub_items.count root r.field.length r.sub_items.bytes o.items refl o.read
     ∙ sym o.count
 
 -- fewer than bytes
 few_items : (mode : Mode) (left : ℕ) → ((deeper : ℕ) (own : Bor (List ℕ)) (info : AdsDataTypeInfo) → left ≡ suc deeper → type_at mode deeper own ≡ Ok info → info.member_count < length own.now)
-    → (n : ℕ) (s : Bor (List ℕ)) (items : ReadSubItems) → items_from (item_at mode left) s n ≡ Ok items → items.members + length items.rest.now ≤ length s.now
+    → (n : ℕ) (s : Bor (List ℕ)) (items : SubItemsRead) → items_from (item_at mode left) s n ≡ Ok items → items.members + length items.rest.now ≤ length s.now
 unfolding items_from
 few_items mode left each zero s items h = let e : record { rest = s; members = 0 } ≡ items = cc h in simp (← e) (omega arith)
 few_items mode left each (suc n) s items h =
@@ -163,7 +163,7 @@ few_items mode left each (suc n) s items h =
     let z = taken_fits s t.own t.behind t.takes in
     simp (← t.is) (omega arith)
 
-few_by : (mode : Mode) (left : ℕ) (e : Bor (List ℕ)) (r : AdsDataTypeInfo) → ((n : ℕ) (s : Bor (List ℕ)) (items : ReadSubItems) → items_from (item_at mode left) s n ≡ Ok items → items.members + length items.rest.now ≤ length s.now)
+few_by : (mode : Mode) (left : ℕ) (e : Bor (List ℕ)) (r : AdsDataTypeInfo) → ((n : ℕ) (s : Bor (List ℕ)) (items : SubItemsRead) → items_from (item_at mode left) s n ≡ Ok items → items.members + length items.rest.now ≤ length s.now)
     → type_at mode left e ≡ Ok r → r.member_count < length e.now
 few_by mode left e r each h =
     let a = accepted_at mode left e r h in

@@ -13,7 +13,7 @@ use Rattle.data_type.specs.declared.AdsDataTypeInfo.{AdsDataTypeInfo}
 use Rattle.data_type.specs.declared.array.ArrayInfos.{ArrayInfos}
 use Rattle.data_type.specs.declared.members.Member.{Member}
 use Rattle.data_type.specs.declared.members.Position.{Position}
-use Rattle.data_type.specs.declared.reader.ReadSubItems.{ReadSubItems}
+use Rattle.data_type.specs.declared.reader.SubItemsRead.{SubItemsRead}
 use Rattle.data_type.specs.DataType.{items_from, item_at, type_at, type_of}
 use Rattle.data_type.specs.Members.{place_of}
 use Rattle.data_type.specs.Meaning.{among, IsAt, IsMember, Between}
@@ -80,7 +80,7 @@ module _ (mode : Mode) (s : Bor (List ℕ)) (small : length s.now ≤ limit) (wh
     pub order : Between (end - length c.now) end ms
     pub counts : among (above.depth + 1) ms ≡ n
 
-  abbrev pub LaidIn : Position → ℕ → Bor (List ℕ) → ℕ → ReadSubItems → List Member → Type 0
+  abbrev pub LaidIn : Position → ℕ → Bor (List ℕ) → ℕ → SubItemsRead → List Member → Type 0
   LaidIn above end c n i ms = IsAt s.now above → Within c end → Laid above end c n ms
 
   pub laid_none : (above : Position) (end : ℕ) (c : Bor (List ℕ)) → LaidIn above end c 0 (record { rest = c; members = 0 }) []
@@ -129,7 +129,7 @@ module _ (mode : Mode) (s : Bor (List ℕ)) (small : length s.now ≤ limit) (wh
           there = ap (λ (k : ℕ). parse_of 42 (type_of mode) (after s k)) e ∙ read_there;
         }
 
-  pub laid_more : (left : ℕ) (c : Bor (List ℕ)) (n : ℕ) (i : ReadSubItems) (t : Turn mode left c n i) (above : Position) (end : ℕ) (inner : ReadSubItems) (held rest : List Member)
+  pub laid_more : (left : ℕ) (c : Bor (List ℕ)) (n : ℕ) (i : SubItemsRead) (t : Turn mode left c n i) (above : Position) (end : ℕ) (inner : SubItemsRead) (held rest : List Member)
       → above.depth + left ≡ 16 → inner.members ≡ t.info.member_count → items_from (item_at mode t.deeper) t.info.sub_items.bytes t.info.sub_items.count ≡ Ok inner
       → LaidIn (here mode left c n i t above end) (end - length c.now + length t.own.now) t.info.sub_items.bytes t.info.sub_items.count inner held
       → LaidIn above end t.behind n t.more rest

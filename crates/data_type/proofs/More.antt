@@ -5,7 +5,7 @@ use Rattle.std.specs.Prelude.{Result, Ok}
 use Rattle.refusal.specs.declared.Mode.{Mode}
 use Rattle.refusal.specs.declared.Refusal.{Refusal}
 use Rattle.data_type.specs.declared.AdsDataTypeInfo.{AdsDataTypeInfo}
-use Rattle.data_type.specs.declared.reader.ReadSubItems.{ReadSubItems}
+use Rattle.data_type.specs.declared.reader.SubItemsRead.{SubItemsRead}
 use Rattle.data_type.specs.DataType.{ItemReader, taken, items_from, type_with, too_deep, item_by, type_at}
 use Rattle.part.proofs.Outcome.{both_passed}
 use Rattle.data_type.specs.Accepted.{Accepted, accepted}
@@ -17,7 +17,7 @@ build mode item e r a = simp (a.front_is, a.arrays_are, a.items_are, a.tail_is) 
 
 -- where each sub-item that is read by one reader is read alike by another
 module _ (item other : ItemReader) (each : (s : Bor (List ℕ)) (p : AdsDataTypeInfo × Bor (List ℕ)) → item s ≡ Ok p → other s ≡ Ok p) where
-  pub items_more : (left : ℕ) (s : Bor (List ℕ)) (items : ReadSubItems) → items_from item s left ≡ Ok items → items_from other s left ≡ Ok items
+  pub items_more : (left : ℕ) (s : Bor (List ℕ)) (items : SubItemsRead) → items_from item s left ≡ Ok items → items_from other s left ≡ Ok items
   unfolding items_from
   items_more zero s items h = h
   items_more (suc left) s items h =

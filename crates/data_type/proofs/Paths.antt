@@ -6,7 +6,7 @@ use Rattle.refusal.specs.declared.Mode.{Mode}
 use Rattle.le.specs.Le.{le4}
 use Rattle.data_type.specs.declared.members.Member.{Member}
 use Rattle.data_type.specs.declared.members.Position.{Position}
-use Rattle.data_type.specs.declared.reader.ReadSubItems.{ReadSubItems}
+use Rattle.data_type.specs.declared.reader.SubItemsRead.{SubItemsRead}
 use Rattle.data_type.specs.DataType.{items_from, item_at}
 use Rattle.data_type.specs.Members.{place_of}
 use Rattle.data_type.specs.Meaning.{LiesIn}
@@ -48,7 +48,7 @@ pub record Below (above : Position) (from end : ℕ) (ms : List Member) (k : ℕ
   pub agree : (i : ℕ) → i + 1 < above.depth → get_or m.position.path i 0 ≡ get_or above.path i 0
   pub lies : (i : ℕ) → above.depth ≤ i + 1 → i + 2 ≤ m.position.depth → LiesIn ms k m i
 
-abbrev pub PathsIn : Position → ℕ → Bor (List ℕ) → ℕ → ReadSubItems → List Member → Type 0
+abbrev pub PathsIn : Position → ℕ → Bor (List ℕ) → ℕ → SubItemsRead → List Member → Type 0
 PathsIn above end s n items ms = length s.now ≤ end → length above.path ≡ 15 → 1 ≤ above.depth → (k : ℕ) (m : Member) → slice_get ms k ≡ Some m → Below above (end - length s.now) end ms k m
 
 pub paths_none : (above : Position) (end : ℕ) (s : Bor (List ℕ)) → PathsIn above end s 0 (record { rest = s; members = 0 }) []
@@ -170,7 +170,7 @@ module _ (x : Member) (held rest : List Member) (above : Position) (from middle 
           subst (λ (j : ℕ). Below above from end all j m) n (one_rest (k - length held) m (sym (get_right (x ∷ held) rest (k - length held)) ∙ ap (slice_get all) n ∙ g))
 
 module _ (mode : Mode) where
-  pub paths_more : (left : ℕ) (s : Bor (List ℕ)) (n : ℕ) (i : ReadSubItems) (t : Turn mode left s n i) (above : Position) (end : ℕ) (inner : ReadSubItems) (held rest : List Member)
+  pub paths_more : (left : ℕ) (s : Bor (List ℕ)) (n : ℕ) (i : SubItemsRead) (t : Turn mode left s n i) (above : Position) (end : ℕ) (inner : SubItemsRead) (held rest : List Member)
       → above.depth + left ≡ 16 → inner.members ≡ t.info.member_count → items_from (item_at mode t.deeper) t.info.sub_items.bytes t.info.sub_items.count ≡ Ok inner
       → PathsIn (here mode left s n i t above end) (end - length s.now + length t.own.now) t.info.sub_items.bytes t.info.sub_items.count inner held
       → PathsIn above end t.behind n t.more rest

@@ -24,7 +24,7 @@ use Rattle.field.specs.Field.{behind_items, field_of}
 use Rattle.field.specs.Skip.{after_items}
 use Rattle.data_type.specs.declared.AdsDataTypeInfo.{AdsDataTypeInfo}
 use Rattle.data_type.specs.declared.members.Position.{Position}
-use Rattle.data_type.specs.declared.reader.ReadSubItems as items
+use Rattle.data_type.specs.declared.reader.SubItemsRead as items
 use Rattle.data_type.specs.DataType.{taken, items_from, item_at, arrays_of, type_at, type_of}
 use Rattle.walk.specs.Mapped.{map_ok}
 use Rattle.data_type.specs.Members.{members_of}
@@ -67,7 +67,7 @@ module _ (mode : Mode) where
   unfolding items_from
   later_refuses left s n why p h k = simp (h, k)
 
-  later_reads : (left : ℕ) (s : Bor (List ℕ)) (n : ℕ) (more : items.ReadSubItems) (p : AdsDataTypeInfo × Bor (List ℕ)) → item_at mode left s ≡ Ok p → items_from (item_at mode left) p.1 n ≡ Ok more
+  later_reads : (left : ℕ) (s : Bor (List ℕ)) (n : ℕ) (more : items.SubItemsRead) (p : AdsDataTypeInfo × Bor (List ℕ)) → item_at mode left s ≡ Ok p → items_from (item_at mode left) p.1 n ≡ Ok more
       → items_from (item_at mode left) s (suc n) ≡ Ok (record { rest = more.rest; members = 1 + p.0.member_count + more.members })
   unfolding items_from
   later_reads left s n more p h k = simp (h, k)
@@ -129,20 +129,20 @@ module _ (mode : Mode) where
     arrays_are = let l : length f.rest.now ≡ length e.now - strings_end e.now = length-drop (strings_end e.now) e.now in arrays_there f (omega arith)
 
     module _ (left : ℕ) where
-      items_are : (r : Result items.ReadSubItems Refusal) → items_from (item_at mode left) (after e (arrays_end e.now)) (le2 e.now 40) ≡ r → items_from (item_at mode left) after_arrays f.sub_item_count ≡ r
+      items_are : (r : Result items.SubItemsRead Refusal) → items_from (item_at mode left) (after e (arrays_end e.now)) (le2 e.now 40) ≡ r → items_from (item_at mode left) after_arrays f.sub_item_count ≡ r
       items_are r i = ap₂ (items_from (item_at mode left)) same_place same_count ∙ i
 
       -- the field reader goes on where the sub-items end
-      field_is : (i : items.ReadSubItems) → items_from (item_at mode left) after_arrays f.sub_item_count ≡ Ok i → field_of mode e ≡ and_then (tail_of mode f i.rest) (λ t. Ok (field.joined f t))
+      field_is : (i : items.SubItemsRead) → items_from (item_at mode left) after_arrays f.sub_item_count ≡ Ok i → field_of mode e ≡ and_then (tail_of mode f i.rest) (λ t. Ok (field.joined f t))
       unfolding field_of
       field_is i k =
           let s : behind_items f ≡ i.rest = ap (λ (x : Bor (List ℕ)). after_items x f.sub_item_count) (arrays_skipped f _ arrays_are) ∙ skipped mode left f.sub_item_count after_arrays i k in
           simp (front_there mode e h, s)
 
-      tail_as_field : (i : items.ReadSubItems) (why : Refusal) → items_from (item_at mode left) after_arrays f.sub_item_count ≡ Ok i → field_of mode e ≡ Err why → tail_of mode f i.rest ≡ Err why
+      tail_as_field : (i : items.SubItemsRead) (why : Refusal) → items_from (item_at mode left) after_arrays f.sub_item_count ≡ Ok i → field_of mode e ≡ Err why → tail_of mode f i.rest ≡ Err why
       tail_as_field i why k x = given_on (tail_of mode f i.rest) (field.joined f) why (sym (field_is i k) ∙ x)
 
-      field_as_tail : (i : items.ReadSubItems) (why : Refusal) → items_from (item_at mode left) after_arrays f.sub_item_count ≡ Ok i → tail_of mode f i.rest ≡ Err why → field_of mode e ≡ Err why
+      field_as_tail : (i : items.SubItemsRead) (why : Refusal) → items_from (item_at mode left) after_arrays f.sub_item_count ≡ Ok i → tail_of mode f i.rest ≡ Err why → field_of mode e ≡ Err why
       field_as_tail i why k x = field_is i k ∙ ap (λ (r : Result Tail Refusal). and_then r (λ t. Ok (field.joined f t))) x
 
   refuses : {depth : ℕ} {w : Asked} {why : Refusal} → IsRefused mode depth w why → (left : ℕ) → depth + left ≡ 16 → Refuses mode left w why
@@ -189,7 +189,7 @@ module _ (mode : Mode) where
 
     module _ (left : ℕ) (d : depth + left ≡ 16) (e : Bor (List ℕ)) (why : Refusal) (l : 42 ≤ length e.now) (h : type_at mode left e ≡ Err why)
         (many : (n : ℕ) (s : Bor (List ℕ)) (x : Refusal) → items_from (item_at mode left) s n ≡ Err x → IsRefused mode depth (Many s n) x) where
-      by_tail : (w : HasStrings mode e) (room : arrays_end e.now ≤ length e.now) (i : items.ReadSubItems) → items_from (item_at mode left) (after e (arrays_end e.now)) (le2 e.now 40) ≡ Ok i
+      by_tail : (w : HasStrings mode e) (room : arrays_end e.now ≤ length e.now) (i : items.SubItemsRead) → items_from (item_at mode left) (after e (arrays_end e.now)) (le2 e.now 40) ≡ Ok i
           → (t : Result Tail Refusal) → tail_of mode (front e) i.rest ≡ t → IsRefused mode depth (Whole e) why
       by_tail w room i k (Ok t) x = never (is_read mode left e (front e) (front_there mode e w) _ (arrays_are e w room) i (items_are e w room left _ k) t x) h
       by_tail w room i k (Err y) x =
@@ -198,7 +198,7 @@ module _ (mode : Mode) where
           subst (IsRefused mode depth (Whole e)) (same (tail_refused mode left e (front e) (front_there mode e w) _ (arrays_are e w room) i j y x) h)
           (sections (at_depth depth) (length e.now) i.rest _ refl w room s.0 (field_as_tail e w room left i y j x))
 
-      by_items : (w : HasStrings mode e) (room : arrays_end e.now ≤ length e.now) (r : Result items.ReadSubItems Refusal) → items_from (item_at mode left) (after e (arrays_end e.now)) (le2 e.now 40) ≡ r
+      by_items : (w : HasStrings mode e) (room : arrays_end e.now ≤ length e.now) (r : Result items.SubItemsRead Refusal) → items_from (item_at mode left) (after e (arrays_end e.now)) (le2 e.now 40) ≡ r
           → IsRefused mode depth (Whole e) why
       by_items w room (Ok i) k = by_tail w room i k (tail_of mode (front e) i.rest) refl
       by_items w room (Err x) k =
@@ -244,7 +244,7 @@ module _ (mode : Mode) where
       module _ (n : ℕ) (s : Bor (List ℕ)) (why : Refusal) (h : items_from (item_at mode (suc left)) s (suc n) ≡ Err why)
           (rest : (s : Bor (List ℕ)) (x : Refusal) → items_from (item_at mode (suc left)) s n ≡ Err x → IsRefused mode depth (Many s n) x) where
         by_later : (own behind : Bor (List ℕ)) (info : AdsDataTypeInfo) → taken s ≡ Ok (own, behind) → type_at mode left own ≡ Ok info
-            → (r : Result items.ReadSubItems Refusal) → items_from (item_at mode (suc left)) behind n ≡ r → IsRefused mode depth (Many s (suc n)) why
+            → (r : Result items.SubItemsRead Refusal) → items_from (item_at mode (suc left)) behind n ≡ r → IsRefused mode depth (Many s (suc n)) why
         by_later own behind info t k (Ok more) v =
             let i = item_read mode s (suc left) own behind info (λ z. omega (arith, z)) t (ap (λ (m : ℕ). type_at mode m own) one_less ∙ k) in
             never (later_reads (suc left) s n more (info, behind) i v) h

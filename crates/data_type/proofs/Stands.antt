@@ -17,7 +17,7 @@ use Rattle.data_type.specs.declared.array.ArrayInfos.{ArrayInfos}
 use Rattle.data_type.specs.Kind.{at_long}
 use Rattle.data_type.specs.declared.members.Member.{Member}
 use Rattle.data_type.specs.declared.members.Position.{Position}
-use Rattle.data_type.specs.declared.reader.ReadSubItems as items
+use Rattle.data_type.specs.declared.reader.SubItemsRead as items
 use Rattle.field.specs.Field.{joined}
 use Rattle.data_type.specs.DataType.{taken, items_from, item_at, arrays_of, sub_items_of, type_at, type_of}
 use Rattle.data_type.specs.Members.{root, below, members_below, members_of}
@@ -129,7 +129,7 @@ took s own behind h = record { least = grind arith; room = grind arith; own_is =
 
 module _ (mode : Mode) where
   -- an entry that was read stands where its sub-items do
-  entry_stands : (left : ℕ) (p : Position) (end : ℕ) (e : Bor (List ℕ)) (r : AdsDataTypeInfo) (i : items.ReadSubItems) (ms : List Member) → type_at mode left e ≡ Ok r
+  entry_stands : (left : ℕ) (p : Position) (end : ℕ) (e : Bor (List ℕ)) (r : AdsDataTypeInfo) (i : items.SubItemsRead) (ms : List Member) → type_at mode left e ≡ Ok r
       → items_from (item_at mode left) r.sub_items.bytes r.sub_items.count ≡ Ok i → length ms ≡ i.members → Stand mode p end (Items r.sub_items.bytes r.sub_items.count i.rest ms) → Stand mode p end (Entry e r ms)
   unfolding with_strings
   entry_stands left p end e r i ms h k l s =
@@ -145,8 +145,8 @@ module _ (mode : Mode) where
       let count : r.sub_items.count ≡ le2 e.now 40 = sym (ap (λ (x : AdsDataTypeInfo). x.sub_items.count) a.is) ∙ d.items in
       let again : items_from (item_at mode left) r.sub_items.bytes r.sub_items.count ≡ Ok a.items = subst (λ (x : AdsDataTypeInfo). items_from (item_at mode left) x.sub_items.bytes x.sub_items.count ≡ Ok a.items) a.is a.items_are in
       let it : a.items ≡ i = cc (sym again ∙ k) in
-      let rest : i.rest ≡ a.items.rest = sym (ap (λ (x : items.ReadSubItems). x.rest) it) in
-      let long : length ms ≡ a.items.members = l ∙ sym (ap (λ (x : items.ReadSubItems). x.members) it) in
+      let rest : i.rest ≡ a.items.rest = sym (ap (λ (x : items.SubItemsRead). x.rest) it) in
+      let long : length ms ≡ a.items.members = l ∙ sym (ap (λ (x : items.SubItemsRead). x.members) it) in
       let there : Stand mode p end (Items (after e (arrays_end e.now)) (le2 e.now 40) a.items.rest ms) =
       subst (λ (x : Bor (List ℕ)). Stand mode p end (Items (after e (arrays_end e.now)) (le2 e.now 40) x ms)) rest
       (subst (λ (x : ℕ). Stand mode p end (Items (after e (arrays_end e.now)) x i.rest ms)) count
@@ -158,10 +158,10 @@ module _ (mode : Mode) where
       subst (λ (x : AdsDataTypeInfo). Stand mode p end (Entry e x ms)) is
       (entry a.items.rest a.tail w.0 room there (ap (λ (x : Front). tail_of mode x a.items.rest) w.1 ∙ a.tail_is))
 
-  abbrev Stood : Position → ℕ → Bor (List ℕ) → ℕ → items.ReadSubItems → List Member → Type 0
+  abbrev Stood : Position → ℕ → Bor (List ℕ) → ℕ → items.SubItemsRead → List Member → Type 0
   Stood p end s n i ms = Stand mode p end (Items s n i.rest ms) × (length ms ≡ i.members)
 
-  stood_more : (left : ℕ) (s : Bor (List ℕ)) (n : ℕ) (i : items.ReadSubItems) (t : Turn mode left s n i) (above : Position) (end : ℕ) (inner : items.ReadSubItems) (held rest : List Member)
+  stood_more : (left : ℕ) (s : Bor (List ℕ)) (n : ℕ) (i : items.SubItemsRead) (t : Turn mode left s n i) (above : Position) (end : ℕ) (inner : items.SubItemsRead) (held rest : List Member)
       → above.depth + left ≡ 16 → inner.members ≡ t.info.member_count → items_from (item_at mode t.deeper) t.info.sub_items.bytes t.info.sub_items.count ≡ Ok inner
       → Stood (here mode left s n i t above end) (end - length s.now + length t.own.now) t.info.sub_items.bytes t.info.sub_items.count inner held
       → Stood above end t.behind n t.more rest
@@ -179,13 +179,13 @@ module _ (mode : Mode) where
       let r = subst (λ (x : Bor (List ℕ)). Stand mode above end (Items x n t.more.rest rest)) k.behind_is q.0 in
       let it0 = item t.info held (omega (arith, t.some)) k.least k.room e3 r in
       let it = subst (λ (x : Position). Stand mode above end (Items s (suc n) t.more.rest (record { position = x; own = part s 0 (le4 s.now 0) } ∷ (held ++ rest)))) (sym at) it0 in
-      let is : t.more.rest ≡ i.rest = ap (λ (x : items.ReadSubItems). x.rest) t.is in
-      let count : 1 + t.info.member_count + t.more.members ≡ i.members = ap (λ (x : items.ReadSubItems). x.members) t.is in
+      let is : t.more.rest ≡ i.rest = ap (λ (x : items.SubItemsRead). x.rest) t.is in
+      let count : 1 + t.info.member_count + t.more.members ≡ i.members = ap (λ (x : items.SubItemsRead). x.members) t.is in
       let l = length-append held rest in
       let whole = subst (λ (x : Bor (List ℕ)). Stand mode above end (Items s (suc n) x (record { position = here mode left s n i t above end; own = part s 0 (le4 s.now 0) } ∷ (held ++ rest)))) is it in
       (subst (λ (x : Bor (List ℕ)). Stand mode above end (Items s (suc n) i.rest (record { position = here mode left s n i t above end; own = x } ∷ (held ++ rest)))) (sym k.own_is) whole, omega (arith, p.1, q.1, c))
 
-  pub items_stand : (left : ℕ) (p : Position) (end : ℕ) (s : Bor (List ℕ)) (n : ℕ) (i : items.ReadSubItems) → p.depth + left ≡ 16 → items_from (item_at mode left) s n ≡ Ok i → Stood p end s n i (members_below left p end s n)
+  pub items_stand : (left : ℕ) (p : Position) (end : ℕ) (s : Bor (List ℕ)) (n : ℕ) (i : items.SubItemsRead) → p.depth + left ≡ 16 → items_from (item_at mode left) s n ≡ Ok i → Stood p end s n i (members_below left p end s n)
   items_stand left p end s n i d h = all_of mode Stood (λ above end s. (none, refl)) stood_more left n p end s i d h
 
   pub entry_stand : (left : ℕ) (p : Position) (end : ℕ) (e : Bor (List ℕ)) (r : AdsDataTypeInfo) → p.depth + left ≡ 16 → type_at mode left e ≡ Ok r

@@ -6,15 +6,15 @@ use Rattle.refusal.specs.declared.Mode.{Mode}
 use Rattle.refusal.specs.declared.Refusal.{Refusal}
 use Rattle.refusal.specs.declared.Refusal.TheVariants.{TooDeep}
 use Rattle.data_type.specs.declared.AdsDataTypeInfo.{AdsDataTypeInfo}
-use Rattle.data_type.specs.declared.reader.ReadSubItems.{ReadSubItems}
+use Rattle.data_type.specs.declared.reader.SubItemsRead.{SubItemsRead}
 use Rattle.data_type.specs.DataType.{ItemReader, taken, items_from, type_with, type_at, item_at}
 
 -- sub-items with so many members before them
-abbrev pub with_before : ℕ → Result ReadSubItems Refusal → Result ReadSubItems Refusal
+abbrev pub with_before : ℕ → Result SubItemsRead Refusal → Result SubItemsRead Refusal
 with_before n (Ok items) = Ok (record { rest = items.rest; members = n + items.members })
 with_before n (Err why) = Err why
 
-pub before_none : (r : Result ReadSubItems Refusal) → with_before 0 r ≡ r
+pub before_none : (r : Result SubItemsRead Refusal) → with_before 0 r ≡ r
 before_none (Ok items) = let z : 0 + items.members ≡ items.members = omega arith in ap (λ (n : ℕ). Ok (record { rest = items.rest; members = n })) z
 before_none (Err why) = refl
 
@@ -29,7 +29,7 @@ module _ (item : ItemReader) (n : ℕ) (s : Bor (List ℕ)) where
   items_refused zero why h k = absurd (omega arith)
   items_refused (suc left) why h k = simp k
 
-  by_more : (info : AdsDataTypeInfo) (r : Result ReadSubItems Refusal)
+  by_more : (info : AdsDataTypeInfo) (r : Result SubItemsRead Refusal)
       → with_before n (and_then r (λ more. Ok (record { rest = more.rest; members = 1 + info.member_count + more.members }))) ≡ with_before (n + (1 + info.member_count)) r
   by_more info (Ok more) =
       let z : n + (1 + info.member_count + more.members) ≡ n + (1 + info.member_count) + more.members = omega arith in

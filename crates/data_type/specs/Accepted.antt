@@ -10,7 +10,7 @@ use Rattle.field.specs.Tail.{tail_of}
 use Rattle.field.specs.Field.{joined}
 use Rattle.data_type.specs.declared.AdsDataTypeInfo.{AdsDataTypeInfo}
 use Rattle.data_type.specs.declared.array.ArrayInfos.{ArrayInfos}
-use Rattle.data_type.specs.declared.reader.ReadSubItems.{ReadSubItems}
+use Rattle.data_type.specs.declared.reader.SubItemsRead.{SubItemsRead}
 use Rattle.data_type.specs.DataType.{ItemReader, items_from, arrays_of, sub_items_of, type_with}
 
 pub front_long : (mode : Mode) (e : Bor (List ℕ)) (f : Front) → front_of mode e ≡ Ok f → f.length ≡ length e.now
@@ -22,7 +22,7 @@ pub record Accepted (mode : Mode) (item : ItemReader) (e : Bor (List ℕ)) (r : 
   pub front : Front
   pub arrays : ArrayInfos
   pub first : Bor (List ℕ)
-  pub items : ReadSubItems
+  pub items : SubItemsRead
   pub tail : Tail
   pub front_is : front_of mode e ≡ Ok front
   pub arrays_are : arrays_of front ≡ Ok (arrays, first)

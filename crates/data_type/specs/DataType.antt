@@ -15,7 +15,7 @@ use Rattle.field.specs.Field.{joined}
 use Rattle.data_type.specs.declared.AdsDataTypeInfo.{AdsDataTypeInfo}
 use Rattle.data_type.specs.declared.SubItems.{SubItems}
 use Rattle.data_type.specs.declared.array.ArrayInfos.{ArrayInfos}
-use Rattle.data_type.specs.declared.reader.ReadSubItems.{ReadSubItems}
+use Rattle.data_type.specs.declared.reader.SubItemsRead.{SubItemsRead}
 
 -- the own bytes of the sub-item at the start of some bytes of its parent, and the bytes behind it: 2 for fewer than 4 bytes, 3 for a claim that leaves
 -- the parent, 4 for one below the header
@@ -31,7 +31,7 @@ abbrev pub ItemReader : Type 0
 ItemReader = Bor (List ℕ) → Result (AdsDataTypeInfo × Bor (List ℕ)) Refusal
 
 -- so many sub-items, each read whole before the next, which stands behind it. Each is a member, and brings its own
-unfoldable pub items_from : ItemReader → Bor (List ℕ) → ℕ → Result ReadSubItems Refusal
+unfoldable pub items_from : ItemReader → Bor (List ℕ) → ℕ → Result SubItemsRead Refusal
 items_from item s zero = Ok (record { rest = s; members = 0 })
 items_from item s (suc left) =
     and_then (item s) (λ p. and_then (items_from item p.1 left) (λ more. Ok (record { rest = more.rest; members = 1 + p.0.member_count + more.members })))
@@ -84,5 +84,5 @@ abbrev pub SomeMembers : List ℕ → AdsDataTypeInfo → Type 0
 SomeMembers e r = r.member_count < length e
 
 -- and no more than bytes before what is left
-abbrev pub SomeItems : List ℕ → ReadSubItems → Type 0
+abbrev pub SomeItems : List ℕ → SubItemsRead → Type 0
 SomeItems s items = items.members + length items.rest.now ≤ length s

@@ -29,7 +29,8 @@ pub struct SubItems<'a> {
 /// A data type (docs/FORMAT.md, "Data type entries").
 #[derive(Clone, Copy, Debug)]
 pub struct AdsDataTypeInfo<'a> {
-    /// What a field has: numbers, strings, GUID and attributes. Its offset, of a sub-item, is where it stands in a value of its parent.
+    /// What a field has: numbers, strings, GUID and attributes. Where a sub-item stands in a value of its parent, and whether it does, its
+    /// offset and its flags say (`AdsFieldInfo::offset`).
     pub field: AdsFieldInfo<'a>,
     /// The array records: the dimensions of an array.
     pub arrays: ArrayInfos<'a>,

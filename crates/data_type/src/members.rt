@@ -25,18 +25,6 @@ pub struct Position {
 }
 
 impl Position {
-    /// That of the data type itself.
-    #[inline(always)]
-    pub fn root() -> Position
-        ensures { result ≡ root }
-    {
-        Position {
-            path: [0; 15],
-            depth: 1,
-            offset: 0,
-        }
-    }
-
     /// The last place of the path: that of the member itself.
     #[inline(always)]
     pub fn place(&self) -> usize

@@ -70,7 +70,7 @@ pub(crate) fn read_arrays<'a>(front: &Front<'a>) -> Result<(ArrayInfos<'a>, &'a 
 
 /// Sub-items that were read: the bytes behind them, and how many members they bring.
 #[derive(Clone, Copy, Debug)]
-pub struct ReadSubItems<'a> {
+pub struct SubItemsRead<'a> {
     /// The bytes behind them.
     pub rest: &'a [u8],
     /// How many members they bring, themselves among them.
@@ -113,11 +113,11 @@ fn read_items(
     mode: Mode,
     left: usize,
     count: u16,
-) -> Result<ReadSubItems<'_>, Refusal>
+) -> Result<SubItemsRead<'_>, Refusal>
     ensures value { result ≡ items_from (item_at mode left) first.entry count }
     ensures few { IfOk result (SomeItems first.now) }
 {
-    let mut done = ReadSubItems {
+    let mut done = SubItemsRead {
         rest: first,
         members: 0,
     };

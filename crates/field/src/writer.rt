@@ -10,6 +10,7 @@ ghost use Rattle.writing.specs.Owned.{NotWritten};
 ghost use Rattle.field.specs.Writing.{numbers_bytes, header_bytes, zeros, guid_bytes, mask_bytes, sections_bytes, field_bytes, attributes_checked, field_checked, field_written, HasShort, IsSized};
 
 use flags::type_flags::AdsTypeFlags;
+use layout::size_if;
 use refusal::Refusal;
 use std::alloc::Allocator;
 use writing::{Block, WriteError};
@@ -124,13 +125,6 @@ fn guid_size(here: bool, guid: Option<[u8; 16]>) -> usize
         Some(bytes) => bytes.len(),
         None => 16,
     }
-}
-
-fn size_if(here: bool, size: usize) -> usize
-    ensures value { result ≡ (if here then size else 0) }
-    ensures small { result ≤ size }
-{
-    if here { size } else { 0 }
 }
 
 fn size_of(field: &NewField<'_>) -> usize

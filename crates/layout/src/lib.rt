@@ -1,8 +1,8 @@
-//! What entries of every kind have alike, as a reader meets it: three strings behind the header, each with an end byte, and a GUID among
-//! the sections (docs/FORMAT.md, "Numbers", "Symbol entries" and "Field entries").
+//! What entries of every kind have alike: three strings behind the header, each with an end byte, and sections behind them, a GUID among
+//! these (docs/FORMAT.md, "Numbers", "Symbol entries" and "Field entries").
 #![tactic(auto, unfolding(crate::specs::Layout::guid_of))]
 
-ghost use Rattle.std.specs.Prelude.{◌≡◌, ◌+◌, ◌≤◌, length};
+ghost use Rattle.std.specs.Prelude.{◌≡◌, ◌+◌, ◌≤◌, length, if◌then◌else◌};
 ghost use Rattle.refusal.specs.EndBytes.{ended};
 ghost use Rattle.layout.specs.Layout.{strings_there, string_ends, guid_of};
 ghost use Rattle.layout.specs.Meant.{LayoutMeant};
@@ -50,6 +50,14 @@ pub fn read_guid(rest: &[u8], flagged: bool) -> (Option<[u8; 16]>, &[u8])
         return (Some(*guid), &rest[16..]);
     }
     (None, rest)
+}
+
+/// The bytes of a section that has so many where it is there.
+pub fn size_if(here: bool, size: usize) -> usize
+    ensures value { result ≡ (if here then size else 0) }
+    ensures small { result ≤ size }
+{
+    if here { size } else { 0 }
 }
 
 /// The theorem, as the contract of a function that does nothing: strings that are there pass, each string's end byte is the one behind it,

@@ -3,6 +3,7 @@ use Rattle.std.proofs.Common.{ℕ, ◌+◌, ◌<◌, ◌≡◌, refl, ap, ◌∙
 use mathlib.Core.List.{append_assoc}
 use borrow.Author.Tests.{le-ltb}
 use lib.Seq.{drop-append_seam}
+use Rattle.std.specs.Cmp.{booleans_Decides}
 use Rattle.le.specs.Le.{le2, le4, has, bytes4}
 use Rattle.le.specs.Le as le
 use Rattle.std.specs.Prelude.{if◌then◌else◌}
@@ -20,13 +21,13 @@ use Rattle.symbol.specs.declared.writer.NewSymbol.{NewSymbol}
 use Rattle.symbol.specs.declared.AdsSymbolInfo.{AdsSymbolInfo}
 use Rattle.part.specs.End.{rest_at}
 use Rattle.layout.specs.Layout.{guid_of}
-use Rattle.symbol.specs.Symbol.{type_guid_flag, attributes_flag, extended_flags_flag, refactor_info_flag, attributes_of, extended_of, refactor_infos_of, with_strings, strings_ends, attribute_ends, refactor_ends, symbol_ended, ended_symbol, symbol_of}
+use Rattle.symbol.specs.Symbol.{type_guid_flag, attributes_flag, extended_flags_flag, refactor_info_flag, attributes_of, extended_of, refactor_infos_of, with_strings, string_ends_of, attribute_ends, refactor_ends, symbol_ended, ended_symbol, symbol_of}
 use Rattle.symbol.specs.Writing.{flagged, guid_bytes, extended_bytes, header_bytes, sections_bytes}
 use Rattle.symbol.specs.Told.{told_of, meant, IsTyped}
 use Rattle.symbol.proofs.Accepted.{Accepted}
 use Rattle.symbol.proofs.Header as header
 use Rattle.symbol.proofs.Header.{body_of}
-use Rattle.symbol.proofs.Sections.{same_test, guid_back, attributes_back, extended_back, chain_back, IsGuidBack, IsAttributesBack, IsExtendedBack, IsChainBack}
+use Rattle.symbol.proofs.Sections.{guid_back, attributes_back, extended_back, chain_back, IsGuidBack, IsAttributesBack, IsExtendedBack, IsChainBack}
 
 abbrev front : NewSymbol → List ℕ → List ℕ
 front n extra = (bytes4 (length (body_of n ++ extra) + 4) ++ header_bytes n) ++ strings_bytes n.name.now n.type_name.now n.comment.now
@@ -70,7 +71,7 @@ module _ (n : NewSymbol) (t : IsTyped n) (a : Accepted n) (extra : List ℕ) (fi
       d ∙ simp append_assoc
 
   guid_is : IsGuidBack s0 (has w type_guid_flag) n.guid rest1
-  guid_is = guid_back s0 (has w type_guid_flag) n.guid rest1 (same_test _ _ a.guid_agrees) t.guid rest0_is
+  guid_is = guid_back s0 (has w type_guid_flag) n.guid rest1 ((booleans_Decides _ _).0 a.guid_agrees) t.guid rest0_is
 
   attributes_is : IsAttributesBack s1 (has w attributes_flag) n.attributes.count n.attributes.bytes rest2
   attributes_is = attributes_back s1 (has w attributes_flag) n.attributes.count n.attributes.bytes rest2 (omega (arith, a.count)) a.attributes_good a.attributes_agree guid_is.rest_is
@@ -172,7 +173,7 @@ module _ (n : NewSymbol) (t : IsTyped n) (a : Accepted n) (extra : List ℕ) (fi
       )
 
   -- its end bytes are 0
-  strings_end : ended (strings_ends e back) ≡ Ok tt
+  strings_end : ended (string_ends_of e back) ≡ Ok tt
   unfolding ended
   strings_end =
       let l = header.laid n t a extra fits in

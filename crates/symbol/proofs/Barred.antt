@@ -19,7 +19,7 @@ use Rattle.symbol.specs.Told.{IsTyped}
 use Rattle.symbol.specs.Writing.{flagged, agree, symbol_bytes, sections_checked, symbol_checked, symbol_written}
 use Rattle.symbol.specs.Barred.{size_of, HasGoodParts, GuidAgrees, AttributesAgree, ExtendedAgree, ChainAgrees, IsBarred, name, type_name, comment, count, attributes, refactor_infos, guid, unflagged_attributes, unflagged_word, chain, size, SymbolsBarred}
 use Rattle.symbol.proofs.Accepted.{agreed}
-use Rattle.symbol.proofs.Sections.{same_test}
+use Rattle.std.specs.Cmp.{booleans_Decides}
 use Rattle.symbol.proofs.Writable.{unflagged_none, test_same, none_unflagged, strings_pass, size_is}
 
 -- of two checks the first refuses, or it passes and the second does
@@ -79,7 +79,7 @@ module _ (n : NewSymbol) (why : Refusal) where
   sections_barred g h = by_guid (split _ _ why h)
     where
       agrees_guid : agree guid_there 1 ≡ Ok tt → GuidAgrees n
-      agrees_guid p = same_test (is_some n.guid) (flagged n type_guid_flag) (agreed _ _ p)
+      agrees_guid p = (booleans_Decides (is_some n.guid) (flagged n type_guid_flag)).0 (agreed _ _ p)
 
       agrees_attributes : agree attributes_there 2 ≡ Ok tt → AttributesAgree n
       agrees_attributes p = unflagged_none (flagged n attributes_flag) (length n.attributes.bytes.now) (agreed _ _ p)
@@ -121,10 +121,10 @@ module _ (n : NewSymbol) (why : Refusal) where
       let g = both_passed _ f.1.1 in
       record {
         parts = record { short = strings_passed _ _ _ a.1.0; few = count_passed _ b.1.0; attributes = c.1.0; refactor_infos = d.1.0 };
-        guid_agrees = same_test (is_some n.guid) (flagged n type_guid_flag) (agreed _ _ e.1.0);
+        guid_agrees = (booleans_Decides (is_some n.guid) (flagged n type_guid_flag)).0 (agreed _ _ e.1.0);
         attributes_agree = unflagged_none (flagged n attributes_flag) (length n.attributes.bytes.now) (agreed _ _ f.1.0);
         extended_agree = unflagged_none (flagged n extended_flags_flag) n.extended_flags.0 (agreed _ _ g.1.0);
-        chain_agrees = same_test (ltb 0 n.refactor_infos.count) (has n.extended_flags.0 refactor_info_flag) (agreed _ _ g.1.1);
+        chain_agrees = (booleans_Decides (ltb 0 n.refactor_infos.count) (has n.extended_flags.0 refactor_info_flag)).0 (agreed _ _ g.1.1);
       }
 
   abbrev attributes_checked : Result Unit Refusal
@@ -228,7 +228,7 @@ module _ (n : NewSymbol) where
 
   no_guid : (GuidAgrees n → ⊥) → sections_checked n ≡ Err (SectionsDisagree 1)
   unfolding sections_checked
-  no_guid h = refused_here _ _ _ (disagree _ 1 (λ e. h (same_test (is_some n.guid) (flagged n type_guid_flag) e)))
+  no_guid h = refused_here _ _ _ (disagree _ 1 (λ e. h ((booleans_Decides (is_some n.guid) (flagged n type_guid_flag)).0 e)))
 
   no_attributes : GuidAgrees n → (AttributesAgree n → ⊥) → sections_checked n ≡ Err (SectionsDisagree 2)
   unfolding sections_checked
@@ -242,7 +242,7 @@ module _ (n : NewSymbol) where
   unfolding sections_checked
   no_chain g a x h =
       passed_to _ _ _ (guid_agrees g)
-      (passed_to _ _ _ (attributes_agree a) (passed_to _ _ _ (extended_agree x) (disagree _ 4 (λ e. h (same_test (ltb 0 n.refactor_infos.count) (has n.extended_flags.0 refactor_info_flag) e)))))
+      (passed_to _ _ _ (attributes_agree a) (passed_to _ _ _ (extended_agree x) (disagree _ 4 (λ e. h ((booleans_Decides (ltb 0 n.refactor_infos.count) (has n.extended_flags.0 refactor_info_flag)).0 e)))))
 
   all_agree : GuidAgrees n → AttributesAgree n → ExtendedAgree n → ChainAgrees n → sections_checked n ≡ Ok tt
   unfolding sections_checked

@@ -14,7 +14,7 @@ use Rattle.refactor.specs.Refactor as refactor
 use Rattle.refactor.proofs.Again as refactors
 use Rattle.refactor.proofs.Inside.{refactor_name, refactor_next, refactor_rest}
 use Rattle.symbol.specs.declared.AdsSymbolInfo.{AdsSymbolInfo}
-use Rattle.symbol.specs.Symbol.{extended_word, refactor_info_flag, strings_ends, attribute_ends, refactor_ends, symbol_ended}
+use Rattle.symbol.specs.Symbol.{extended_word, refactor_info_flag, string_ends_of, attribute_ends, refactor_ends, symbol_ended}
 use Rattle.symbol.specs.Inside.{IsInside}
 use Rattle.symbol.specs.Modes.{met, names_behind, end_bytes}
 
@@ -47,7 +47,7 @@ module _ (e : Bor (List ℕ)) (r : AdsSymbolInfo) (i : IsInside e r) where
   abbrev end_at : ℕ → ℕ × ℕ
   end_at k = (k, get_or e.now k 0)
 
-  strings_is : strings_ends e r ≡ byte_behind e r.name ∷ byte_behind e r.type_name ∷ byte_behind e r.comment ∷ []
+  strings_is : string_ends_of e r ≡ byte_behind e r.name ∷ byte_behind e r.type_name ∷ byte_behind e r.comment ∷ []
   strings_is =
       let t : end_at (30 + length r.name.now + 1 + length r.type_name.now) ≡ byte_behind e r.type_name = ap end_at (omega arith) ∙ sym (string_behind e r.type_name (31 + length r.name.now) i.type_name) in
       let k : end_at (30 + length r.name.now + 1 + length r.type_name.now + 1 + length r.comment.now) ≡ byte_behind e r.comment =

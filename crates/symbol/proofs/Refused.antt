@@ -10,7 +10,7 @@ use Rattle.refusal.specs.declared.Mode.TheVariants.{Present, Checked}
 use Rattle.refusal.specs.declared.Refusal.{Refusal}
 use Rattle.refusal.specs.declared.Refusal.TheVariants.{EndByte, TooShort, EntryLengthMismatch}
 use Rattle.symbol.specs.declared.AdsSymbolInfo.{AdsSymbolInfo}
-use Rattle.symbol.specs.Symbol.{with_strings, strings_ends, attribute_ends, refactor_ends, symbol_ended, ended_symbol, symbol_of}
+use Rattle.symbol.specs.Symbol.{with_strings, string_ends_of, attribute_ends, refactor_ends, symbol_ended, ended_symbol, symbol_of}
 
 abbrev number_of : Refusal → ℕ
 number_of why = (figures_of why).number
@@ -31,7 +31,7 @@ both_with (Err w) b why x y h = x h
 symbol_with : (e : Bor (List ℕ)) (r : AdsSymbolInfo) (why : Refusal) → symbol_ended e r ≡ Err why → number_of why ≡ 16
 unfolding symbol_ended
 symbol_with e r why h =
-    both_with (ended (strings_ends e r)) (and_then (ended (attribute_ends e r)) (λ _. ended (refactor_ends e r))) why (ended_with (strings_ends e r) why)
+    both_with (ended (string_ends_of e r)) (and_then (ended (attribute_ends e r)) (λ _. ended (refactor_ends e r))) why (ended_with (string_ends_of e r) why)
     (both_with (ended (attribute_ends e r)) (ended (refactor_ends e r)) why (ended_with (attribute_ends e r) why) (ended_with (refactor_ends e r) why)) h
 
 module _ (e : Bor (List ℕ)) (why : Refusal) (P : Mode → ℕ → Type 0) (two : (mode : Mode) → P mode 2) (three : (mode : Mode) → P mode 3) (sixteen : P Checked 16) where

@@ -4,6 +4,7 @@ use Rattle.std.specs.Prelude.{Option, is_some, ltb, leb, eqb, if◌then◌else�
 use Rattle.std.specs.Bool.{beq}
 use borrow.Author.Tests.{eqb-true, ltb-true, ltb-false, le-leb}
 use lib.Seq.{take-append_seam, drop-append_seam}
+use Rattle.std.specs.Cmp.{booleans_Decides}
 use Rattle.le.specs.Le.{le2, le4}
 use Rattle.le.proofs.Laws.{le2_bytes2, le4_bytes4}
 use Rattle.part.specs.Slice.{after}
@@ -23,12 +24,6 @@ use Rattle.layout.specs.Layout.{guid_of}
 use Rattle.symbol.specs.Symbol.{attributes_of, extended_of, extended_word, refactor_infos_of}
 use Rattle.symbol.specs.Writing.{guid_bytes, extended_bytes}
 use Rattle.symbol.specs.Told.{IsSixteen}
-
-pub same_test : (a b : Bool) → beq a b ≡ true → a ≡ b
-same_test true true h = refl
-same_test true false h = cc
-same_test false true h = cc
-same_test false false h = refl
 
 -- the GUID, and what follows it
 pub record IsGuidBack (s : Bor (List ℕ)) (flagged : Bool) (guid : Option (List ℕ)) (rest : List ℕ) : Type 0 where
@@ -130,4 +125,4 @@ chain_back_by s count block rest g h false f =
     empty (x ∷ l) e = absurd (omega arith)
 
 pub chain_back : (s : Bor (List ℕ)) (flagged : Bool) (count : ℕ) (block : Bor (List ℕ)) (rest : List ℕ) → beq (ltb 0 count) flagged ≡ true → refactor-block.block_checked count block ≡ Ok tt → s.now ≡ block.now ++ rest → IsChainBack s flagged count block rest
-chain_back s flagged count block rest f g h = chain_back_by s count block rest g h flagged (same_test (ltb 0 count) flagged f)
+chain_back s flagged count block rest f g h = chain_back_by s count block rest g h flagged ((booleans_Decides (ltb 0 count) flagged).0 f)

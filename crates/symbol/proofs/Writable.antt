@@ -36,7 +36,7 @@ use Rattle.symbol.specs.Writing.{flagged, guid_bytes, symbol_bytes, sections_che
 use Rattle.symbol.specs.Barred.{size_of}
 use Rattle.symbol.specs.Writable.{AreAttributes, AreRecords, IsWritable, AreBytes, SymbolsWritten}
 use Rattle.symbol.proofs.Accepted.{Accepted, accepted_is}
-use Rattle.symbol.proofs.Sections.{same_test}
+use Rattle.std.specs.Cmp.{booleans_Decides}
 use Rattle.symbol.proofs.Sizes.{length_parts, length_sections}
 
 -- bytes from a place on are bytes
@@ -168,7 +168,7 @@ module _ (n : NewSymbol) where
 
   is_writable : IsTyped n → AreBytes n → Accepted n → IsWritable n
   is_writable t b a =
-      let g = same_test (is_some n.guid) (flagged n type_guid_flag) a.guid_agrees in
+      let g = (booleans_Decides (is_some n.guid) (flagged n type_guid_flag)).0 a.guid_agrees in
       record {
         short = a.short;
         few = a.count;
@@ -177,7 +177,7 @@ module _ (n : NewSymbol) where
         guid_flagged = g;
         attributes_flagged = unflagged_none (flagged n attributes_flag) (length n.attributes.bytes.now) a.attributes_agree;
         extended_flagged = unflagged_none (flagged n extended_flags_flag) n.extended_flags.0 a.extended_agree;
-        chain_flagged = same_test (ltb 0 n.refactor_infos.count) (has n.extended_flags.0 refactor_info_flag) a.chain_agrees;
+        chain_flagged = (booleans_Decides (ltb 0 n.refactor_infos.count) (has n.extended_flags.0 refactor_info_flag)).0 a.chain_agrees;
         within = let s = size_is t g in omega (arith, a.small, s);
       }
 

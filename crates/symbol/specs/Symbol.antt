@@ -88,8 +88,8 @@ pub record IsWithin (e : Bor (List ℕ)) (r : AdsSymbolInfo) : Type 0 where
   pub refactor_infos : length r.refactor_infos.bytes.now ≤ length e.now
 
 -- its end bytes, with their places, in the order in which they are met: the strings', the attributes', the chain's, also of a chain that is dropped
-abbrev pub strings_ends : Bor (List ℕ) → AdsSymbolInfo → List (ℕ × ℕ)
-strings_ends e r = string_ends e.now 30 (length r.name.now) (length r.type_name.now) (length r.comment.now)
+abbrev pub string_ends_of : Bor (List ℕ) → AdsSymbolInfo → List (ℕ × ℕ)
+string_ends_of e r = string_ends e.now 30 (length r.name.now) (length r.type_name.now) (length r.comment.now)
 
 abbrev pub attribute_ends : Bor (List ℕ) → AdsSymbolInfo → List (ℕ × ℕ)
 attribute_ends e r = attribute.ends r.attributes.bytes (rest_at e r.attributes.bytes) r.attributes.count
@@ -100,7 +100,7 @@ refactor_ends e r =
 
 -- the first of them that is not 0 is refused
 unfoldable pub symbol_ended : Bor (List ℕ) → AdsSymbolInfo → Result Unit Refusal
-symbol_ended e r = and_then (ended (strings_ends e r)) (λ _. and_then (ended (attribute_ends e r)) (λ _. ended (refactor_ends e r)))
+symbol_ended e r = and_then (ended (string_ends_of e r)) (λ _. and_then (ended (attribute_ends e r)) (λ _. ended (refactor_ends e r)))
 
 unfoldable pub ended_symbol : Mode → Bor (List ℕ) → AdsSymbolInfo → Result AdsSymbolInfo Refusal
 ended_symbol mode e r = and_then (in_mode mode (symbol_ended e r)) (λ _. Ok r)

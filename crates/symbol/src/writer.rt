@@ -15,6 +15,7 @@ use crate::AdsSymbolInfo;
 use flags::index_group::IndexGroup;
 use flags::index_offset::IndexOffset;
 use flags::symbol_flags::{AdsSymbol2Flags, AdsSymbolFlags};
+use layout::size_if;
 use refusal::Refusal;
 use std::alloc::Allocator;
 use writing::{Block, WriteError};
@@ -190,13 +191,6 @@ fn guid_size(guid: Option<[u8; 16]>) -> usize
         Some(bytes) => bytes.len(),
         None => 0,
     }
-}
-
-fn size_if(here: bool, size: usize) -> usize
-    ensures value { result ≡ (if here then size else 0) }
-    ensures small { result ≤ size }
-{
-    if here { size } else { 0 }
 }
 
 fn size_of(symbol: &NewSymbol<'_>) -> usize
