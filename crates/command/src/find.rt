@@ -10,7 +10,7 @@ use std::io::Write;
 use symbol::{AdsSymbolInfo, Symbols};
 use walk::Entry;
 use wording::InWords;
-use wording::text::{Exact, Shown};
+use wording::strings::{Exact, Shown};
 
 /// A failure about an upload, with what it was read as: a wrong guess is the first thing to rule out.
 pub fn refused<D: Display>(alloc: Global, upload: &Upload<'_>, why: &D) -> Failure {

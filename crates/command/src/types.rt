@@ -10,7 +10,7 @@ use std::alloc::Global;
 use std::io::Write;
 use type_report::node::Node;
 use type_report::{Counts, list, table};
-use wording::text::Shown;
+use wording::strings::Shown;
 use wording::{Grouped, InWords};
 
 /// All data types, or the first of a name.

@@ -8,7 +8,7 @@ use std::alloc::Global;
 use std::io::Write;
 use std::{fmt, io};
 use values::AsJson;
-use wording::text::Quoted;
+use wording::strings::Quoted;
 
 /// Writes the lines; whether there is none.
 pub(crate) fn write<W: Write>(

@@ -8,7 +8,7 @@ use std::alloc::{AllocError, Global};
 use std::io::Write;
 use std::{fmt, io};
 use values::AsText;
-use wording::text::{Shown, Spaces, shown_width};
+use wording::strings::{Shown, Spaces, shown_width};
 use wording::{Bytes, InWords};
 
 // A line of the table: the two places, a name and a part, and last what is not padded.

@@ -11,7 +11,7 @@ use report::Upload;
 use std::io;
 use std::io::Write;
 use symbol::AdsSymbolInfo;
-use wording::text::Exact;
+use wording::strings::Exact;
 
 /// A symbol, and where it starts.
 #[derive(Clone, Copy, Debug)]

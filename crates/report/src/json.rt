@@ -10,7 +10,7 @@ use refactor::RefactorInfos;
 use refusal::{Figures, Refusal};
 use std::fmt;
 use symbol::AdsSymbolInfo;
-use wording::text::Quoted;
+use wording::strings::Quoted;
 use wording::{InWords, Pair};
 
 /// An entry that was refused, in an object.

@@ -6,7 +6,7 @@ use std::io;
 use std::io::Write;
 use symbol::{AdsSymbolInfo, Symbols};
 use wording::InWords;
-use wording::text::{Shown, Spaces, shown_width};
+use wording::strings::{Shown, Spaces, shown_width};
 
 // How many columns of a terminal the cells of a line take, from the place to the high bytes.
 type Widths = [usize; 9];

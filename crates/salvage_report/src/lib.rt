@@ -13,7 +13,7 @@ use std::io::Write;
 use std::{fmt, io};
 use symbol::{AdsSymbolInfo, Symbols};
 use walk::Piece;
-use wording::text::Spaces;
+use wording::strings::Spaces;
 use wording::{Bytes, InWords, Many};
 
 /// An upload's accepted entries, and how many there are.

@@ -5,7 +5,7 @@ use crate::node::{Node, next_array};
 use data_type::array::{AdsArrayInfo, ArrayInfos};
 use report::json::{AttributeObjects, GuidOrNull};
 use std::fmt;
-use wording::text::Quoted;
+use wording::strings::Quoted;
 
 /// What an entry tells of itself.
 #[derive(Clone, Copy)]

@@ -11,7 +11,7 @@ use std::alloc::{AllocError, Global};
 use std::io::Write;
 use std::{fmt, io};
 use wording::InWords;
-use wording::text::{Shown, Spaces};
+use wording::strings::{Shown, Spaces};
 
 const HEADINGS: [&str; 9] = [
     "place",

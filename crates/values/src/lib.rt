@@ -11,7 +11,7 @@ use report::json::Guid;
 use sections::{Part, Section};
 use std::fmt;
 use symbol::AdsSymbolInfo;
-use wording::text::{Quoted, Shown};
+use wording::strings::{Quoted, Shown};
 use wording::{Bytes, InWords};
 
 /// What a part tells.

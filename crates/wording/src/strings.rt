@@ -1,30 +1,10 @@
 // Names and values, which an upload holds in Windows-1252, in UTF-8.
 ghost use Rattle.std.specs.Prelude.{◌≡◌, Some, replicate};
-ghost use Rattle.wording.specs.Text.{code_point, exact, shown, shown_width, quoted, exact_char, shown_char, json_char};
+ghost use Rattle.wording.specs.Text.{exact, shown, shown_width, quoted, exact_char, shown_char, json_char};
 
 use crate::Pair;
 use std::fmt;
-
-// The code points of the bytes 80 to 9F.
-pub const POINTS: [char; 32] = [
-    '\u{20AC}', '\u{81}', '\u{201A}', '\u{192}', '\u{201E}', '\u{2026}', '\u{2020}', '\u{2021}',
-    '\u{2C6}', '\u{2030}', '\u{160}', '\u{2039}', '\u{152}', '\u{8D}', '\u{17D}', '\u{8F}',
-    '\u{90}', '\u{2018}', '\u{2019}', '\u{201C}', '\u{201D}', '\u{2022}', '\u{2013}', '\u{2014}',
-    '\u{2DC}', '\u{2122}', '\u{161}', '\u{203A}', '\u{153}', '\u{9D}', '\u{17E}', '\u{178}',
-];
-
-#[tactic(auto, unfolding(crate::specs::Text::code_point))]
-fn code_point(b: u8) -> char
-    ensures { result ≡ code_point b }
-{
-    if b < 0x80 {
-        return char::from(b);
-    }
-    if b < 0xA0 {
-        return POINTS[usize::from(b - 0x80)];
-    }
-    char::from(b)
-}
+use text::code_point;
 
 /// As UTF-8, for programs.
 #[derive(Clone, Copy)]
