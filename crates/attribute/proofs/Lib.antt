@@ -12,3 +12,4 @@ pub mod Stopped
 pub mod Read
 pub mod BlockMeant
 pub mod Anywhere
+pub mod Named
