@@ -5,85 +5,17 @@
     tools/list_frames.py --check  says whether these files are what it would write
     tools/list_frames.py FILE     prints the listing of a file of hexadecimal lines
 
-`rt ci` then runs the proved program on that stdin and compares. The reader below follows the text of docs/FORMAT.md
-and the layouts of TcAdsDef.h; it shares nothing with the crates.
+`rt ci` then runs the proved program on that stdin and compares. Entries are read by tools/model.py.
 """
 import struct
 import sys
 from pathlib import Path
 
+import model
+from model import write_attribute as attribute, write_refactor as refactor
+
 HEADER = b"line at len group offset size type flags unread attrs refs name typename high\n"
 MOST = 16384
-
-
-# A symbol entry, with its bytes 22 and 23.
-
-
-def attribute_end(e, at):
-    """The place after the attribute record at a place, or None where its reader refuses it."""
-    if len(e) - at < 4:
-        return None
-    end = at + 4 + e[at] + e[at + 1]
-    return end if end <= len(e) else None
-
-
-def refactor_end(e, at):
-    """The place after the refactor record at a place and whether another follows, or None."""
-    if len(e) - at < 7:
-        return None
-    packed, size = struct.unpack_from("<IH", e, at)
-    end = at + 7 + size
-    return (end, packed & 0x01000000 != 0) if end <= len(e) else None
-
-
-def attributes(e, at):
-    """How many attributes are shown, and the place after them."""
-    (count,) = struct.unpack_from("<H", e, at)
-    at += 2
-    shown = 0
-    while shown < count:
-        end = attribute_end(e, at)
-        if end is None:
-            break
-        shown, at = shown + 1, end
-        if at == len(e):
-            break
-    return shown, at
-
-
-def chain(e, at):
-    """How many refactor records the chain has, and the place after it: a refused chain is dropped whole."""
-    start, count = at, 0
-    while True:
-        found = refactor_end(e, at)
-        if found is None:
-            return 0, start
-        at, follows = found
-        count += 1
-        if not follows:
-            return count, at
-
-
-def symbol(e):
-    """The printed fields of an entry's own bytes, or the refusal."""
-    if len(e) < 30:
-        return None, (2, 30, len(e))
-    _, group, offset, size, kind, flags, high, n, t, k = struct.unpack_from("<IIIIIHHHHH", e, 0)
-    at = 33 + n + t + k
-    if len(e) < at:
-        return None, (3, at, len(e))
-    attrs = refs = 0
-    if flags & 0x0008 and len(e) - at >= 16:
-        at += 16
-    if flags & 0x1000 and len(e) - at >= 2:
-        attrs, at = attributes(e, at)
-    if flags & 0x8000 and len(e) - at >= 4:
-        (extended,) = struct.unpack_from("<I", e, at)
-        at += 4
-        if extended & 0x0004 and len(e) > at:
-            refs, at = chain(e, at)
-    name, type_name = e[30 : 30 + n], e[31 + n : 31 + n + t]
-    return (len(e), group, offset, size, kind, flags, len(e) - at, attrs, refs, name, type_name, high), None
 
 
 # What it says of a walk, a line and the input.
@@ -99,26 +31,18 @@ def text(*fields):
     return b" ".join(shown(f) if not isinstance(f, str) else f.encode() for f in fields) + b"\n"
 
 
+def entry_text(number, start, record):
+    (length, group, offset, size, kind, flags, high), (name, type_name, _), _, attributes, _, chain, unread = record
+    return text(number, start, length, group, offset, size, kind, flags, unread, len(attributes), len(chain), name, type_name, high)
+
+
 def frame_text(number, frame):
-    out, at = b"", 0
-    while at < len(frame):
-        start = at
-        left = len(frame) - at
-        if left < 4:
-            refusal, at = (2, at + 4, len(frame)), len(frame)
+    out = b""
+    for start, _, answer in model.pieces(frame):
+        if model.is_accepted(answer):
+            out += entry_text(number, start, answer)
         else:
-            (claim,) = struct.unpack_from("<I", frame, at)
-            if claim == 0:
-                return out + text(number, start, "refused", 10, 1, 0)
-            if claim > left:
-                refusal, at = (3, claim, left), len(frame)
-            else:
-                fields, refusal = symbol(frame[at : at + claim])
-                at += claim
-                if refusal is None:
-                    out += text(number, start, *fields)
-                    continue
-        out += text(number, start, "refused", *refusal)
+            out += text(number, start, "refused", *answer.figures)
     return out
 
 
@@ -142,14 +66,6 @@ def entry(name=b"Z", kind=b"INT", comment=b"", flags=0, tail=b"", claim=None, nu
     body = name + b"\0" + kind + b"\0" + comment + b"\0" + tail
     claim = 30 + len(body) if claim is None else claim
     return struct.pack("<IIIIIHHHHH", claim, *numbers, flags, high, *lengths) + body
-
-
-def attribute(name, value):
-    return bytes([len(name), len(value)]) + name + b"\0" + value + b"\0"
-
-
-def refactor(packed, name):
-    return struct.pack("<IH", packed, len(name)) + name + b"\0"
 
 
 def claims(n):

@@ -1,5 +1,5 @@
 // A case: a letter, then arguments in hexadecimal, one space before each, `-` for none. And how bytes and refusals are answered.
-use refusal::Refusal;
+use refusal::{Mode, Refusal};
 use std::alloc::{AllocError, Global};
 use std::io::Write;
 use std::{fmt, io};
@@ -31,6 +31,22 @@ impl Case {
 
     pub fn number(&self, number: usize) -> u32 {
         le::first_u32(self.bytes(number))
+    }
+
+    /// The arguments from a number on.
+    pub fn rest(&self, number: usize) -> &[Vec<u8>] {
+        match self.arguments.get(number..) {
+            Some(arguments) => arguments,
+            None => &[],
+        }
+    }
+
+    /// The mode of a reading: 0 the present one, 1 the checked one.
+    pub fn mode(&self, number: usize) -> Mode {
+        match self.number(number) {
+            1 => Mode::Checked,
+            _ => Mode::Present,
+        }
     }
 }
 

@@ -22,17 +22,19 @@ fn numbers<W: Write>(field: &AdsFieldInfo<'_>, out: &mut W) -> io::Result<()> {
     )
 }
 
+pub fn record<W: Write>(field: &AdsFieldInfo<'_>, out: &mut W) -> io::Result<()> {
+    numbers(field, out)?;
+    let name = Hex(field.name);
+    let type_name = Hex(field.type_name);
+    let comment = Hex(field.comment);
+    write!(out, " {name} {type_name} {comment}")?;
+    guid(field.guid, out)?;
+    attributes(field.attributes, out)
+}
+
 pub fn direct<W: Write>(bytes: &[u8], out: &mut W) -> io::Result<()> {
     match walk::parse::<AdsFieldInfo>(bytes, Mode::Present) {
-        Ok(field) => {
-            numbers(&field, out)?;
-            let name = Hex(field.name);
-            let type_name = Hex(field.type_name);
-            let comment = Hex(field.comment);
-            write!(out, " {name} {type_name} {comment}")?;
-            guid(field.guid, out)?;
-            attributes(field.attributes, out)
-        }
+        Ok(field) => record(&field, out),
         Err(why) => refused(why, out),
     }
 }

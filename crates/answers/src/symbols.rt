@@ -60,8 +60,8 @@ pub fn direct<W: Write>(bytes: &[u8], out: &mut W) -> io::Result<()> {
 }
 
 // A step at a place, and the place after it; nothing where the walk is over.
-fn step<W: Write>(upload: &[u8], at: usize, out: &mut W) -> io::Result<Option<usize>> {
-    let stepped = Cursor { at }.step::<AdsSymbolInfo>(upload, Mode::Present);
+fn step<W: Write>(upload: &[u8], mode: Mode, at: usize, out: &mut W) -> io::Result<Option<usize>> {
+    let stepped = Cursor { at }.step::<AdsSymbolInfo>(upload, mode);
     let next = stepped.cursor.at;
     write!(out, " at {at}")?;
     match stepped.answer {
@@ -77,10 +77,10 @@ fn step<W: Write>(upload: &[u8], at: usize, out: &mut W) -> io::Result<Option<us
 }
 
 /// Every step, of which a length of n allows at most n and the last. One that stays would be made for ever, so it is the last.
-pub fn walk<W: Write>(upload: &[u8], from: usize, out: &mut W) -> io::Result<()> {
+pub fn walk<W: Write>(upload: &[u8], mode: Mode, from: usize, out: &mut W) -> io::Result<()> {
     let mut at = from;
     for _ in 0..=upload.len() {
-        match step(upload, at, out)? {
+        match step(upload, mode, at, out)? {
             Some(next) => at = next,
             None => return Ok(()),
         }

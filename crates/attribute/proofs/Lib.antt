@@ -13,3 +13,4 @@ pub mod Stopped
 pub mod Read
 pub mod BlockMeant
 pub mod Anywhere
+pub mod Named

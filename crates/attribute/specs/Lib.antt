@@ -11,3 +11,4 @@ pub mod Stopped
 pub mod Laid
 pub mod Read
 pub mod BlockMeant
+pub mod Named

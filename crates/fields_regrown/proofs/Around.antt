@@ -1,18 +1,17 @@
 -- The theorems around the one that written fields come back, proved.
-use Rattle.std.proofs.Common.{ℕ, ◌≡◌, refl, ap, ◌∙◌, Bool, true, false, List, [], ◌∷◌, arith, Bor, Ok, None}
-use Rattle.std.specs.Prelude.{nat_eq}
-use Rattle.std.specs.Cmp.Lexicographic.{pointwise}
-use Rattle.walk.specs.Mapped.{map_ok}
+use Rattle.std.proofs.Common.{ℕ, ◌≤◌, ◌≡◌, refl, ap, ◌∙◌, List, [], length, arith, Bor, Ok, None}
+use Rattle.refusal.specs.Refusal.{limit}
 use Rattle.walk.specs.Theorems.{cursor_of}
 use Rattle.writing.specs.Layout.{lengths_bytes, strings_bytes, attributes_bytes, entry_bytes}
 use Rattle.writing.specs.Checks.{strings_checked, entry_checked}
 use Rattle.writing.proofs.Done.{done_by}
-use Rattle.regrown.specs.Regrown.{grown, Grown}
+use Rattle.regrown.specs.Regrown.{grown, Grown, entry_of}
 use Rattle.regrown.specs.Tells.{tells}
 use Rattle.regrown.proofs.ShutsOut.{shuts_out}
-use Rattle.attribute.specs.declared.AdsAttribute.{AdsAttribute}
-use Rattle.attribute.specs.Attribute.{listed, named}
+use Rattle.attribute.specs.Attribute.{listed}
 use Rattle.attribute.specs.Told as attributes
+use Rattle.attribute.specs.Named.{named_told}
+use Rattle.attribute.proofs.Named.{named_tells}
 use Rattle.field.specs.declared.AdsFieldInfo.{AdsFieldInfo}
 use Rattle.field.specs.declared.writer.NewField.{NewField}
 use Rattle.field.specs.Told as field
@@ -20,7 +19,7 @@ use Rattle.field.specs.Told.{told_of, meant, IsTyped, Agrees}
 use Rattle.field.specs.Writing.{numbers_bytes, header_bytes, guid_bytes, mask_bytes, sections_bytes, field_bytes, attributes_checked, field_checked, field_written}
 use Rattle.field.proofs.Accepted.{accepted_is}
 use Rattle.fields_regrown.specs.Kind.{IsFit, reads_back}
-use Rattle.fields_regrown.specs.Theorems.{FieldsShutOut, WrittenFieldsFit, named_told, FieldsByName}
+use Rattle.fields_regrown.specs.Theorems.{FieldsShutOut, WrittenFieldsFit, FieldsByName}
 
 -- every number 0, no flag set, no name
 abbrev nothing : Bor (List ℕ)
@@ -53,12 +52,15 @@ accepted : field_written smallest ≡ Ok (field_bytes smallest)
 unfolding field_written field_checked attributes_checked strings_checked entry_checked field_bytes entry_bytes header_bytes numbers_bytes lengths_bytes strings_bytes sections_bytes guid_bytes mask_bytes attributes_bytes
 accepted = refl
 
-fit : Grown IsFit
+pub fit : Grown IsFit
 fit = record { parts = smallest; extra = []; fit = record { typed = typed; accepted = accepted; agrees = agrees } }
 
-pub shut : FieldsShutOut
+pub small : length (entry_of IsFit field_bytes fit) ≤ limit
 unfolding fit grown field_bytes entry_bytes header_bytes numbers_bytes lengths_bytes strings_bytes sections_bytes guid_bytes mask_bytes attributes_bytes
-shut = shuts_out IsFit field_bytes meant cursor_of (tells (λ (r : AdsFieldInfo). r.length) told_of) fit (omega arith)
+small = omega arith
+
+pub shut : FieldsShutOut
+shut = shuts_out IsFit field_bytes meant cursor_of (tells (λ (r : AdsFieldInfo). r.length) told_of) fit small
 
 pub reached : WrittenFieldsFit
 reached p old new count t m g b w =
@@ -66,18 +68,8 @@ reached p old new count t m g b w =
     let i = (accepted_is p d.bytes d.given).1 in
     record { fit = record { typed = t; accepted = d.given ∙ ap Ok i; agrees = record { no_methods = m; guid_agrees = g; no_block = λ f. (b f).0; no_count = λ f. (b f).1 } }; bytes = d.first ∙ i }
 
--- what the first with a name tells is that of the first told one with it
-turn : (a : AdsAttribute) (all : List AdsAttribute) (name : List ℕ) (b : Bool) → pointwise nat_eq a.name.now name ≡ b → map_ok attributes.told_of (named all name) ≡ named_told (attributes.told all) name
-    → map_ok attributes.told_of (named (a ∷ all) name) ≡ named_told (attributes.told (a ∷ all)) name
-turn a all name true e h = simp e
-turn a all name false e h = simp e h
-
-named_is : (all : List AdsAttribute) (name : List ℕ) → map_ok attributes.told_of (named all name) ≡ named_told (attributes.told all) name
-named_is [] name = refl
-named_is (a ∷ all) name = turn a all name (pointwise nat_eq a.name.now name) refl (named_is all name)
-
 pub by_name : FieldsByName
 by_name mode p extra name e f is h =
     let b = reads_back mode p extra e f is h in
     let same : attributes.told (listed b.back.attributes.bytes b.back.attributes.count) ≡ attributes.told (listed p.attributes.bytes p.attributes.count) = ap (λ (t : field.Told). t.attributes) b.tells in
-    record { back = b.back; is = b.is; tells = named_is (listed b.back.attributes.bytes b.back.attributes.count) name ∙ ap (λ all. named_told all name) same }
+    record { back = b.back; is = b.is; tells = named_tells (listed b.back.attributes.bytes b.back.attributes.count) name ∙ ap (λ all. named_told all name) same }

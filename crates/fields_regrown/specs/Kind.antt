@@ -1,12 +1,12 @@
 -- docs/FORMAT.md, "Fit records": fields that are written, as a kind of entry that comes back.
-use Rattle.std.proofs.Common.{ℕ, ◌+◌, ◌<◌, ◌≤◌, ◌≡◌, ap, ◌∙◌, List, ◌++◌, length, arith, Bor, length-append}
+use Rattle.std.proofs.Common.{ℕ, ◌+◌, ◌<◌, ◌≤◌, ◌≡◌, ap, ◌∙◌, List, ◌++◌, length, arith, Bor}
 use Rattle.std.specs.Prelude.{Ok}
 use Rattle.refusal.specs.Refusal.{limit}
 use Rattle.refusal.specs.declared.Mode.{Mode}
-use Rattle.le.specs.Le.{bytes4}
 use Rattle.writing.specs.Layout.{entry_bytes}
 use Rattle.writing.proofs.Entry.{length_entry}
 use Rattle.regrown.specs.Regrown.{grown}
+use Rattle.regrown.proofs.Grown.{grown_entry}
 use Rattle.regrown.specs.Tells.{ReadsBack}
 use Rattle.field.specs.declared.writer.NewField.{NewField}
 use Rattle.field.specs.Field.{field_of}
@@ -23,10 +23,6 @@ pub record IsFit (p : NewField) : Type 0 where
   pub agrees : Agrees p
 
 -- the bytes that are written, grown, are an entry with the bytes added
-pub grown_entry : (rest extra : List ℕ) → grown (entry_bytes rest) extra ≡ entry_bytes (rest ++ extra)
-unfolding grown entry_bytes
-grown_entry rest extra = let n : length (bytes4 (length rest + 4) ++ rest) + length extra ≡ length (rest ++ extra) + 4 = simp length-append (omega arith) in ap (λ (k : ℕ). bytes4 k ++ (rest ++ extra)) n
-
 pub grown_field : (p : NewField) (extra : List ℕ) → grown (field_bytes p) extra ≡ entry_bytes (body_of p ++ extra)
 unfolding field_bytes
 grown_field p extra = grown_entry (body_of p) extra

@@ -1,21 +1,18 @@
 -- docs/FORMAT.md, "Fit records": the theorems of fields that are written.
-use Rattle.std.specs.Prelude.{ℕ, ◌≤◌, ◌≡◌, false, is_some, List, Result, Ok, ok_or, find, nat_eq, length, take}
-use Rattle.std.specs.Cmp.Lexicographic.{pointwise}
+use Rattle.std.specs.Prelude.{ℕ, ◌≤◌, ◌≡◌, false, is_some, List, Ok, length, take}
 use Rattle.std.specs.Borrow.{Bor}
 use Rattle.le.specs.Le.{has}
 use Rattle.refusal.specs.Refusal.{limit}
 use Rattle.refusal.specs.declared.Mode.{Mode}
-use Rattle.refusal.specs.declared.Refusal.{Refusal}
-use Rattle.refusal.specs.declared.Refusal.TheVariants.{NameNotFound}
-use Rattle.walk.specs.Mapped.{map_ok}
 use Rattle.walk.specs.Step.{step_at}
 use Rattle.walk.specs.Theorems.{cursor_of}
 use Rattle.writing.specs.Writing.{Writes}
 use Rattle.regrown.specs.Regrown.{grown, ComeBack}
 use Rattle.regrown.specs.ShutsOut.{ShutsOut}
 use Rattle.regrown.specs.Tells.{tells}
-use Rattle.attribute.specs.Attribute.{listed, named}
+use Rattle.attribute.specs.Attribute.{listed}
 use Rattle.attribute.specs.Told as attributes
+use Rattle.attribute.specs.Named.{told_named, named_told}
 use Rattle.field.specs.declared.AdsFieldInfo.{AdsFieldInfo}
 use Rattle.field.specs.declared.writer.NewField.{NewField}
 use Rattle.field.specs.Field.{field_of}
@@ -45,15 +42,11 @@ WrittenFieldsFit = (p : NewField) (old new : List ℕ) (count : ℕ) → IsTyped
 abbrev pub FieldsFaithful : Type 0
 FieldsFaithful = (p q : NewField) (extra other : List ℕ) → IsFit p → IsFit q → meant p extra ≡ meant q other → field_bytes p ≡ field_bytes q
 
--- of some attributes, what the first with a name tells; where none has it, 13
-abbrev pub named_told : List attributes.Told → List ℕ → Result attributes.Told Refusal
-named_told all name = ok_or (find (λ a. pointwise nat_eq a.name name) all) NameNotFound
-
 -- of an entry that is read, asked by an attribute's name
 pub record IsNamed (mode : Mode) (p : NewField) (e : Bor (List ℕ)) (name : List ℕ) : Type 0 where
   pub back : AdsFieldInfo
   pub is : field_of mode e ≡ Ok back
-  pub tells : map_ok attributes.told_of (named (listed back.attributes.bytes back.attributes.count) name) ≡ named_told (attributes.told (listed p.attributes.bytes p.attributes.count)) name
+  pub tells : told_named (listed back.attributes.bytes back.attributes.count) name ≡ named_told (attributes.told (listed p.attributes.bytes p.attributes.count)) name
 
 abbrev pub FieldsByName : Type 0
 FieldsByName = (mode : Mode) (p : NewField) (extra name : List ℕ) (e : Bor (List ℕ)) → IsFit p → e.now ≡ grown (field_bytes p) extra → length e.now ≤ limit → IsNamed mode p e name

@@ -1,4 +1,4 @@
-//! Entries that are written, one after another and each grown at its end, come back from the walk: nothing to run, but one theorem.
+//! Entries that are written, one after another and each grown at its end, come back from the walk: nothing to run, but that theorem, and which steps it shuts out.
 #![tactic(auto)]
 
 ghost use Rattle.std.specs.Prelude.{◌≡◌, ◌≤◌, ℕ, List, length};

@@ -1,8 +1,7 @@
 -- What is found where another upload differs inside some entries: proved.
 use Rattle.std.proofs.Common.{ℕ, ◌≤◌, ◌≡◌, inl, inr, subst, refl, sym, ap, ◌∙◌, Bool, true, false, List, [], ◌∷◌, ◌++◌, length, filter, arith, Bor, Option, Some, None, Result, Ok, Err, option_map, ok_or, if◌then◌else◌}
-use Rattle.std.specs.Prelude.{ltb, eqb, nat_eq}
+use Rattle.std.specs.Prelude.{ltb, eqb}
 use Rattle.std.specs.List.{find as first_of, list_any}
-use Rattle.std.specs.Cmp.Lexicographic.{pointwise}
 use borrow.Author.Tests.{le-ltb, ltb-false}
 use Rattle.part.specs.Slice.{part}
 use Rattle.refusal.specs.Refusal.{limit}
@@ -20,9 +19,10 @@ use Rattle.index.specs.Steps.{gives}
 use Rattle.index.proofs.Meaning.{built}
 use Rattle.damage.proofs.Stays as stays
 use Rattle.damage.proofs.Theorems.{stays_anywhere_of}
-use Rattle.attribute.specs.declared.AdsAttribute.{AdsAttribute}
-use Rattle.attribute.specs.Attribute.{listed, named}
+use Rattle.attribute.specs.Attribute.{listed}
 use Rattle.attribute.specs.Told as attributes
+use Rattle.attribute.specs.Named.{named_told}
+use Rattle.attribute.proofs.Named.{named_tells}
 use Rattle.symbol.specs.declared.AdsSymbolInfo.{AdsSymbolInfo}
 use Rattle.symbol.specs.Symbol.{symbol_of}
 use Rattle.symbol.specs.Told.{Told, told_of}
@@ -85,21 +85,7 @@ module _ (mode : Mode) (s : Bor (List ℕ)) where
   as_without : (name : List ℕ) {a : List ℕ} → IsIndex mode s a → find_indexed mode s a name ≡ find mode s name
   as_without name (built_of {old} {new} {n} w) = same_find mode s old new n w name
 
--- what the first attribute with a name tells is that of the first told one with it
-named_told : List attributes.Told → List ℕ → Result attributes.Told Refusal
-named_told all name = ok_or (first_of (λ a. pointwise nat_eq a.name name) all) NameNotFound
-
-named_turn : (a : AdsAttribute) (all : List AdsAttribute) (name : List ℕ) (b : Bool) → pointwise nat_eq a.name.now name ≡ b → map_ok attributes.told_of (named all name) ≡ named_told (attributes.told all) name
-    → map_ok attributes.told_of (named (a ∷ all) name) ≡ named_told (attributes.told (a ∷ all)) name
-unfolding named_told
-named_turn a all name true e h = simp e
-named_turn a all name false e h = simp e h
-
-named_is : (all : List AdsAttribute) (name : List ℕ) → map_ok attributes.told_of (named all name) ≡ named_told (attributes.told all) name
-unfolding named_told
-named_is [] name = refl
-named_is (a ∷ all) name = named_turn a all name (pointwise nat_eq a.name.now name) refl (named_is all name)
-
+-- what a step tells of an attribute by its name, by what it tells
 attribute_of : List ℕ → Option (Result Told Refusal) → Option (Result attributes.Told Refusal)
 attribute_of name None = None
 attribute_of name (Some (Err why)) = None
@@ -109,7 +95,7 @@ attribute_by : (name : List ℕ) (x : Option (Result AdsSymbolInfo Refusal)) →
 unfolding attribute_of
 attribute_by name None = refl
 attribute_by name (Some (Err why)) = refl
-attribute_by name (Some (Ok symbol)) = ap Some (named_is (listed symbol.attributes.bytes symbol.attributes.count) name)
+attribute_by name (Some (Ok symbol)) = ap Some (named_tells (listed symbol.attributes.bytes symbol.attributes.count) name)
 
 module _ (mode : Mode) (s t : Bor (List ℕ)) (places name : List ℕ) (d : DiffersInside s.now t.now places)
     (none_s : (p : ℕ) → among places p ≡ true → HasName mode s name p → ⊥) (none_t : (p : ℕ) → among places p ≡ true → HasName mode t name p → ⊥) where

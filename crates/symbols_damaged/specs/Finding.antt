@@ -5,11 +5,11 @@ use Rattle.refusal.specs.declared.Mode.{Mode}
 use Rattle.refusal.specs.declared.Refusal.{Refusal}
 use Rattle.entry.specs.Alike.{among, DiffersInside}
 use Rattle.writing.specs.Writing.{Writes}
-use Rattle.walk.specs.Mapped.{map_ok}
 use Rattle.walk.specs.Step.{step_at}
 use Rattle.index.specs.Index.{indexing}
 use Rattle.regrown.specs.Tells.{tells}
-use Rattle.attribute.specs.Attribute.{listed, named}
+use Rattle.attribute.specs.Attribute.{listed}
+use Rattle.attribute.specs.Named.{told_named}
 use Rattle.attribute.specs.Told as attributes
 use Rattle.symbol.specs.declared.AdsSymbolInfo.{AdsSymbolInfo}
 use Rattle.symbol.specs.Symbol.{symbol_of}
@@ -24,7 +24,7 @@ pub data IsIndex (mode : Mode) (s : Bor (List ℕ)) : List ℕ → Type 0 where
 abbrev pub attribute_told : List ℕ → Option (Result AdsSymbolInfo Refusal) → Option (Result attributes.Told Refusal)
 attribute_told name None = None
 attribute_told name (Some (Err why)) = None
-attribute_told name (Some (Ok symbol)) = Some (map_ok attributes.told_of (named (listed symbol.attributes.bytes symbol.attributes.count) name))
+attribute_told name (Some (Ok symbol)) = Some (told_named (listed symbol.attributes.bytes symbol.attributes.count) name)
 
 -- what was found stands in none of the entries that differ, and tells the same in both: the symbol, and its attribute of any name
 pub record SameThere (mode : Mode) (s t : Bor (List ℕ)) (places : List ℕ) (at : ℕ) : Type 0 where

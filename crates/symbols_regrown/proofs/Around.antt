@@ -1,8 +1,5 @@
 -- The theorems around the one that written symbols come back, proved.
-use Rattle.std.proofs.Common.{ℕ, ◌≡◌, refl, ap, ◌∙◌, Bool, true, false, List, [], ◌∷◌, arith, Bor, Ok, None}
-use Rattle.std.specs.Prelude.{nat_eq}
-use Rattle.std.specs.Cmp.Lexicographic.{pointwise}
-use Rattle.walk.specs.Mapped.{map_ok}
+use Rattle.std.proofs.Common.{ℕ, ◌≡◌, refl, ap, ◌∙◌, List, [], arith, Bor, Ok, None}
 use Rattle.walk.specs.Theorems.{cursor_of}
 use Rattle.writing.specs.Layout.{lengths_bytes, strings_bytes, attributes_bytes, entry_bytes}
 use Rattle.writing.specs.Checks.{strings_checked, entry_checked}
@@ -10,10 +7,11 @@ use Rattle.writing.proofs.Done.{done_by}
 use Rattle.regrown.specs.Regrown.{grown, Grown}
 use Rattle.regrown.specs.Tells.{tells}
 use Rattle.regrown.proofs.ShutsOut.{shuts_out}
-use Rattle.attribute.specs.declared.AdsAttribute.{AdsAttribute}
-use Rattle.attribute.specs.Attribute.{listed, named}
+use Rattle.attribute.specs.Attribute.{listed}
 use Rattle.attribute.specs.Block as attribute-block
 use Rattle.attribute.specs.Told as attributes
+use Rattle.attribute.specs.Named.{named_told}
+use Rattle.attribute.proofs.Named.{named_tells}
 use Rattle.refactor.specs.Block as refactor-block
 use Rattle.symbol.specs.declared.AdsSymbolInfo.{AdsSymbolInfo}
 use Rattle.symbol.specs.declared.writer.NewSymbol.{NewSymbol}
@@ -22,7 +20,7 @@ use Rattle.symbol.specs.Told.{told_of, meant, IsTyped, IsSixteen}
 use Rattle.symbol.specs.Writing.{numbers_bytes, header_bytes, sections_bytes, symbol_bytes, sections_checked, symbol_checked, symbol_written}
 use Rattle.symbol.proofs.Accepted.{accepted_is}
 use Rattle.symbols_regrown.specs.Kind.{IsFit, reads_back}
-use Rattle.symbols_regrown.specs.Theorems.{SymbolsShutOut, WrittenSymbolsFit, named_told, SymbolsByName}
+use Rattle.symbols_regrown.specs.Theorems.{SymbolsShutOut, WrittenSymbolsFit, SymbolsByName}
 
 -- every number 0, no flag set, no name
 abbrev nothing : Bor (List ℕ)
@@ -66,18 +64,8 @@ reached n old new count t w =
     let i = (accepted_is n d.bytes d.given).1 in
     record { fit = record { typed = t; accepted = d.given ∙ ap Ok i }; bytes = d.first ∙ i }
 
--- what the first with a name tells is that of the first told one with it
-turn : (a : AdsAttribute) (all : List AdsAttribute) (name : List ℕ) (b : Bool) → pointwise nat_eq a.name.now name ≡ b → map_ok attributes.told_of (named all name) ≡ named_told (attributes.told all) name
-    → map_ok attributes.told_of (named (a ∷ all) name) ≡ named_told (attributes.told (a ∷ all)) name
-turn a all name true e h = simp e
-turn a all name false e h = simp e h
-
-named_is : (all : List AdsAttribute) (name : List ℕ) → map_ok attributes.told_of (named all name) ≡ named_told (attributes.told all) name
-named_is [] name = refl
-named_is (a ∷ all) name = turn a all name (pointwise nat_eq a.name.now name) refl (named_is all name)
-
 pub by_name : SymbolsByName
 by_name mode n extra name e f is h =
     let b = reads_back mode n extra e f is h in
     let same : attributes.told (listed b.back.attributes.bytes b.back.attributes.count) ≡ attributes.told (listed n.attributes.bytes n.attributes.count) = ap (λ (t : symbol.Told). t.attributes) b.tells in
-    record { back = b.back; is = b.is; tells = named_is (listed b.back.attributes.bytes b.back.attributes.count) name ∙ ap (λ all. named_told all name) same }
+    record { back = b.back; is = b.is; tells = named_tells (listed b.back.attributes.bytes b.back.attributes.count) name ∙ ap (λ all. named_told all name) same }

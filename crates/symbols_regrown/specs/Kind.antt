@@ -1,12 +1,12 @@
 -- docs/FORMAT.md, "Fit records": symbols that are written, as a kind of entry that comes back.
-use Rattle.std.proofs.Common.{ℕ, ◌+◌, ◌<◌, ◌≤◌, ◌≡◌, ap, ◌∙◌, List, ◌++◌, length, arith, Bor, length-append}
+use Rattle.std.proofs.Common.{ℕ, ◌+◌, ◌<◌, ◌≤◌, ◌≡◌, ap, ◌∙◌, List, ◌++◌, length, arith, Bor}
 use Rattle.std.specs.Prelude.{Ok}
 use Rattle.refusal.specs.Refusal.{limit}
 use Rattle.refusal.specs.declared.Mode.{Mode}
-use Rattle.le.specs.Le.{bytes4}
 use Rattle.writing.specs.Layout.{entry_bytes}
 use Rattle.writing.proofs.Entry.{length_entry}
 use Rattle.regrown.specs.Regrown.{grown}
+use Rattle.regrown.proofs.Grown.{grown_entry}
 use Rattle.regrown.specs.Tells.{ReadsBack}
 use Rattle.symbol.specs.declared.writer.NewSymbol.{NewSymbol}
 use Rattle.symbol.specs.Symbol.{symbol_of}
@@ -22,10 +22,6 @@ pub record IsFit (n : NewSymbol) : Type 0 where
   pub accepted : symbol_written n ≡ Ok (symbol_bytes n)
 
 -- the bytes that are written, grown, are an entry with the bytes added
-pub grown_entry : (rest extra : List ℕ) → grown (entry_bytes rest) extra ≡ entry_bytes (rest ++ extra)
-unfolding grown entry_bytes
-grown_entry rest extra = let n : length (bytes4 (length rest + 4) ++ rest) + length extra ≡ length (rest ++ extra) + 4 = simp length-append (omega arith) in ap (λ (k : ℕ). bytes4 k ++ (rest ++ extra)) n
-
 pub grown_symbol : (n : NewSymbol) (extra : List ℕ) → grown (symbol_bytes n) extra ≡ entry_bytes (body_of n ++ extra)
 unfolding symbol_bytes
 grown_symbol n extra = grown_entry (body_of n) extra

@@ -1,20 +1,17 @@
 -- docs/FORMAT.md, "Fit records": the theorems around the one that written symbols come back.
-use Rattle.std.specs.Prelude.{ℕ, ◌<◌, ◌≤◌, ◌≡◌, List, Result, Ok, ok_or, find, nat_eq, length, take}
-use Rattle.std.specs.Cmp.Lexicographic.{pointwise}
+use Rattle.std.specs.Prelude.{ℕ, ◌<◌, ◌≤◌, ◌≡◌, List, Ok, length, take}
 use Rattle.std.specs.List.{All}
 use Rattle.std.specs.Borrow.{Bor}
 use Rattle.refusal.specs.Refusal.{limit}
 use Rattle.refusal.specs.declared.Mode.{Mode}
-use Rattle.refusal.specs.declared.Refusal.{Refusal}
-use Rattle.refusal.specs.declared.Refusal.TheVariants.{NameNotFound}
-use Rattle.walk.specs.Mapped.{map_ok}
 use Rattle.walk.specs.Theorems.{cursor_of}
 use Rattle.writing.specs.Writing.{Writes}
 use Rattle.regrown.specs.Regrown.{grown}
 use Rattle.regrown.specs.ShutsOut.{ShutsOut}
 use Rattle.regrown.specs.Tells.{tells}
-use Rattle.attribute.specs.Attribute.{listed, named}
+use Rattle.attribute.specs.Attribute.{listed}
 use Rattle.attribute.specs.Told as attributes
+use Rattle.attribute.specs.Named.{told_named, named_told}
 use Rattle.symbol.specs.declared.AdsSymbolInfo.{AdsSymbolInfo}
 use Rattle.symbol.specs.declared.writer.NewSymbol.{NewSymbol}
 use Rattle.symbol.specs.Symbol.{symbol_of}
@@ -34,15 +31,11 @@ pub record IsReached (n : NewSymbol) (count : ℕ) (new : List ℕ) : Type 0 whe
 abbrev pub WrittenSymbolsFit : Type 0
 WrittenSymbolsFit = (n : NewSymbol) (old new : List ℕ) (count : ℕ) → IsTyped n → Writes (symbol_written n) old new (Ok count) → IsReached n count new
 
--- of some attributes, what the first with a name tells; where none has it, 13
-abbrev pub named_told : List attributes.Told → List ℕ → Result attributes.Told Refusal
-named_told all name = ok_or (find (λ a. pointwise nat_eq a.name name) all) NameNotFound
-
 -- of an entry that is read, asked by an attribute's name
 pub record IsNamed (mode : Mode) (n : NewSymbol) (e : Bor (List ℕ)) (name : List ℕ) : Type 0 where
   pub back : AdsSymbolInfo
   pub is : symbol_of mode e ≡ Ok back
-  pub tells : map_ok attributes.told_of (named (listed back.attributes.bytes back.attributes.count) name) ≡ named_told (attributes.told (listed n.attributes.bytes n.attributes.count)) name
+  pub tells : told_named (listed back.attributes.bytes back.attributes.count) name ≡ named_told (attributes.told (listed n.attributes.bytes n.attributes.count)) name
 
 abbrev pub SymbolsByName : Type 0
 SymbolsByName = (mode : Mode) (n : NewSymbol) (extra name : List ℕ) (e : Bor (List ℕ)) → IsFit n → e.now ≡ grown (symbol_bytes n) extra → length e.now ≤ limit → IsNamed mode n e name
