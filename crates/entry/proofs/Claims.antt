@@ -9,7 +9,7 @@ use lib.ListN.{length}
 use borrow.Author.Tests.{leb-true, leb-false, ltb-true, ltb-false}
 use Rattle.le.specs.Le.{le4}
 use Rattle.refusal.specs.Refusal.{limit}
-use Rattle.std.specs.Prelude.{Some, Ok}
+use Rattle.std.specs.Prelude.{is_some, Some, Ok}
 use Rattle.entry.specs.declared.Claimed.{Claimed}
 use Rattle.entry.specs.Entry.{claim_at}
 use Rattle.entry.specs.Claims.{Claims, ended, large, short, beyond, entry, StepClaims}
@@ -65,3 +65,14 @@ moves_within s at h = (between s at h).1
 -- an entry that is met lies in the upload
 pub room_at : (s : List ℕ) (at size : ℕ) → (claim_at s at).size ≡ Some (Ok size) → at + size ≤ length s
 room_at s at size e = (meets s at size e).room
+
+-- before the end of the upload there is a claim, or why there is none
+pub claim_there : (s : List ℕ) (at : ℕ) → at < length s → is_some (claim_at s at).size ≡ true
+claim_there s at h = by (claim_at s at) (claims s at)
+  where
+    by : (c : Claimed) → Claims s at c → is_some c.size ≡ true
+    by c (ended a) = absurd (omega arith)
+    by c (large a b) = refl
+    by c (short a b d) = refl
+    by c (beyond a b d g) = refl
+    by c (entry a b d g) = refl

@@ -19,7 +19,7 @@ use Rattle.walk.specs.Step.{step_at}
 use Rattle.walk.specs.Theorems.{cursor_of}
 use Rattle.regrown.specs.Tells.{tells}
 use Rattle.regrown.specs.Regrown.{Tells, Entry, Refused, End, lying, grown, Grown, entry_of, upload, cut_figures, comes_back, cut_back}
-use Rattle.regrown.proofs.Whole.{Whole, claim_end, claim_whole, length_cut, cut_refusal, cut_figures, claim_cut, above}
+use Rattle.regrown.proofs.Whole.{Whole, claim_end, claim_whole, length_cut, cut_refusal, cut_told, claim_cut, above}
 
 module _ {R S : Type 0} (read : Bor (List ℕ) → Result R Refusal) (length_of : R → ℕ) (told : R → S) where
   abbrev pub entry : Bor (List ℕ) → ℕ → Stepped R
@@ -65,7 +65,7 @@ module _ {R S : Type 0} (read : Bor (List ℕ) → Result R Refusal) (length_of 
         let why : Refusal = cut_refusal (ltb k 4) (length p) k (length e) in
         let c : claim_at s (length p) ≡ claimed (Some (Err why)) (length p + k) = claim_cut p e k w a b h (ltb k 4) refl in
         let len : length s ≡ length p + k = length_cut p e k b in
-        let t : tell (step_at read (lying m s) (length p)) ≡ Refused (cut_figures (length p) k (length e)) (length p + k) = simp c (ap (λ f. Refused f (length p + k)) (cut_figures (ltb k 4) (length p) k (length e) refl)) in
+        let t : tell (step_at read (lying m s) (length p)) ≡ Refused (cut_figures (length p) k (length e)) (length p + k) = simp c (ap (λ f. Refused f (length p + k)) (cut_told (ltb k 4) (length p) k (length e) refl)) in
         tells_on s (length p) (suc n) (length p + k) (Refused (cut_figures (length p) k (length e)) (length p + k)) (omega arith) t (ap (λ x. x.next) c) ∙ ap (λ (l : List (Tells S)). Refused (cut_figures (length p) k (length e)) (length p + k) ∷ l) (tells_end s (length p + k) n (omega arith))
 
     -- each entry of an upload within the limit is within it

@@ -55,9 +55,9 @@ length_cut p e k b = length-append p (take k e) ∙ ap (λ (n : ℕ). length p +
 abbrev pub cut_refusal : Bool → ℕ → ℕ → ℕ → Refusal
 cut_refusal short at k size = if short then TooShort (at + 4) (at + k) else EntryLengthMismatch size k
 
-pub cut_figures : (short : Bool) (at k size : ℕ) → ltb k 4 ≡ short → figures_of (cut_refusal short at k size) ≡ cut_figures at k size
-cut_figures true at k size h = simp h
-cut_figures false at k size h = simp h
+pub cut_told : (short : Bool) (at k size : ℕ) → ltb k 4 ≡ short → figures_of (cut_refusal short at k size) ≡ cut_figures at k size
+cut_told true at k size h = simp h
+cut_told false at k size h = simp h
 
 pub claim_cut : (p e : List ℕ) (k : ℕ) → Whole e → 0 < k → k < length e → length p + k ≤ limit → (short : Bool) → ltb k 4 ≡ short
     → claim_at (p ++ take k e) (length p) ≡ claimed (Some (Err (cut_refusal short (length p) k (length e)))) (length p + k)

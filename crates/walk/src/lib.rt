@@ -72,7 +72,7 @@ pub struct Cursor {
 }
 
 /// A step and the cursor after it: `None` at the end of the upload.
-#[derive(Drop)]
+#[derive(Clone, Copy, Drop)]
 pub struct Stepped<E> {
     /// What the step read, or why it read nothing.
     pub answer: Option<Result<E, Refusal>>,
@@ -114,7 +114,7 @@ impl Cursor {
 
     // The piece here, before the end of the upload.
     #[inline(always)]
-    #[tactic(auto, using(entry::proofs::Claims::room_at), unfolding(crate::specs::Pieces::piece_at))]
+    #[tactic(auto, using(entry::proofs::Claims::room_at, entry::proofs::Claims::claim_there), unfolding(crate::specs::Pieces::piece_at))]
     fn piece<'a, E: Entry<'a>>(self, bytes: &'a [u8], mode: Mode) -> Piece<E>
         requires { self.at < length bytes.now }
         ensures { result ≡ piece_at (E.read mode) bytes.entry self.at }
@@ -128,10 +128,9 @@ impl Cursor {
                 answer: Err(Refusal::ZeroEntryLength),
             };
         }
-        let answer = match claimed.size {
-            None => Err(Refusal::ZeroEntryLength),
-            Some(Ok(size)) => E::read(&bytes[start..start + size], mode),
-            Some(Err(why)) => Err(why),
+        let answer = match claimed.size.unwrap() {
+            Ok(size) => E::read(&bytes[start..start + size], mode),
+            Err(why) => Err(why),
         };
         Piece {
             start,
@@ -142,7 +141,7 @@ impl Cursor {
 }
 
 /// What stands from a place of the upload up to the next: an entry that was read, or why none was.
-#[derive(Drop)]
+#[derive(Clone, Copy, Drop)]
 pub struct Piece<E> {
     /// Where it begins, in bytes from the start of the upload.
     pub start: usize,
@@ -153,7 +152,7 @@ pub struct Piece<E> {
 }
 
 /// The upload with the cursor on it. It gives the upload's pieces in order: a zero claim, which a step would stay at, is refused with 10 and takes all that is left.
-#[derive(Drop)]
+#[derive(Clone, Copy, Drop)]
 pub struct Walker<'a, E> {
     /// The upload.
     pub bytes: &'a [u8],
