@@ -1,8 +1,9 @@
 //! AdsSymbolInfo entries of an upload, read whole: what a symbol holds is a part of the bytes that it was read from.
 #![tactic(auto, unfolding(layout::specs::Layout::guid_of, crate::specs::Symbol::attributes_of, crate::specs::Symbol::extended_of, crate::specs::Symbol::refactor_infos_of, le::specs::Le::le2, le::specs::Le::le4))]
 
-ghost use Rattle.std.specs.Prelude.{◌≡◌, ◌+◌, ◌≤◌, length};
-ghost use Rattle.le.specs.Le.{has};
+ghost use Rattle.std.specs.Prelude.{◌≡◌, ◌+◌, ◌≤◌, length, ltb, Err, OnOk, if◌then◌else◌};
+ghost use Rattle.le.specs.Le.{has, le2};
+ghost use Rattle.layout.specs.Layout.{strings_there};
 ghost use Rattle.symbol.specs.Symbol.{type_guid_flag, attributes_flag, extended_flags_flag, refactor_info_flag, attributes_of, extended_of, refactor_infos_of, extended_word, IsWithin, with_strings, refactor_ends, symbol_ended, symbol_of};
 ghost use Rattle.refusal.specs.EndBytes.{ended};
 ghost use Rattle.symbol.specs.Kind.{four, long, room, short, never_zero};
@@ -130,6 +131,25 @@ fn with_strings(own: &[u8], name: usize, type_name: usize, comment: usize) -> Ad
     }
 }
 
+/// Refuses a header (2) and strings (3) that are not there.
+#[inline(always)]
+fn check_strings(own: &[u8]) -> Result<(), Refusal>
+    ensures value { result ≡ (if ltb (length own.now) 30 then Err (Refusal.TooShort 30 (length own.now)) else strings_there (33 + le2 own.now 24 + le2 own.now 26 + le2 own.now 28) (length own.now)) }
+    ensures there { OnOk result (33 + le2 own.now 24 + le2 own.now 26 + le2 own.now 28 ≤ length own.now) }
+{
+    let length = own.len();
+    if length < 30 {
+        return Err(Refusal::TooShort {
+            needed: 30,
+            present: length,
+        });
+    }
+    let name = le::u16_at(own, 24) as usize;
+    let type_name = le::u16_at(own, 26) as usize;
+    let comment = le::u16_at(own, 28) as usize;
+    layout::check_strings(33 + name + type_name + comment, length)
+}
+
 fn has_refactor_infos(extended: Option<AdsSymbol2Flags>) -> bool
     ensures { result ≡ has (extended_word extended) refactor_info_flag }
 {
@@ -196,18 +216,10 @@ impl<'a> Entry<'a> for AdsSymbolInfo<'a> {
     #[tactic(auto, using(crate::proofs::Within::within), unfolding(crate::specs::Symbol::symbol_of, crate::specs::Symbol::ended_symbol))]
     #[inline(always)]
     fn read(own: &'a [u8], mode: Mode) -> Result<Self, Refusal> {
-        let length = own.len();
-        if length < 30 {
-            return Err(Refusal::TooShort {
-                needed: 30,
-                present: length,
-            });
-        }
+        check_strings(own)?;
         let name = le::u16_at(own, 24) as usize;
         let type_name = le::u16_at(own, 26) as usize;
         let comment = le::u16_at(own, 28) as usize;
-        let needed = 33 + name + type_name + comment;
-        layout::check_strings(needed, length)?;
         let symbol = with_strings(own, name, type_name, comment);
         if mode == Mode::Checked {
             check_ends(own, &symbol)?;
@@ -225,17 +237,7 @@ impl<'a> Accepts<'a> for AdsSymbolInfo<'a> {
             AdsSymbolInfo::read(own, mode)?;
             return Ok(());
         }
-        let length = own.len();
-        if length < 30 {
-            return Err(Refusal::TooShort {
-                needed: 30,
-                present: length,
-            });
-        }
-        let name = le::u16_at(own, 24) as usize;
-        let type_name = le::u16_at(own, 26) as usize;
-        let comment = le::u16_at(own, 28) as usize;
-        layout::check_strings(33 + name + type_name + comment, length)
+        check_strings(own)
     }
 }
 
