@@ -1,8 +1,6 @@
 //! What entries of fields and of data types begin with: the header's numbers and the strings.
 ghost use Rattle.std.specs.Prelude.{◌≡◌, ◌+◌, ◌≤◌, length};
-ghost use Rattle.refusal.specs.EndBytes.{ended, in_mode};
-ghost use Rattle.layout.specs.Layout.{string_ends};
-ghost use Rattle.field.specs.Front.{with_strings, front_of};
+ghost use Rattle.field.specs.Front.{strings_ended, with_strings, front_of};
 
 use flags::type_flags::AdsTypeFlags;
 use refusal::{Mode, Refusal};
@@ -78,7 +76,7 @@ fn check_ends(
     mode: Mode,
 ) -> Result<(), Refusal>
     requires { 45 + name + type_name + comment ≤ length own.now }
-    ensures { result ≡ in_mode mode (ended (string_ends own.now 42 name type_name comment)) }
+    ensures { result ≡ strings_ended mode own.now name type_name comment }
 {
     if mode == Mode::Present {
         return Ok(());
