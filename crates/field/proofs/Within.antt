@@ -100,7 +100,7 @@ front_is mode e f h = by_header (ltb (length e.now) 42) refl h
         → HasStrings e × (front_by_header e ≡ f)
     by_strings n true c h = cc
     by_strings n false c h =
-        let p = both_passed (strings_ended mode e.now (le2 e.now 32) (le2 e.now 34) (le2 e.now 36)) h in
+        let p = both_passed (strings_ended mode e.now (le2 e.now 32) (le2 e.now 34) (le2 e.now 36)) {next = λ _. Ok (front_by_header e)} h in
         (record { header = n; strings = ltb-false (length e.now) (45 + le2 e.now 32 + le2 e.now 34 + le2 e.now 36) c }, cc p.1.1)
 
     by_header : (b : Bool) → ltb (length e.now) 42 ≡ b

@@ -2,6 +2,7 @@
 ghost use Rattle.std.specs.Prelude.{◌≡◌, ◌+◌, ◌≤◌, length};
 ghost use Rattle.field.specs.Front.{strings_ended, with_strings, front_of};
 
+use crate::AdsFieldInfo;
 use flags::type_flags::AdsTypeFlags;
 use refusal::{Mode, Refusal};
 
@@ -96,15 +97,15 @@ impl<'a> Front<'a> {
         ensures { result ≡ front_of mode own.entry }
     {
         let length = own.len();
-        if length < 42 {
+        if length < AdsFieldInfo::MIN_LENGTH {
             return Err(Refusal::TooShort {
-                needed: 42,
+                needed: AdsFieldInfo::MIN_LENGTH,
                 present: length,
             });
         }
-        let name = le::u16_at(own, 32) as usize;
-        let type_name = le::u16_at(own, 34) as usize;
-        let comment = le::u16_at(own, 36) as usize;
+        let name = le::u16_at(own, AdsFieldInfo::NAME_LENGTH_AT) as usize;
+        let type_name = le::u16_at(own, AdsFieldInfo::TYPE_NAME_LENGTH_AT) as usize;
+        let comment = le::u16_at(own, AdsFieldInfo::COMMENT_LENGTH_AT) as usize;
         let needed = 45 + name + type_name + comment;
         layout::check_strings(needed, length)?;
         check_ends(own, name, type_name, comment, mode)?;

@@ -56,8 +56,14 @@ pub struct AdsSymbolInfo<'a> {
 }
 
 impl AdsSymbolInfo<'_> {
-    /// The bytes of a header: no entry has fewer.
+    /// The bytes of a header: no entry has fewer. The name stands behind it.
     pub const MIN_LENGTH: usize = 30;
+    /// Where the name's length stands in the header.
+    pub const NAME_LENGTH_AT: usize = 24;
+    /// Where the length of the type's name stands in it.
+    pub const TYPE_NAME_LENGTH_AT: usize = 26;
+    /// Where the comment's length stands in it.
+    pub const COMMENT_LENGTH_AT: usize = 28;
 }
 
 #[inline(always)]
@@ -120,7 +126,7 @@ fn with_strings(own: &[u8], name: usize, type_name: usize, comment: usize) -> Ad
         data_type_id: le::u32_at(own, 16),
         flags,
         high: le::u16_at(own, 22),
-        name: part::part_of(own, 30, name),
+        name: part::part_of(own, AdsSymbolInfo::MIN_LENGTH, name),
         type_name: part::part_of(own, 31 + name, type_name),
         comment: part::part_of(own, 32 + name + type_name, comment),
         guid,
@@ -138,15 +144,15 @@ fn check_strings(own: &[u8]) -> Result<(), Refusal>
     ensures there { OnOk result (33 + le2 own.now 24 + le2 own.now 26 + le2 own.now 28 ≤ length own.now) }
 {
     let length = own.len();
-    if length < 30 {
+    if length < AdsSymbolInfo::MIN_LENGTH {
         return Err(Refusal::TooShort {
-            needed: 30,
+            needed: AdsSymbolInfo::MIN_LENGTH,
             present: length,
         });
     }
-    let name = le::u16_at(own, 24) as usize;
-    let type_name = le::u16_at(own, 26) as usize;
-    let comment = le::u16_at(own, 28) as usize;
+    let name = le::u16_at(own, AdsSymbolInfo::NAME_LENGTH_AT) as usize;
+    let type_name = le::u16_at(own, AdsSymbolInfo::TYPE_NAME_LENGTH_AT) as usize;
+    let comment = le::u16_at(own, AdsSymbolInfo::COMMENT_LENGTH_AT) as usize;
     layout::check_strings(33 + name + type_name + comment, length)
 }
 
@@ -180,7 +186,7 @@ fn check_ends(own: &[u8], symbol: &AdsSymbolInfo<'_>) -> Result<(), Refusal>
 {
     layout::check_string_ends(
         own,
-        30,
+        AdsSymbolInfo::MIN_LENGTH,
         symbol.name.len(),
         symbol.type_name.len(),
         symbol.comment.len(),
@@ -217,9 +223,9 @@ impl<'a> Entry<'a> for AdsSymbolInfo<'a> {
     #[inline(always)]
     fn read(own: &'a [u8], mode: Mode) -> Result<Self, Refusal> {
         check_strings(own)?;
-        let name = le::u16_at(own, 24) as usize;
-        let type_name = le::u16_at(own, 26) as usize;
-        let comment = le::u16_at(own, 28) as usize;
+        let name = le::u16_at(own, AdsSymbolInfo::NAME_LENGTH_AT) as usize;
+        let type_name = le::u16_at(own, AdsSymbolInfo::TYPE_NAME_LENGTH_AT) as usize;
+        let comment = le::u16_at(own, AdsSymbolInfo::COMMENT_LENGTH_AT) as usize;
         let symbol = with_strings(own, name, type_name, comment);
         if mode == Mode::Checked {
             check_ends(own, &symbol)?;
