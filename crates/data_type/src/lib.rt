@@ -60,7 +60,7 @@ impl<'a> Entry<'a> for AdsDataTypeInfo<'a> {
     fn header() -> usize
         ensures { result ≡ 42 }
     {
-        42
+        AdsFieldInfo::MIN_LENGTH
     }
 
     #[inline(always)]

@@ -33,8 +33,11 @@ pub(crate) fn taken(bytes: &[u8]) -> Result<(&[u8], &[u8]), Refusal>
             available: left,
         });
     }
-    if claim < 42 {
-        return Err(Refusal::ClaimBelowHeader { header: 42, claim });
+    if claim < AdsFieldInfo::MIN_LENGTH {
+        return Err(Refusal::ClaimBelowHeader {
+            header: AdsFieldInfo::MIN_LENGTH,
+            claim,
+        });
     }
     Ok((&bytes[..claim], &bytes[claim..]))
 }

@@ -16,8 +16,8 @@ use Rattle.attribute.proofs.Anywhere.{moved, on, Moved, attributes_at, count_mov
 use Rattle.field.specs.declared.front.Front.{Front}
 use Rattle.field.specs.declared.tail.Tail.{Tail}
 use Rattle.field.specs.Skip.{ahead, after_items}
-use Rattle.field.specs.Front.{with_strings, front_of}
-use Rattle.layout.specs.Layout.{guid_of, string_ends}
+use Rattle.field.specs.Front.{strings_ended, with_strings, front_of}
+use Rattle.layout.specs.Layout.{guid_of}
 use Rattle.field.specs.Tail.{type_guid_flag, copy_mask_flag, method_infos_flag, attributes_flag, after_mask, after_methods, attributes_of, complete, tail_of}
 use Rattle.field.specs.Field.{joined, behind_items, field_of}
 use Rattle.field.specs.Told.{told_of, FieldsAnywhere}
@@ -102,7 +102,7 @@ front_moved mode m e =
     let n : ℕ = le2 e.now 32 in
     let t : ℕ = le2 e.now 34 in
     let k : ℕ = le2 e.now 36 in
-    fronts_by m e n t k (ltb (length e.now) 42) (ltb (length e.now) (45 + n + t + k)) (TooShort 42 (length e.now)) (EntryLengthMismatch (45 + n + t + k) (length e.now)) (in_mode mode (ended (string_ends e.now 42 n t k)))
+    fronts_by m e n t k (ltb (length e.now) 42) (ltb (length e.now) (45 + n + t + k)) (TooShort 42 (length e.now)) (EntryLengthMismatch (45 + n + t + k) (length e.now)) (strings_ended mode e.now n t k)
 
 -- a field
 field_by : (mode : Mode) (m : ℕ × ℕ) (e : Bor (List ℕ)) (n t k : ℕ)

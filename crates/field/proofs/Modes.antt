@@ -79,15 +79,15 @@ module _ (e : Bor (List ℕ)) (h : HasStrings e) where
       (three_there (end_at (42 + le2 e.now 32)) (end_at (42 + le2 e.now 32 + 1 + le2 e.now 34)) (end_at (42 + le2 e.now 32 + 1 + le2 e.now 34 + 1 + le2 e.now 36)) name type comment) behind
 
   -- the two tests are that of all end bytes that are met
-  tests_are : and_then (strings_tested e) (λ _. attributes_tested e) ≡ ended met
+  tests_are : and_then (strings_tested e Checked) (λ _. attributes_tested e) ≡ ended met
   unfolding with_strings
   tests_are =
-      ap (λ (l : List (ℕ × ℕ)). and_then (strings_tested e) (λ _. ended l)) (ends_behind e r.attributes.bytes r.attributes.count (list_is e h).place ∙ sym (ap (bytes_behind e) attributes_are))
+      ap (λ (l : List (ℕ × ℕ)). and_then (strings_tested e Checked) (λ _. ended l)) (ends_behind e r.attributes.bytes r.attributes.count (list_is e h).place ∙ sym (ap (bytes_behind e) attributes_are))
       ∙ sym (ended_both (string_bytes e.now) (bytes_behind e (attributes_met e)))
 
   checked_there : field_of Checked e ≡ and_then (ended met) (λ _. field_of Present e)
   checked_there =
-      read_is e Checked h ∙ either (strings_tested e) (attributes_tested e) (and_then (list_whole e) (λ _. Ok r))
+      read_is e Checked h ∙ either (strings_tested e Checked) (attributes_tested e) (and_then (list_whole e) (λ _. Ok r))
       ∙ ap₂ (λ (x : Result Unit Refusal) (y : Result AdsFieldInfo Refusal). and_then x (λ _. y)) tests_are (sym (read_is e Present h))
 
 module _ (e : Bor (List ℕ)) where

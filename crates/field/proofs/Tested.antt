@@ -8,8 +8,8 @@ use Rattle.refusal.specs.declared.Mode.{Mode}
 use Rattle.refusal.specs.declared.Refusal.{Refusal}
 use Rattle.field.specs.declared.AdsFieldInfo.{AdsFieldInfo}
 use Rattle.field.specs.declared.front.Front.{Front}
-use Rattle.field.specs.Front.{front_of, front_by_header, HasStrings}
-use Rattle.layout.specs.Layout.{guid_of, string_ends}
+use Rattle.field.specs.Front.{strings_ended, front_of, front_by_header, HasStrings}
+use Rattle.layout.specs.Layout.{guid_of}
 use Rattle.field.specs.Tail.{type_guid_flag, sections_of, complete, attribute_ends, tail_of}
 use Rattle.field.specs.Field.{joined, behind_items, field_of}
 use Rattle.field.proofs.Within.{tail_at, record_is}
@@ -36,8 +36,8 @@ module _ (e : Bor (List ℕ)) where
   abbrev f : Front
   f = front_by_header e
 
-  abbrev pub strings_tested : Result Unit Refusal
-  strings_tested = ended (string_ends e.now 42 n t k)
+  abbrev pub strings_tested : Mode → Result Unit Refusal
+  strings_tested mode = strings_ended mode e.now n t k
 
   abbrev pub attributes_tested : Result Unit Refusal
   attributes_tested = ended (attribute_ends f.length (tail_at f (behind_items f)).attributes)
@@ -45,9 +45,9 @@ module _ (e : Bor (List ℕ)) where
   abbrev pub list_whole : Result Unit Refusal
   list_whole = complete (sections_of f (guid_of (behind_items f) (has f.flags.0 type_guid_flag)).1).1
 
-  pub read_is : (mode : Mode) → (h : HasStrings e) → field_of mode e ≡ and_then (in_mode mode strings_tested) (λ _. and_then (in_mode mode attributes_tested) (λ _. and_then list_whole (λ _. Ok (record_is e h))))
+  pub read_is : (mode : Mode) → (h : HasStrings e) → field_of mode e ≡ and_then (strings_tested mode) (λ _. and_then (in_mode mode attributes_tested) (λ _. and_then list_whole (λ _. Ok (record_is e h))))
   unfolding field_of front_of tail_of
   read_is mode h =
       simp (le-ltb (length e.now) 42 h.header, le-ltb (length e.now) (45 + n + t + k) h.strings)
-      (front_then (in_mode mode strings_tested) f (λ x. and_then (tail_of mode x (behind_items x)) (λ y. Ok (joined x y)))
-      ∙ ap (λ (r : Result AdsFieldInfo Refusal). and_then (in_mode mode strings_tested) (λ _. r)) (tail_then (in_mode mode attributes_tested) list_whole (tail_at f (behind_items f)) (λ y. joined f y)))
+      (front_then (strings_tested mode) f (λ x. and_then (tail_of mode x (behind_items x)) (λ y. Ok (joined x y)))
+      ∙ ap (λ (r : Result AdsFieldInfo Refusal). and_then (strings_tested mode) (λ _. r)) (tail_then (in_mode mode attributes_tested) list_whole (tail_at f (behind_items f)) (λ y. joined f y)))

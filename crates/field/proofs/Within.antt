@@ -19,8 +19,8 @@ use Rattle.field.specs.declared.AdsFieldInfo.{AdsFieldInfo}
 use Rattle.field.specs.declared.front.Front.{Front}
 use Rattle.field.specs.declared.tail.Tail.{Tail}
 use Rattle.field.specs.Skip.{ahead, after_items}
-use Rattle.field.specs.Front.{with_strings, front_of, front_by_header, HasStrings}
-use Rattle.layout.specs.Layout.{string_ends, guid_of}
+use Rattle.field.specs.Front.{strings_ended, with_strings, front_of, front_by_header, HasStrings}
+use Rattle.layout.specs.Layout.{guid_of}
 use Rattle.layout.proofs.Guid.{end_guid}
 use Rattle.field.specs.Tail.{type_guid_flag, copy_mask_flag, method_infos_flag, attributes_flag, after_mask, after_methods, attributes_of, sections_of, complete, attribute_ends, tail_of}
 use Rattle.field.specs.Field.{joined, behind_items, field_of}
@@ -96,17 +96,17 @@ front_is mode e f h = by_header (ltb (length e.now) 42) refl h
   where
     by_strings : 42 ≤ length e.now → (b : Bool) → ltb (length e.now) (45 + le2 e.now 32 + le2 e.now 34 + le2 e.now 36) ≡ b
         → (if b then Err (EntryLengthMismatch (45 + le2 e.now 32 + le2 e.now 34 + le2 e.now 36) (length e.now))
-        else and_then (in_mode mode (ended (string_ends e.now 42 (le2 e.now 32) (le2 e.now 34) (le2 e.now 36)))) (λ _. Ok (front_by_header e))) ≡ Ok f
+        else and_then (strings_ended mode e.now (le2 e.now 32) (le2 e.now 34) (le2 e.now 36)) (λ _. Ok (front_by_header e))) ≡ Ok f
         → HasStrings e × (front_by_header e ≡ f)
     by_strings n true c h = cc
     by_strings n false c h =
-        let p = both_passed (in_mode mode (ended (string_ends e.now 42 (le2 e.now 32) (le2 e.now 34) (le2 e.now 36)))) h in
+        let p = both_passed (strings_ended mode e.now (le2 e.now 32) (le2 e.now 34) (le2 e.now 36)) {next = λ _. Ok (front_by_header e)} h in
         (record { header = n; strings = ltb-false (length e.now) (45 + le2 e.now 32 + le2 e.now 34 + le2 e.now 36) c }, cc p.1.1)
 
     by_header : (b : Bool) → ltb (length e.now) 42 ≡ b
         → (if b then Err (TooShort 42 (length e.now))
         else if ltb (length e.now) (45 + le2 e.now 32 + le2 e.now 34 + le2 e.now 36) then Err (EntryLengthMismatch (45 + le2 e.now 32 + le2 e.now 34 + le2 e.now 36) (length e.now))
-        else and_then (in_mode mode (ended (string_ends e.now 42 (le2 e.now 32) (le2 e.now 34) (le2 e.now 36)))) (λ _. Ok (front_by_header e))) ≡ Ok f
+        else and_then (strings_ended mode e.now (le2 e.now 32) (le2 e.now 34) (le2 e.now 36)) (λ _. Ok (front_by_header e))) ≡ Ok f
         → HasStrings e × (front_by_header e ≡ f)
     by_header true c h = cc
     by_header false c h = by_strings (ltb-false (length e.now) 42 c) (ltb (length e.now) (45 + le2 e.now 32 + le2 e.now 34 + le2 e.now 36)) refl h

@@ -40,6 +40,10 @@ pub record HasStrings (e : Bor (List ℕ)) : Type 0 where
   pub header : 42 ≤ length e.now
   pub strings : 45 + le2 e.now 32 + le2 e.now 34 + le2 e.now 36 ≤ length e.now
 
+-- in a mode, the end bytes of strings of these lengths
+abbrev pub strings_ended : Mode → List ℕ → ℕ → ℕ → ℕ → Result Unit Refusal
+strings_ended mode s n t k = in_mode mode (ended (string_ends s 42 n t k))
+
 -- of an entry's own bytes, in a mode: 2 for a header that is not there, 3 for strings that are not, then 16
 unfoldable pub front_of : Mode → Bor (List ℕ) → Result Front Refusal
 front_of mode e =
@@ -48,4 +52,4 @@ front_of mode e =
     let k : ℕ = le2 e.now 36 in
     if ltb (length e.now) 42 then Err (TooShort 42 (length e.now))
     else if ltb (length e.now) (45 + n + t + k) then Err (EntryLengthMismatch (45 + n + t + k) (length e.now))
-    else and_then (in_mode mode (ended (string_ends e.now 42 n t k))) (λ _. Ok (with_strings e n t k))
+    else and_then (strings_ended mode e.now n t k) (λ _. Ok (with_strings e n t k))

@@ -1,9 +1,8 @@
 //! What entries of fields and of data types begin with: the header's numbers and the strings.
 ghost use Rattle.std.specs.Prelude.{◌≡◌, ◌+◌, ◌≤◌, length};
-ghost use Rattle.refusal.specs.EndBytes.{ended, in_mode};
-ghost use Rattle.layout.specs.Layout.{string_ends};
-ghost use Rattle.field.specs.Front.{with_strings, front_of};
+ghost use Rattle.field.specs.Front.{strings_ended, with_strings, front_of};
 
+use crate::AdsFieldInfo;
 use flags::type_flags::AdsTypeFlags;
 use refusal::{Mode, Refusal};
 
@@ -78,7 +77,7 @@ fn check_ends(
     mode: Mode,
 ) -> Result<(), Refusal>
     requires { 45 + name + type_name + comment ≤ length own.now }
-    ensures { result ≡ in_mode mode (ended (string_ends own.now 42 name type_name comment)) }
+    ensures { result ≡ strings_ended mode own.now name type_name comment }
 {
     if mode == Mode::Present {
         return Ok(());
@@ -98,15 +97,15 @@ impl<'a> Front<'a> {
         ensures { result ≡ front_of mode own.entry }
     {
         let length = own.len();
-        if length < 42 {
+        if length < AdsFieldInfo::MIN_LENGTH {
             return Err(Refusal::TooShort {
-                needed: 42,
+                needed: AdsFieldInfo::MIN_LENGTH,
                 present: length,
             });
         }
-        let name = le::u16_at(own, 32) as usize;
-        let type_name = le::u16_at(own, 34) as usize;
-        let comment = le::u16_at(own, 36) as usize;
+        let name = le::u16_at(own, AdsFieldInfo::NAME_LENGTH_AT) as usize;
+        let type_name = le::u16_at(own, AdsFieldInfo::TYPE_NAME_LENGTH_AT) as usize;
+        let comment = le::u16_at(own, AdsFieldInfo::COMMENT_LENGTH_AT) as usize;
         let needed = 45 + name + type_name + comment;
         layout::check_strings(needed, length)?;
         check_ends(own, name, type_name, comment, mode)?;

@@ -54,8 +54,14 @@ pub struct AdsFieldInfo<'a> {
 }
 
 impl<'a> AdsFieldInfo<'a> {
-    /// The length of the header.
+    /// The length of the header. The name stands behind it.
     pub const MIN_LENGTH: usize = 42;
+    /// Where the name's length stands in the header.
+    pub const NAME_LENGTH_AT: usize = 32;
+    /// Where the length of the type's name stands in it.
+    pub const TYPE_NAME_LENGTH_AT: usize = 34;
+    /// Where the comment's length stands in it.
+    pub const COMMENT_LENGTH_AT: usize = 36;
 
     /// The record of an entry with this front and this tail.
     #[inline(always)]

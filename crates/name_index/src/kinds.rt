@@ -19,8 +19,8 @@ impl<'a> Named<'a> for AdsSymbolInfo<'a> {
         ensures { result ≡ symbol_places }
     {
         NamePlaces {
-            length: 24,
-            name: 30,
+            length: AdsSymbolInfo::NAME_LENGTH_AT,
+            name: AdsSymbolInfo::MIN_LENGTH,
         }
     }
 
@@ -36,8 +36,8 @@ impl<'a> Named<'a> for AdsFieldInfo<'a> {
         ensures { result ≡ field_places }
     {
         NamePlaces {
-            length: 32,
-            name: 42,
+            length: AdsFieldInfo::NAME_LENGTH_AT,
+            name: AdsFieldInfo::MIN_LENGTH,
         }
     }
 
@@ -53,8 +53,8 @@ impl<'a> Named<'a> for AdsDataTypeInfo<'a> {
         ensures { result ≡ field_places }
     {
         NamePlaces {
-            length: 32,
-            name: 42,
+            length: AdsFieldInfo::NAME_LENGTH_AT,
+            name: AdsFieldInfo::MIN_LENGTH,
         }
     }
 

@@ -3,16 +3,16 @@ use Rattle.std.proofs.Common.{◌≡◌, ℕ, zero, suc, ◌+◌, ◌-◌, ◌�
 use Rattle.std.specs.Prelude.{Some}
 use Rattle.std.specs.Iterator.{Yields}
 use Rattle.part.specs.Slice.{part, after}
+use Rattle.part.specs.End.{IsEnd}
 use Rattle.part.specs.Outcome.{outcome}
-use Rattle.part.proofs.Slice.{length_part}
+use Rattle.part.proofs.Slice.{length_part, is_end, end_self, end_again, end_memory}
 use Rattle.refusal.specs.declared.Refusal.{Refusal}
 use Rattle.attribute.specs.declared.AdsAttribute.{AdsAttribute}
 use Rattle.attribute.specs.declared.Attributes.{Attributes}
 use Rattle.attribute.specs.Attribute.{first_of, listed, NextGives}
 use Rattle.attribute.proofs.Again.{n_of, v_of, here, fits, is_here}
 use Rattle.attribute.proofs.Left.{goes_on}
-use Rattle.places.specs.Places.{IsEndInMemory, IsAttributeBefore}
-use Rattle.places.proofs.Ends.{end_self, end_again}
+use Rattle.places.specs.Places.{IsAttributeBefore}
 
 -- the attribute at the start of some bytes, and what is behind it
 pub record Stands (s : Bor (List ℕ)) (p : AdsAttribute × Bor (List ℕ)) : Type 0 where
@@ -34,8 +34,7 @@ first_before s p h =
     let n : p.0.name.ref_ptr.1 ≡ s.ref_ptr.1 + 2 = ap (λ (t : Bor (List ℕ)). t.ref_ptr.1) i.name in
     let v : p.0.value.ref_ptr.1 ≡ s.ref_ptr.1 + (length p.0.name.now + 3) = ap (λ (t : Bor (List ℕ)). t.ref_ptr.1) i.value in
     let r : p.1.ref_ptr.1 ≡ s.ref_ptr.1 + (length p.0.name.now + length p.0.value.now + 4) = ap (λ (t : Bor (List ℕ)). t.ref_ptr.1) i.rest in
-    let l : length p.1.now ≡ length s.now - (length p.0.name.now + length p.0.value.now + 4) = ap (λ (t : Bor (List ℕ)). length t.now) i.rest ∙ length-drop (length p.0.name.now + length p.0.value.now + 4) s.now in
-    record { end = record { memory = omega (arith, i.room); within = omega arith }; start = omega arith; name = omega arith; value = omega arith }
+    record { end = is_end s p.1 (length p.0.name.now + length p.0.value.now + 4) i.room i.rest; start = omega arith; name = omega arith; value = omega arith }
 
 -- what an iterator gives stands at the start of its bytes, and those behind it are left
 given : (s : Bor (List ℕ)) (n : ℕ) (a : AdsAttribute) (t : Attributes) → NextGives (record { bytes = s; count = n }) (Some a) t → first_of s ≡ Ok (a, t.bytes)
@@ -54,13 +53,13 @@ pub next_before : (s t : Attributes) (a : AdsAttribute) → NextGives s (Some a)
 next_before s t a g = first_before s.bytes (a, t.bytes) (given s.bytes s.count a t g)
 
 -- what is left after some were given is an end of what there was
-rest_ends : (xs : List AdsAttribute) (s t : Attributes) → Yields NextGives s xs t → IsEndInMemory s.bytes t.bytes
-rest_ends [] s t y = subst (λ (x : Attributes). IsEndInMemory s.bytes x.bytes) y (end_self s.bytes)
+rest_ends : (xs : List AdsAttribute) (s t : Attributes) → Yields NextGives s xs t → IsEnd s.bytes t.bytes
+rest_ends [] s t y = subst (λ (x : Attributes). IsEnd s.bytes x.bytes) y (end_self s.bytes)
 rest_ends (x ∷ xs) s t y = end_again (next_before s y.0 x y.1).end (rest_ends xs y.0 t y.2)
 
 -- so is the attribute that is given then before what is left after it, of an entry that ends with them
-pub given_before : (e : Bor (List ℕ)) (all t u : Attributes) (xs : List AdsAttribute) (a : AdsAttribute) → IsEndInMemory e all.bytes → Yields NextGives all xs t → NextGives t (Some a) u → IsAttributeBefore e a u.bytes
+pub given_before : (e : Bor (List ℕ)) (all t u : Attributes) (xs : List AdsAttribute) (a : AdsAttribute) → IsEnd e all.bytes → Yields NextGives all xs t → NextGives t (Some a) u → IsAttributeBefore e a u.bytes
 given_before e all t u xs a o y g =
     let b = next_before t u a g in
     let i = end_again o (rest_ends xs all t y) in
-    record { end = end_again i b.end; start = omega (arith, b.start, i.memory, i.within); name = b.name; value = b.value }
+    record { end = end_again i b.end; start = omega (arith, b.start, end_memory i, i.within); name = b.name; value = b.value }

@@ -1,4 +1,3 @@
-pub mod Ends
 pub mod Attributes
 pub mod Refactors
 pub mod Direct

@@ -3,16 +3,16 @@ use Rattle.std.proofs.Common.{◌≡◌, ℕ, zero, suc, ◌+◌, ◌-◌, ◌�
 use Rattle.std.specs.Prelude.{Some}
 use Rattle.std.specs.Iterator.{Yields}
 use Rattle.part.specs.Slice.{part, after}
+use Rattle.part.specs.End.{IsEnd}
 use Rattle.part.specs.Outcome.{outcome}
-use Rattle.part.proofs.Slice.{length_part}
+use Rattle.part.proofs.Slice.{length_part, is_end, end_self, end_again, end_memory}
 use Rattle.refusal.specs.declared.Refusal.{Refusal}
 use Rattle.le.specs.Le.{le2}
 use Rattle.refactor.specs.declared.AdsRefactorInfo.{AdsRefactorInfo}
 use Rattle.refactor.specs.declared.RefactorInfos.{RefactorInfos}
 use Rattle.refactor.specs.Refactor.{first_of, sized, listed, NextGives}
 use Rattle.refactor.proofs.Left.{goes_on}
-use Rattle.places.specs.Places.{IsEndInMemory, IsRefactorBefore}
-use Rattle.places.proofs.Ends.{end_self, end_again}
+use Rattle.places.specs.Places.{IsRefactorBefore}
 
 -- the record at the start of some bytes, and what is behind it
 pub record Stands (s : Bor (List ℕ)) (p : AdsRefactorInfo × Bor (List ℕ)) : Type 0 where
@@ -37,8 +37,7 @@ first_before s p h =
     let i = stands s p h in
     let n : p.0.name.ref_ptr.1 ≡ s.ref_ptr.1 + 6 = ap (λ (t : Bor (List ℕ)). t.ref_ptr.1) i.name in
     let r : p.1.ref_ptr.1 ≡ s.ref_ptr.1 + (length p.0.name.now + 7) = ap (λ (t : Bor (List ℕ)). t.ref_ptr.1) i.rest in
-    let l : length p.1.now ≡ length s.now - (length p.0.name.now + 7) = ap (λ (t : Bor (List ℕ)). length t.now) i.rest ∙ length-drop (length p.0.name.now + 7) s.now in
-    record { end = record { memory = omega (arith, i.room); within = omega arith }; start = omega arith; name = omega arith }
+    record { end = is_end s p.1 (length p.0.name.now + 7) i.room i.rest; start = omega arith; name = omega arith }
 
 -- what an iterator gives stands at the start of its bytes, and those behind it are left
 given : (s : Bor (List ℕ)) (n : ℕ) (r : AdsRefactorInfo) (t : RefactorInfos) → NextGives (record { bytes = s; count = n }) (Some r) t → first_of s ≡ Ok (r, t.bytes)
@@ -57,13 +56,13 @@ pub next_before : (s t : RefactorInfos) (r : AdsRefactorInfo) → NextGives s (S
 next_before s t r g = first_before s.bytes (r, t.bytes) (given s.bytes s.count r t g)
 
 -- what is left after some were given is an end of what there was
-rest_ends : (xs : List AdsRefactorInfo) (s t : RefactorInfos) → Yields NextGives s xs t → IsEndInMemory s.bytes t.bytes
-rest_ends [] s t y = subst (λ (x : RefactorInfos). IsEndInMemory s.bytes x.bytes) y (end_self s.bytes)
+rest_ends : (xs : List AdsRefactorInfo) (s t : RefactorInfos) → Yields NextGives s xs t → IsEnd s.bytes t.bytes
+rest_ends [] s t y = subst (λ (x : RefactorInfos). IsEnd s.bytes x.bytes) y (end_self s.bytes)
 rest_ends (x ∷ xs) s t y = end_again (next_before s y.0 x y.1).end (rest_ends xs y.0 t y.2)
 
 -- so is the record that is given then before what is left after it, of an entry that ends with them
-pub given_before : (e : Bor (List ℕ)) (all t u : RefactorInfos) (xs : List AdsRefactorInfo) (r : AdsRefactorInfo) → IsEndInMemory e all.bytes → Yields NextGives all xs t → NextGives t (Some r) u → IsRefactorBefore e r u.bytes
+pub given_before : (e : Bor (List ℕ)) (all t u : RefactorInfos) (xs : List AdsRefactorInfo) (r : AdsRefactorInfo) → IsEnd e all.bytes → Yields NextGives all xs t → NextGives t (Some r) u → IsRefactorBefore e r u.bytes
 given_before e all t u xs r o y g =
     let b = next_before t u r g in
     let i = end_again o (rest_ends xs all t y) in
-    record { end = end_again i b.end; start = omega (arith, b.start, i.memory, i.within); name = b.name }
+    record { end = end_again i b.end; start = omega (arith, b.start, end_memory i, i.within); name = b.name }

@@ -1,6 +1,7 @@
 -- docs/FORMAT.md, "Numbers": where in some bytes a record of them stands: a place and a length for each of its strings, and the place after it.
 use Rattle.std.specs.Prelude.{ℕ, ◌+◌, ◌-◌, ◌≤◌, ◌≡◌, List, Result, length}
 use Rattle.std.specs.Borrow.{Bor}
+use Rattle.part.specs.End.{IsEnd}
 use Rattle.refusal.specs.declared.Refusal.{Refusal}
 use Rattle.attribute.specs.declared.AdsAttribute.{AdsAttribute}
 use Rattle.attribute.specs.declared.Attributes.{Attributes}
@@ -16,21 +17,16 @@ use Rattle.places.specs.declared.RefactorPlaces.{RefactorPlaces}
 abbrev pub place_in : Bor (List ℕ) → Bor (List ℕ) → ℕ
 place_in e s = s.ref_ptr.1 - e.ref_ptr.1
 
--- these bytes end in memory where those end
-pub record IsEndInMemory (e s : Bor (List ℕ)) : Type 0 where
-  pub memory : s.ref_ptr.1 + length s.now ≡ e.ref_ptr.1 + length e.now
-  pub within : length s.now ≤ length e.now
-
 -- an attribute of these bytes, behind which the others begin: behind its two lengths stand its strings, each with its end byte
 pub record IsAttributeBefore (e : Bor (List ℕ)) (a : AdsAttribute) (rest : Bor (List ℕ)) : Type 0 where
-  pub end : IsEndInMemory e rest
+  pub end : IsEnd e rest
   pub start : e.ref_ptr.1 + 2 ≤ a.name.ref_ptr.1
   pub name : a.name.ref_ptr.1 + length a.name.now + 1 ≡ a.value.ref_ptr.1
   pub value : a.value.ref_ptr.1 + length a.value.now + 1 ≡ rest.ref_ptr.1
 
 -- a refactor record likewise, with 6 bytes before its name
 pub record IsRefactorBefore (e : Bor (List ℕ)) (r : AdsRefactorInfo) (rest : Bor (List ℕ)) : Type 0 where
-  pub end : IsEndInMemory e rest
+  pub end : IsEnd e rest
   pub start : e.ref_ptr.1 + 6 ≤ r.name.ref_ptr.1
   pub name : r.name.ref_ptr.1 + length r.name.now + 1 ≡ rest.ref_ptr.1
 

@@ -6,7 +6,8 @@ pub mod of_entry;
 pub mod theorems;
 
 ghost use Rattle.std.specs.Prelude.{◌≡◌};
-ghost use Rattle.places.specs.Places.{IsEndInMemory, IsAttributeBefore, IsRefactorBefore, attribute_places, refactor_places, attribute_numbered, attribute_named, refactor_numbered};
+ghost use Rattle.part.specs.End.{IsEnd};
+ghost use Rattle.places.specs.Places.{IsAttributeBefore, IsRefactorBefore, attribute_places, refactor_places, attribute_numbered, attribute_named, refactor_numbered};
 
 use attribute::{AdsAttribute, Attributes};
 use refactor::{AdsRefactorInfo, RefactorInfos};
@@ -76,7 +77,7 @@ pub(crate) fn attribute_numbered(
     all: Attributes<'_>,
     number: usize,
 ) -> Result<AttributePlaces, Refusal>
-    requires { IsEndInMemory own all.bytes }
+    requires { IsEnd own all.bytes }
     ensures { result ≡ attribute_numbered own.entry all.entry number }
 {
     let mut rest = all;
@@ -95,7 +96,7 @@ pub(crate) fn attribute_named(
     all: Attributes<'_>,
     name: &[u8],
 ) -> Result<AttributePlaces, Refusal>
-    requires { IsEndInMemory own all.bytes }
+    requires { IsEnd own all.bytes }
     ensures { result ≡ attribute_named own.entry all.entry name.now }
 {
     let mut rest = all;
@@ -111,7 +112,7 @@ pub(crate) fn refactor_numbered(
     all: RefactorInfos<'_>,
     number: usize,
 ) -> Result<RefactorPlaces, Refusal>
-    requires { IsEndInMemory own all.bytes }
+    requires { IsEnd own all.bytes }
     ensures { result ≡ refactor_numbered own.entry all.entry number }
 {
     let mut rest = all;

@@ -3,7 +3,7 @@ ghost use Rattle.std.specs.Prelude.{◌≡◌, List, ℕ, Ok};
 ghost use Rattle.std.specs.Borrow.{Bor};
 ghost use Rattle.refusal.specs.declared.Mode.{Mode};
 ghost use Rattle.attribute.specs.declared.Attributes.{Attributes};
-ghost use Rattle.places.specs.Places.{IsEndInMemory};
+ghost use Rattle.part.specs.End.{IsEnd};
 ghost use Rattle.places.specs.Entry.{entry_attribute, entry_attribute_named, symbol_refactor_info};
 ghost use Rattle.places.specs.Kind.{symbol_attributes_end, field_attributes_end, type_attributes_end};
 
@@ -24,7 +24,7 @@ pub trait Attributed<'a>: Entry<'a> {
     fn shown(&self) -> Attributes<'a>
         ensures { result ≡ shown self.now };
 
-    ghost at_end: { (mode : Mode) (e : Bor (List ℕ)) (r : Self) → Self.read mode e ≡ Ok r → IsEndInMemory e (shown r).bytes };
+    ghost at_end: { (mode : Mode) (e : Bor (List ℕ)) (r : Self) → Self.read mode e ≡ Ok r → IsEnd e (shown r).bytes };
 }
 
 impl<'a> Attributed<'a> for AdsSymbolInfo<'a> {

@@ -1,8 +1,9 @@
 //! AdsSymbolInfo entries of an upload, read whole: what a symbol holds is a part of the bytes that it was read from.
 #![tactic(auto, unfolding(layout::specs::Layout::guid_of, crate::specs::Symbol::attributes_of, crate::specs::Symbol::extended_of, crate::specs::Symbol::refactor_infos_of, le::specs::Le::le2, le::specs::Le::le4))]
 
-ghost use Rattle.std.specs.Prelude.{◌≡◌, ◌+◌, ◌≤◌, length};
-ghost use Rattle.le.specs.Le.{has};
+ghost use Rattle.std.specs.Prelude.{◌≡◌, ◌+◌, ◌≤◌, length, ltb, Err, OnOk, if◌then◌else◌};
+ghost use Rattle.le.specs.Le.{has, le2};
+ghost use Rattle.layout.specs.Layout.{strings_there};
 ghost use Rattle.symbol.specs.Symbol.{type_guid_flag, attributes_flag, extended_flags_flag, refactor_info_flag, attributes_of, extended_of, refactor_infos_of, extended_word, IsWithin, with_strings, refactor_ends, symbol_ended, symbol_of};
 ghost use Rattle.refusal.specs.EndBytes.{ended};
 ghost use Rattle.symbol.specs.Kind.{four, long, room, short, never_zero};
@@ -55,8 +56,14 @@ pub struct AdsSymbolInfo<'a> {
 }
 
 impl AdsSymbolInfo<'_> {
-    /// The bytes of a header: no entry has fewer.
+    /// The bytes of a header: no entry has fewer. The name stands behind it.
     pub const MIN_LENGTH: usize = 30;
+    /// Where the name's length stands in the header.
+    pub const NAME_LENGTH_AT: usize = 24;
+    /// Where the length of the type's name stands in it.
+    pub const TYPE_NAME_LENGTH_AT: usize = 26;
+    /// Where the comment's length stands in it.
+    pub const COMMENT_LENGTH_AT: usize = 28;
 }
 
 #[inline(always)]
@@ -119,7 +126,7 @@ fn with_strings(own: &[u8], name: usize, type_name: usize, comment: usize) -> Ad
         data_type_id: le::u32_at(own, 16),
         flags,
         high: le::u16_at(own, 22),
-        name: part::part_of(own, 30, name),
+        name: part::part_of(own, AdsSymbolInfo::MIN_LENGTH, name),
         type_name: part::part_of(own, 31 + name, type_name),
         comment: part::part_of(own, 32 + name + type_name, comment),
         guid,
@@ -128,6 +135,25 @@ fn with_strings(own: &[u8], name: usize, type_name: usize, comment: usize) -> Ad
         refactor_infos,
         unread,
     }
+}
+
+/// Refuses a header (2) and strings (3) that are not there.
+#[inline(always)]
+fn check_strings(own: &[u8]) -> Result<(), Refusal>
+    ensures value { result ≡ (if ltb (length own.now) 30 then Err (Refusal.TooShort 30 (length own.now)) else strings_there (33 + le2 own.now 24 + le2 own.now 26 + le2 own.now 28) (length own.now)) }
+    ensures there { OnOk result (33 + le2 own.now 24 + le2 own.now 26 + le2 own.now 28 ≤ length own.now) }
+{
+    let length = own.len();
+    if length < AdsSymbolInfo::MIN_LENGTH {
+        return Err(Refusal::TooShort {
+            needed: AdsSymbolInfo::MIN_LENGTH,
+            present: length,
+        });
+    }
+    let name = le::u16_at(own, AdsSymbolInfo::NAME_LENGTH_AT) as usize;
+    let type_name = le::u16_at(own, AdsSymbolInfo::TYPE_NAME_LENGTH_AT) as usize;
+    let comment = le::u16_at(own, AdsSymbolInfo::COMMENT_LENGTH_AT) as usize;
+    layout::check_strings(33 + name + type_name + comment, length)
 }
 
 fn has_refactor_infos(extended: Option<AdsSymbol2Flags>) -> bool
@@ -160,7 +186,7 @@ fn check_ends(own: &[u8], symbol: &AdsSymbolInfo<'_>) -> Result<(), Refusal>
 {
     layout::check_string_ends(
         own,
-        30,
+        AdsSymbolInfo::MIN_LENGTH,
         symbol.name.len(),
         symbol.type_name.len(),
         symbol.comment.len(),
@@ -196,18 +222,10 @@ impl<'a> Entry<'a> for AdsSymbolInfo<'a> {
     #[tactic(auto, using(crate::proofs::Within::within), unfolding(crate::specs::Symbol::symbol_of, crate::specs::Symbol::ended_symbol))]
     #[inline(always)]
     fn read(own: &'a [u8], mode: Mode) -> Result<Self, Refusal> {
-        let length = own.len();
-        if length < 30 {
-            return Err(Refusal::TooShort {
-                needed: 30,
-                present: length,
-            });
-        }
-        let name = le::u16_at(own, 24) as usize;
-        let type_name = le::u16_at(own, 26) as usize;
-        let comment = le::u16_at(own, 28) as usize;
-        let needed = 33 + name + type_name + comment;
-        layout::check_strings(needed, length)?;
+        check_strings(own)?;
+        let name = le::u16_at(own, AdsSymbolInfo::NAME_LENGTH_AT) as usize;
+        let type_name = le::u16_at(own, AdsSymbolInfo::TYPE_NAME_LENGTH_AT) as usize;
+        let comment = le::u16_at(own, AdsSymbolInfo::COMMENT_LENGTH_AT) as usize;
         let symbol = with_strings(own, name, type_name, comment);
         if mode == Mode::Checked {
             check_ends(own, &symbol)?;
@@ -225,17 +243,7 @@ impl<'a> Accepts<'a> for AdsSymbolInfo<'a> {
             AdsSymbolInfo::read(own, mode)?;
             return Ok(());
         }
-        let length = own.len();
-        if length < 30 {
-            return Err(Refusal::TooShort {
-                needed: 30,
-                present: length,
-            });
-        }
-        let name = le::u16_at(own, 24) as usize;
-        let type_name = le::u16_at(own, 26) as usize;
-        let comment = le::u16_at(own, 28) as usize;
-        layout::check_strings(33 + name + type_name + comment, length)
+        check_strings(own)
     }
 }
 

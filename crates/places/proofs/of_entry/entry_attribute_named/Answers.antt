@@ -1,0 +1,5 @@
+use Rattle.std.proofs.Common.{sym, ◌∙◌}
+use Rattle.places.proofs.of_entry.entry_attribute_named.Goals as goal
+
+pub attribute_named-requires : goal.attribute_named-requires
+attribute_named-requires g c = rw c.shown.ensures ((g.met.E.Attributed c.lifetimes (assumption c)).at_end c.args.mode _ c.in_ok-found.found (sym c.read.ensures ∙ c.in_ok-found.was))
