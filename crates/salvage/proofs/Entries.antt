@@ -1,13 +1,12 @@
 -- Accepted entries, wherever they stand: what a step tells of each, and what the walk and a salvage make of nothing but such entries.
 use Rattle.std.proofs.Common.{ℕ, zero, suc, ◌+◌, ◌-◌, ◌<◌, ◌≤◌, ◌≡◌, refl, sym, ap, ◌∙◌, Bool, true, false, List, [], ◌∷◌, ◌++◌, length, arith, Bor, Result, length-append, append_assoc}
-use native.Mathlib.Nat.{suc-add, add-zero}
+use native.Mathlib.Nat.{suc-add}
 use mathlib.Core.List.{append-nil}
 use Rattle.std.specs.Prelude.{Option, Some, None, Ok, Err, is_ok}
 use borrow.Author.Tests.{ne_eqb}
-use Rattle.le.specs.Le.{le4}
 use Rattle.le.specs.Le as le
 use Rattle.le.proofs.Inside.{part_whole}
-use Rattle.le.proofs.Laws.{get_d_part, not_both}
+use Rattle.le.proofs.Laws.{not_both}
 use Rattle.part.specs.Slice.{part}
 use Rattle.part.specs.Outcome.{and_then}
 use Rattle.refusal.specs.Refusal.{limit}
@@ -15,7 +14,7 @@ use Rattle.refusal.specs.declared.Refusal.{Refusal}
 use Rattle.entry.specs.Entry.{claim_at}
 use Rattle.entry.specs.Walk.{stands}
 use Rattle.entry.proofs.Claims.{Meets, meets}
-use Rattle.entry.proofs.Direct.{part_long}
+use Rattle.entry.proofs.Direct.{part_long, own_claim}
 use Rattle.walk.specs.Mapped.{map_ok}
 use Rattle.walk.specs.Step.{step_at}
 use Rattle.walk.specs.Pieces.{piece_at, pieces_from, claim_there}
@@ -25,12 +24,6 @@ use Rattle.regrown.specs.Tells.{tells}
 use Rattle.regrown.proofs.Whole.{Whole, claim_whole}
 use Rattle.regrown.proofs.Walked.{told_from, tells_end, tells_entry}
 use Rattle.salvage.specs.Salvage.{kept, dropped}
-
--- the bytes of an entry are those of its claim, where they hold it
-pub own_claim : (s : List ℕ) (at size : ℕ) → 4 ≤ size → le4 (le.part s at size) 0 ≡ le4 s at
-unfolding le4
-own_claim s at size h =
-    simp (get_d_part s at size 0 0 (omega arith), get_d_part s at size 1 0 (omega arith), get_d_part s at size 2 0 (omega arith), get_d_part s at size 3 0 (omega arith), add-zero)
 
 pub back_of : {R S : Type 0} (told : R → S) (t : Result R Refusal) (x : S) → map_ok told t ≡ Ok x → (r : R) × (t ≡ Ok r) × (told r ≡ x)
 back_of told (Ok r) x h = (r, refl, cc)

@@ -59,7 +59,8 @@ run_few : {R : Type 0} (start end : ℕ) (t : Result R Refusal) → length (run_
 run_few start end (Ok r) = omega arith
 run_few start end (Err why) = omega arith
 
-dropped_few : {R : Type 0} (ps : List (Piece R)) → length (dropped ps) ≤ 3 * length ps
+-- no more slots than three for each piece
+pub dropped_few : {R : Type 0} (ps : List (Piece R)) → length (dropped ps) ≤ 3 * length ps
 unfolding dropped
 dropped_few [] = omega arith
 dropped_few (p ∷ ps) = omega (arith, dropped_few ps, run_few p.start p.end p.answer, length-append (run_of p.start p.end p.answer) (dropped ps))

@@ -29,11 +29,12 @@ use Rattle.index.specs.Index.{starts}
 use Rattle.regrown.specs.Regrown.{Tells, Entry, Refused, lying}
 use Rattle.salvage.specs.declared.Salvaged.{Salvaged}
 use Rattle.salvage.specs.Both.{Writings, answer, wrote, WritesBoth}
-use Rattle.salvage.specs.Salvage.{run_of, kept, dropped, salvaging}
+use Rattle.salvage.specs.Salvage.{kept, dropped, salvaging}
 use Rattle.salvage.specs.Meaning as meaning
 use Rattle.salvage.specs.Meaning.{relaid, told_at, Cover, Salvages, Wrote, Answers, Meant, SalvageMeant}
 use Rattle.salvage.proofs.Promise.{salvage_large, salvage_both}
 use Rattle.salvage.proofs.Entries as entries
+use Rattle.salvage.proofs.Laws.{dropped_few}
 
 -- induction over the pieces of an upload, from the last one on
 module _ {R : Type 0} (read : Bor (List ℕ) → Result R Refusal) (s : Bor (List ℕ)) (P : ℕ → List (Piece R) → Type 0) (end : P (length s.now) [])
@@ -265,16 +266,6 @@ module _ {R S : Type 0} (read : Bor (List ℕ) → Result R Refusal) (length_of 
   cover_all (meaning.run h t r c) e = absurd (no_run _ _ e)
   cover_all (meaning.zero_claim h t x c) e = absurd (no_run _ _ e)
 
--- no more slots than three for each piece
-run_few : {R : Type 0} (start end : ℕ) (t : Result R Refusal) → length (run_of start end t) ≤ 3
-run_few start end (Ok r) = omega arith
-run_few start end (Err why) = omega arith
-
-runs_few : {R : Type 0} (ps : List (Piece R)) → length (dropped ps) ≤ 3 * length ps
-unfolding dropped
-runs_few [] = omega arith
-runs_few (p ∷ ps) = omega (arith, runs_few ps, run_few p.start p.end p.answer, length-append (run_of p.start p.end p.answer) (dropped ps))
-
 -- what is known where a salvage wrote
 fits : {bytes slots : ℕ} (t u : Bool) (x y : Refusal) (n m : ℕ) → ◌≡◌ {A = Result Salvaged Refusal} (Ok (wrote bytes slots)) (if t then Err x else if u then Err y else Ok (wrote n m)) → (t ≡ false) × (u ≡ false) × (n ≡ bytes) × (m ≡ slots)
 fits true u x y n m e = absurd (let z : ◌≡◌ {A = ℕ} 0 1 = cc in omega arith)
@@ -364,7 +355,7 @@ module _ {R S : Type 0} (read : Bor (List ℕ) → Result R Refusal) (length_of 
         }
 
     few : length (dropped (pieces read s)) ≤ 3 * length (steps s.now)
-    few = omega (arith, runs_few (pieces read s), ap length (pieces_are read s), length-map (steps s.now) (piece_at read s))
+    few = omega (arith, dropped_few (pieces read s), ap length (pieces_are read s), length-map (steps s.now) (piece_at read s))
 
     wrote_done : {out runs out' runs' : List ℕ} {r : Result Salvaged Refusal} → length s.now ≤ length out → 3 * length (steps s.now) ≤ length runs → WritesBoth (salvaging read s) out runs out' runs' r
         → r ≡ Ok (wrote (length (kept s.now (pieces read s))) (length (dropped (pieces read s))))

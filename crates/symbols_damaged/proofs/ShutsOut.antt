@@ -2,13 +2,12 @@
 use Rattle.std.proofs.Common.{ℕ, ◌+◌, ◌-◌, ◌<◌, ◌≤◌, ◌≡◌, inl, inr, refl, sym, ap, subst, ◌∙◌, Bool, true, false, List, [], ◌∷◌, length, get_or, set, drop, arith, Bor, Some, Result, Ok, Err}
 use Rattle.std.specs.Prelude.{eqb}
 use Rattle.std.proofs.lemmas.Fmt.{decimal_digit}
-use native.Mathlib.Nat.{add-zero}
 use borrow.Author.Tests.{eqb-true, eqb-false, lt-leb, le-ltb}
 use lib.Seq.{get_or-set_other}
 use lib.ListN.{length-take, length-drop}
 use Rattle.le.specs.Le.{le2, le4}
 use Rattle.le.specs.Le as le
-use Rattle.le.proofs.Laws.{not_both, get_d_part}
+use Rattle.le.proofs.Laws.{not_both}
 use Rattle.part.specs.Slice.{part}
 use Rattle.part.specs.Outcome.{and_then}
 use Rattle.refusal.specs.Refusal.{limit}
@@ -21,7 +20,7 @@ use Rattle.entry.specs.Entry.{claim_at, claim_of}
 use Rattle.entry.specs.Walk.{steps, steps_from}
 use Rattle.entry.specs.Alike.{among, IsWhole, DiffersInside}
 use Rattle.entry.proofs.Alike.{among_cases}
-use Rattle.entry.proofs.Direct.{part_all, part_long, room_of}
+use Rattle.entry.proofs.Direct.{part_all, part_long, own_claim, room_of}
 use Rattle.walk.specs.Step.{step_at}
 use Rattle.walk.specs.Pieces.{piece_at, pieces_from}
 use Rattle.symbol.specs.declared.AdsSymbolInfo.{AdsSymbolInfo}
@@ -42,10 +41,6 @@ module _ (mode : Mode) (s : Bor (List ℕ)) (name : List ℕ) (at : ℕ) (small 
   claimed_is : (own : List ℕ) (size : ℕ) → claim_of 30 own ≡ Ok size → (size ≡ le4 own 0) × (30 ≤ size)
   unfolding claim_of
   claimed_is own size e = (grind arith, grind arith)
-
-  own_claim : (size : ℕ) → 4 ≤ size → le4 (le.part s.now at size) 0 ≡ le4 s.now at
-  unfolding le4
-  own_claim size h = simp (get_d_part s.now at size 0 0 (omega arith), get_d_part s.now at size 1 0 (omega arith), get_d_part s.now at size 2 0 (omega arith), get_d_part s.now at size 3 0 (omega arith), add-zero)
 
   room_for : (n : ℕ) → n ≤ length (le.part s.now at n) → 0 < n → at + n ≤ length s.now
   unfolding le.part
@@ -74,7 +69,7 @@ module _ (mode : Mode) (s : Bor (List ℕ)) (name : List ℕ) (at : ℕ) (small 
       let c = claimed_is own.now size e in
       let k : 30 ≤ n = omega (arith, c.1, is) in
       let there : at + n ≤ length s.now = room_for n (omega (arith, fits, is)) (omega arith) in
-      let claim : le4 s.now at ≡ n = sym (own_claim n (omega arith)) ∙ sym c.0 ∙ is in
+      let claim : le4 s.now at ≡ n = sym (own_claim s.now at n (omega arith)) ∙ sym c.0 ∙ is in
       let whole : part own 0 size ≡ own = ap (λ (i : ℕ). part own 0 i) (is ∙ sym (part_long s at n there)) ∙ part_all own in
       simp (steps_there n k there claim) (ap Some (ap (λ (e : Bor (List ℕ)). symbol_of mode e) (sym whole) ∙ h))
 
