@@ -1,3 +1,5 @@
 pub mod Parts
 pub mod Laid
 pub mod Pieces
+pub mod Bytes
+pub mod Formed

@@ -7,6 +7,7 @@ ghost use Rattle.writing.specs.Checks.{IsShort};
 ghost use Rattle.writing.specs.Layout.{lengths_bytes, string_bytes, strings_bytes, attributes_bytes};
 ghost use Rattle.symbol.specs.Writing.{numbers_bytes, header_bytes, guid_bytes, extended_bytes, sections_bytes, symbol_bytes};
 ghost use Rattle.plain.specs.Plain.{along, IsInside, departing, plain_of};
+ghost use Rattle.plain.specs.Form.{PlainInForm};
 
 use refusal::{Mode, Refusal};
 use symbol::{AdsSymbolInfo, NewSymbol};
@@ -225,3 +226,9 @@ pub fn check(upload: &[u8]) -> Result<(), Refusal>
     }
     Ok(())
 }
+
+/// An entry is in plain form by the writer exactly where it is so without the writer: all that is flagged is there, the list of attributes is complete, the
+/// records are good, each end byte is 0 and nothing is unread.
+pub fn plain_in_form()
+    ensures { PlainInForm }
+{}
