@@ -153,7 +153,13 @@ module _ (e : Bor (List ℕ)) (r : AdsSymbolInfo) (h : HoldsBytes e) (read : sym
     flags_are bit = ap (λ (w : ℕ). has w bit) i.flags
 
     -- without a flag no attribute is shown, and the block is empty
-    unflagged : has r.flags.0 0x1000 ≡ false → (from ≡ behind_guid r) × (to ≡ behind_guid r)
+    pub record IsUnflagged : Type 0 where
+      pub begins : from ≡ behind_guid r
+      pub ends : to ≡ behind_guid r
+      pub none : r.attributes.count ≡ 0
+      pub empty : length (new_of r).attributes.bytes.now ≡ 0
+
+    pub unflagged : has r.flags.0 0x1000 ≡ false → IsUnflagged
     unflagged w =
         let u : has (le2 e.now 20) 0x1000 ≡ false = sym (flags_are 0x1000) ∙ w in
         let a : from ≡ behind_guid r + 0 = i.attributes_at ∙ simp u refl in
@@ -161,7 +167,8 @@ module _ (e : Bor (List ℕ)) (r : AdsSymbolInfo) (h : HoldsBytes e) (read : sym
         let count : r.attributes.count ≡ 0 = shown_none on.attributes none in
         let same : attribute.after_listed r.attributes.bytes r.attributes.count ≡ r.attributes.bytes = ap (attribute.after_listed r.attributes.bytes) count ∙ after_none r.attributes.bytes in
         let b : to ≡ from = ap (rest_at e) same in
-        (omega (arith, a), omega (arith, a, b))
+        let none_between : to - from ≡ 0 = omega (arith, b) in
+        record { begins = omega (arith, a); ends = omega (arith, a, b); none = count; empty = ap (λ (q : Bor (List ℕ)). length q.now) cuts.attributes ∙ ap (λ (k : ℕ). length (take k (drop from e.now))) none_between }
       where
         shown_none : {s : Bor (List ℕ)} {announced count : ℕ} → Shows s announced count → announced ≡ 0 → count ≡ 0
         shown_none (all x) z = omega arith
@@ -180,7 +187,7 @@ module _ (e : Bor (List ℕ)) (r : AdsSymbolInfo) (h : HoldsBytes e) (read : sym
         two_then e.now (behind_guid r) h c.there
         ∙ ap₂ (λ (k m : ℕ). bytes2 k ++ drop m e.now) c.all (sym (flagged_from w))
         ∙ ap (λ (t : List ℕ). bytes2 r.attributes.count ++ t) block_is
-    attributes_then false w = ap (λ (k : ℕ). drop k e.now) (sym (unflagged w).1)
+    attributes_then false w = ap (λ (k : ℕ). drop k e.now) (sym (unflagged w).ends)
 
     -- extended flags
     abbrev chain_from : ℕ

@@ -3,3 +3,5 @@ pub mod Laid
 pub mod Pieces
 pub mod Bytes
 pub mod Formed
+pub mod Good
+pub mod Form
