@@ -5,3 +5,4 @@ pub mod Bytes
 pub mod Formed
 pub mod Good
 pub mod Form
+pub mod Read
