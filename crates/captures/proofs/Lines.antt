@@ -94,14 +94,14 @@ all_left text old h =
     record { more = k.0; whole = k.0; is = k.1; all = k.1; goes = going old k.0 k.2 }
 
 -- the bytes of a line, and of those behind it
-record Parts (l : Result (List ℕ) FromHexError) (ls : Result (List ℕ) Refusal) (all : List ℕ) : Type 0 where
-  bytes : List ℕ
-  more : List ℕ
-  first : l ≡ Ok bytes
-  then : ls ≡ Ok more
-  both : bytes ++ more ≡ all
+pub record Parts (l : Result (List ℕ) FromHexError) (ls : Result (List ℕ) Refusal) (all : List ℕ) : Type 0 where
+  pub bytes : List ℕ
+  pub more : List ℕ
+  pub first : l ≡ Ok bytes
+  pub then : ls ≡ Ok more
+  pub both : bytes ++ more ≡ all
 
-parts : (l : Result (List ℕ) FromHexError) (ls : Result (List ℕ) Refusal) (all : List ℕ) → and_then (spelt l) (λ bytes. and_then ls (λ more. Ok (bytes ++ more))) ≡ Ok all → Parts l ls all
+pub parts : (l : Result (List ℕ) FromHexError) (ls : Result (List ℕ) Refusal) (all : List ℕ) → and_then (spelt l) (λ bytes. and_then ls (λ more. Ok (bytes ++ more))) ≡ Ok all → Parts l ls all
 parts (Ok bytes) (Ok more) all h = record { bytes = bytes; more = more; first = refl; then = refl; both = cc }
 parts (Ok bytes) (Err why) all h = cc
 parts (Err why) ls all h = cc

@@ -6,6 +6,7 @@ ghost use Rattle.le.specs.Put.{put, Wrote};
 ghost use Rattle.hex.specs.Hex.{decode_of};
 ghost use Rattle.entry.specs.Walk.{steps};
 ghost use Rattle.writing.specs.Writing.{Writes};
+ghost use Rattle.captures.specs.Meaning.{SplitMeant, JoinMeant, RoundTrips};
 ghost use Rattle.captures.specs.Captures.{line, lines, text_of, piece_bytes, splitting, spelt, told_length, joined, joining};
 
 mod digits;
@@ -126,3 +127,23 @@ pub fn join(text: &[u8], upload: &mut [u8]) -> Result<usize, Refusal>
     put_upload(text, upload);
     Ok(needed)
 }
+
+// The theorems. Each is the contract of a function that does nothing, so that none goes unnoticed if its proof does.
+
+/// An upload above the limit is refused by 5; within it its lines are written, and no others: a line for each whole entry,
+/// and one for all that is left where none begins.
+pub fn split_meant()
+    ensures { SplitMeant }
+{}
+
+/// A text that is not LFs and pairs of digits is refused by 12; else 5 above the limit; else the bytes that it spells are
+/// written, and no others.
+pub fn join_meant()
+    ensures { JoinMeant }
+{}
+
+/// An upload that is split and joined is the same bytes; whole entries in capitals that are joined and split are the same
+/// lines.
+pub fn round_trips()
+    ensures { RoundTrips }
+{}
