@@ -13,25 +13,10 @@ use Rattle.refusal.specs.declared.Refusal.{Refusal}
 use Rattle.walk.specs.declared.Piece.{Piece}
 use Rattle.walk.specs.Pieces.{piece_at, pieces_from, pieces}
 use Rattle.walk.proofs.Left.{piece_starts, piece_ends, few_pieces}
+use Rattle.walk.proofs.Forward.{Forward, forward_at}
 use Rattle.salvage.specs.Salvage.{bytes_of, run_of, kept, dropped}
 
--- a piece goes forward and ends inside the upload
-abbrev pub Forward : {R : Type 0} → List ℕ → Piece R → Type 0
-Forward s p = (p.start ≤ p.end) × (p.end ≤ length s)
-
 module _ {R : Type 0} (read : Bor (List ℕ) → Result R Refusal) (s : Bor (List ℕ)) where
-  forward_at : (at : ℕ) → at < length s.now → Forward s.now (piece_at read s at)
-  forward_at at h = let e = piece_ends read s at h in (omega (arith, piece_starts read s at, e.0), e.1)
-
-  pub all_forward : (n at : ℕ) → All (Forward s.now) (pieces_from read s at n)
-  unfolding pieces_from
-  all_forward zero at = All-nil (Forward s.now)
-  all_forward (suc n) at = by (leb (length s.now) at) refl (all_forward n (piece_at read s at).end)
-    where
-      by : (b : Bool) → leb (length s.now) at ≡ b → All (Forward s.now) (pieces_from read s (piece_at read s at).end n) → All (Forward s.now) (if b then [] else piece_at read s at ∷ pieces_from read s (piece_at read s at).end n)
-      by true e h = All-nil (Forward s.now)
-      by false e h = All-cons (Forward s.now) _ _ (forward_at at (leb-false (length s.now) at e)) h
-
   long_of : (start end : ℕ) (t : Result R Refusal) → start ≤ end → end ≤ length s.now → length (bytes_of s.now start end t) ≤ end - start
   long_of start end (Ok r) a b = let l = length_part s.now start (end - start) (omega arith) in omega (arith, l)
   long_of start end (Err why) a b = omega arith
@@ -47,7 +32,7 @@ module _ {R : Type 0} (read : Bor (List ℕ) → Result R Refusal) (s : Bor (Lis
       by false e h =
           let b = leb-false (length s.now) at e in
           let p = piece_ends read s at b in
-          let f = forward_at at b in
+          let f = forward_at read s at b in
           let l = long_of (piece_at read s at).start (piece_at read s at).end (piece_at read s at).answer f.0 f.1 in
           let a = length-append (bytes_of s.now (piece_at read s at).start (piece_at read s at).end (piece_at read s at).answer) (kept s.now (pieces_from read s (piece_at read s at).end n)) in
           omega (arith, h, p.0, p.1, l, a, piece_starts read s at)
@@ -67,23 +52,6 @@ dropped_few (p ∷ ps) = omega (arith, dropped_few ps, run_few p.start p.end p.a
 
 pub dropped_fits : {R : Type 0} (read : Bor (List ℕ) → Result R Refusal) (s : Bor (List ℕ)) → length (dropped (pieces read s)) ≤ 3 * length s.now
 dropped_fits read s = omega (arith, dropped_few (pieces read s), few_pieces read s (length s.now) 0)
-
--- a buffer into which all goes from place 0 on, of which some bytes are still to come
-pub record Going (old now : List ℕ) (at : ℕ) (rest all : List ℕ) : Type 0 where
-  pub is : put now at rest ≡ put old 0 all
-  pub room : at + length rest ≤ length now
-
-pub going : (old all : List ℕ) → length all ≤ length old → Going old old 0 all all
-going old all h = record { is = refl; room = omega arith }
-
-pub goes_on : {old now new rest all : List ℕ} {at next : ℕ} (bs : List ℕ) → Going old now at (bs ++ rest) all → Wrote now at bs new next → Going old new next rest all
-goes_on {old} {now} {new} {rest} {all} {at} {next} bs g w = record {
-  is = ap (λ (x : List ℕ). put x next rest) w.is ∙ put_then now at bs next rest w.end w.room ∙ g.is;
-  room = omega (arith, g.room, length-append bs rest, w.end, w.long);
-}
-
-pub gone : {old now all : List ℕ} {at : ℕ} → Going old now at [] all → now ≡ put old 0 all
-gone {old} {now} {all} {at} g = sym (put_none now at) ∙ g.is
 
 -- what is left, behind a piece
 module _ {R : Type 0} (s : List ℕ) {left rest : List (Piece R)} {p : Piece R} (turn : left ≡ p ∷ rest) where
@@ -114,9 +82,6 @@ kept_none s e = simp e
 pub dropped_none : {R : Type 0} {left : List (Piece R)} → left ≡ [] → dropped left ≡ []
 unfolding dropped
 dropped_none e = simp e
-
-pub going_by : {old now xs ys all : List ℕ} {at : ℕ} → xs ≡ ys → Going old now at xs all → Going old now at ys all
-going_by {old} {now} {xs} {ys} {all} {at} e g = subst (λ (x : List ℕ). Going old now at x all) e g
 
 -- the same by lengths
 module _ {R : Type 0} (s : List ℕ) {left rest : List (Piece R)} {p : Piece R} (turn : left ≡ p ∷ rest) (n total : ℕ) where

@@ -17,46 +17,38 @@ use Rattle.entry.proofs.Claims.{claims}
 use Rattle.walk.specs.Zero.{is_zero}
 use Rattle.walk.specs.Step.{step_at}
 use Rattle.walk.specs.declared.Piece.{Piece}
-use Rattle.walk.specs.declared.unread.Unread.{Unread}
-use Rattle.walk.specs.Unread as kinds
 use Rattle.walk.specs.Pieces.{piece_at, pieces}
 use Rattle.walk.proofs.Left.{piece_starts}
 use Rattle.walk.proofs.Theorems.{pieces_are}
-use Rattle.symbol.specs.declared.AdsSymbolInfo.{AdsSymbolInfo}
 use Rattle.symbol.specs.Symbol.{symbol_of}
 use Rattle.symbol.specs.Kind as kind
+use Rattle.walk.specs.declared.unread.Unread.{Unread}
+use Rattle.walk.specs.Unread.{unread_of}
 use Rattle.symbol_find.specs.Find.{has_name, is_named, find, find_indexed}
 
--- a symbol before it is read
-abbrev pub Unseen : Type 0
-Unseen = Unread AdsSymbolInfo
-
-abbrev pub unread_of : Mode → Bor (List ℕ) → Result Unseen Refusal
-unread_of = kinds.unread_of 30
-
 -- an entry's own bytes give a symbol of that name
-abbrev gives_name : Mode → List ℕ → Unseen → Bool
+abbrev gives_name : Mode → List ℕ → Unread → Bool
 gives_name mode name unread = has_name name (Some (symbol_of mode unread.bytes))
 
-abbrev by_answer : Mode → List ℕ → ℕ → Result Unseen Refusal → Result ℕ Refusal → Result ℕ Refusal
+abbrev by_answer : Mode → List ℕ → ℕ → Result Unread Refusal → Result ℕ Refusal → Result ℕ Refusal
 by_answer mode name start (Ok unread) later = if gives_name mode name unread then Ok start else later
 by_answer mode name start (Err why) later = if is_zero why then Err ZeroEntryLength else later
 
-unfoldable pub search_in : Mode → List ℕ → List (Piece Unseen) → Result ℕ Refusal
+unfoldable pub search_in : Mode → List ℕ → List (Piece Unread) → Result ℕ Refusal
 search_in mode name [] = Err NameNotFound
 search_in mode name (p ∷ more) = by_answer mode name p.start p.answer (search_in mode name more)
 
-module _ (mode : Mode) (name : List ℕ) (left : List (Piece Unseen)) where
+module _ (mode : Mode) (name : List ℕ) (left : List (Piece Unread)) where
   pub search_end : left ≡ [] → search_in mode name left ≡ Err NameNotFound
   unfolding search_in
   search_end e = simp e
 
-  module _ (rest : List (Piece Unseen)) (p : Piece Unseen) (turn : left ≡ p ∷ rest) where
-    pub search_found : (unread : Unseen) → p.answer ≡ Ok unread → has_name name (Some (symbol_of mode unread.bytes)) ≡ true → search_in mode name left ≡ Ok p.start
+  module _ (rest : List (Piece Unread)) (p : Piece Unread) (turn : left ≡ p ∷ rest) where
+    pub search_found : (unread : Unread) → p.answer ≡ Ok unread → has_name name (Some (symbol_of mode unread.bytes)) ≡ true → search_in mode name left ≡ Ok p.start
     unfolding search_in
     search_found unread e n = simp turn (simp e (simp n))
 
-    pub search_on : (unread : Unseen) → p.answer ≡ Ok unread → has_name name (Some (symbol_of mode unread.bytes)) ≡ false → search_in mode name left ≡ search_in mode name rest
+    pub search_on : (unread : Unread) → p.answer ≡ Ok unread → has_name name (Some (symbol_of mode unread.bytes)) ≡ false → search_in mode name left ≡ search_in mode name rest
     unfolding search_in
     search_on unread e n = simp turn (simp e (simp n))
 
@@ -92,7 +84,7 @@ module _ (mode : Mode) (s : Bor (List ℕ)) (name : List ℕ) where
 
   own_by : (own : Bor (List ℕ)) (start : ℕ) (later : Result ℕ Refusal) (few : Bool) → ltb (length own.now) 30 ≡ few
       → by_answer mode name start (unread_of mode own) later ≡ (if has_name name (Some (symbol_of mode own)) then Ok start else later)
-  unfolding kinds.unread_of
+  unfolding unread_of
   own_by own start later true e = let n = kind.short mode own (ltb-true (length own.now) 30 e) in simp (e, n)
   own_by own start later false e = simp e
 
@@ -140,7 +132,7 @@ module _ (mode : Mode) (s : Bor (List ℕ)) (name : List ℕ) where
   find_within h = simp (le-ltb limit (length s.now) h) (sym (ap (search_in mode name) (pieces_are (unread_of mode) s) ∙ from 0 (length s.now)))
 
   -- what the search gives from where it has come to
-  pub find_ends : (all left : List (Piece Unseen)) (r : Result ℕ Refusal) → length s.now ≤ limit → all ≡ pieces (unread_of mode) s → search_in mode name left ≡ search_in mode name all → search_in mode name left ≡ r → r ≡ find mode s name
+  pub find_ends : (all left : List (Piece Unread)) (r : Result ℕ Refusal) → length s.now ≤ limit → all ≡ pieces (unread_of mode) s → search_in mode name left ≡ search_in mode name all → search_in mode name left ≡ r → r ≡ find mode s name
   find_ends all left r h is going ends = sym (find_within h ∙ ap (search_in mode name) (sym is) ∙ sym going ∙ ends)
 
   module _ (slots : List ℕ) where

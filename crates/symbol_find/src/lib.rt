@@ -96,12 +96,11 @@ pub fn find(bytes: &[u8], mode: Mode, name: &[u8]) -> Result<usize, Refusal>
     if length > LIMIT {
         return Err(Refusal::TooLarge { length });
     }
-    for piece in Walker::<Unread<AdsSymbolInfo>>::new(bytes, mode) {
-        let start = piece.start;
+    for piece in Walker::<Unread>::new(bytes, mode) {
         match piece.answer {
             Ok(entry) => {
                 if has_name(entry.bytes, mode, name) {
-                    return Ok(start);
+                    return Ok(piece.start);
                 }
             }
             Err(Refusal::ZeroEntryLength) => return Err(Refusal::ZeroEntryLength),

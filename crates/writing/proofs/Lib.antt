@@ -3,3 +3,4 @@ pub mod Entry
 pub mod Laid
 pub mod Done
 pub mod Meant
+pub mod Going

@@ -3,7 +3,7 @@ use Rattle.std.proofs.lemmas.List.Elements.{All-rest, All-head}
 use Rattle.symbol.specs.Symbol.{symbol_of}
 use Rattle.walk.specs.Pieces.{pieces, walker_left}
 use Rattle.salvage.specs.Salvage.{kept}
-use Rattle.salvage.proofs.Laws.{Forward, all_forward}
+use Rattle.walk.proofs.Forward.{Forward, all_forward}
 use Rattle.salvage_report.proofs.Kept.{one_more, no_more}
 use Rattle.salvage_report.proofs.salvage.Goals as goal
 

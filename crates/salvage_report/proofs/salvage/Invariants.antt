@@ -3,7 +3,7 @@ use Rattle.std.specs.Prelude.{All}
 use Rattle.symbol.specs.Symbol.{symbol_of}
 use Rattle.walk.specs.Pieces.{walker_left}
 use Rattle.salvage.specs.Salvage.{kept}
-use Rattle.salvage.proofs.Laws.{Forward}
+use Rattle.walk.proofs.Forward.{Forward}
 use Rattle.salvage_report.proofs.salvage.Given as goal
 
 abbrev pub invariant-loop-piece : goal.invariant-loop-piece

@@ -1,6 +1,7 @@
 use Rattle.std.proofs.Common.{◌≡◌}
 use Rattle.walk.specs.Pieces.{walker_left}
-use Rattle.symbol_find.proofs.Search.{unread_of, search_in}
+use Rattle.walk.specs.Unread.{unread_of}
+use Rattle.symbol_find.proofs.Search.{search_in}
 use Rattle.symbol_find.proofs.find.Given as goal
 
 abbrev pub invariant-loop-piece : goal.invariant-loop-piece
