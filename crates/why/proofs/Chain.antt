@@ -1,6 +1,6 @@
 -- The reason of a chain, by its bytes, and beside its reader: proved.
 use Rattle.std.proofs.Common.{◌≡◌, ℕ, zero, suc, ◌+◌, ◌-◌, ◌<◌, ◌≤◌, Bool, true, false, List, length, drop, Ok, Err, Result, refl, sym, ap, ap₂, ◌∙◌, subst, arith, length-drop, Bor}
-use Rattle.std.specs.Prelude.{Option, Some, None, leb, eqb, if◌then◌else◌}
+use Rattle.std.specs.Prelude.{Some, None, leb, eqb, if◌then◌else◌}
 use Rattle.std.proofs.lemmas.Bool.{leb-false}
 use borrow.Author.Tests.{leb-true, eqb-true, eqb-false}
 use Rattle.le.specs.Le.{le2, le4, has}
@@ -10,18 +10,15 @@ use Rattle.part.specs.End.{IsEnd, rest_at}
 use Rattle.part.proofs.Slice.{after_after}
 use Rattle.refusal.specs.declared.Refusal.{Refusal}
 use Rattle.refusal.specs.declared.Refusal.TheVariants.{TooShort}
-use Rattle.flags.specs.declared.symbol_flags.AdsSymbol2Flags.{AdsSymbol2Flags}
 use Rattle.refactor.specs.declared.AdsRefactorInfo.{AdsRefactorInfo}
 use Rattle.refactor.specs.Laid as refactor
 use Rattle.refactor.specs.Laid.{Stands, here, behind, followed}
-use Rattle.refactor.specs.Refactor.{first_of, chained}
+use Rattle.refactor.specs.Refactor.{first_of, chained, chain_of}
 use Rattle.refactor.specs.Read.{First, first_short, first_cut, first_whole}
 use Rattle.refactor.proofs.Read.{first_read}
-use Rattle.symbol.specs.declared.AdsSymbolInfo.{AdsSymbolInfo}
-use Rattle.symbol.specs.Inside.{behind_attributes, IsInside}
 use Rattle.why.specs.declared.Reason.{Reason}
-use Rattle.why.specs.declared.Reason.TheVariants.{NotFlagged, NoExtendedFlags, NoRoom, Whole, Refused, Owed}
-use Rattle.why.specs.Reasons.{chain_from, met_chain_reason, flagged_chain_reason, chain_reason_by, chain_reason}
+use Rattle.why.specs.declared.Reason.TheVariants.{NotFlagged, NoRoom, Whole, Refused}
+use Rattle.why.specs.Reasons.{chain_from, met_chain_reason, flagged_chain_reason, chain_reason_by}
 use Rattle.why.specs.Meant.{IsFlagged, IsCutRecord, least_record, cut_record, IsChain, chain_no_flags, chain_short_flags, chain_unflagged, chain_no_byte, chain_refused, chain_whole}
 use Rattle.why.specs.Shown.{kept_of}
 
@@ -72,7 +69,7 @@ nothing_left : (e : Bor (List ℕ)) (at from c : ℕ) → from ≤ length e.now 
 unfolding chain_from
 nothing_left e at from c l h = ap₂ (λ (k m : ℕ). Refused c k (TooShort 7 m)) (let d = length-drop from e.now in omega arith) (omega arith)
 
-pub meets : (f : ℕ) (e : Bor (List ℕ)) (at from c : ℕ) → from ≤ length e.now → length (drop from e.now) ≤ f → Meets e.now at from c (chain_from (length e.now) at (after e from) c f)
+meets : (f : ℕ) (e : Bor (List ℕ)) (at from c : ℕ) → from ≤ length e.now → length (drop from e.now) ≤ f → Meets e.now at from c (chain_from (length e.now) at (after e from) c f)
 meets zero e at from c l h = meets_refused from 0 _ here (least_record (omega arith)) (nothing_left e at from c l h ∙ ap (λ (k : ℕ). Refused k from (TooShort 7 (length (drop from e.now)))) (omega arith))
 meets (suc f) e at from c l h =
     by_first e at from c f l (first_read (after e from))
@@ -107,7 +104,7 @@ module _ (e q : Bor (List ℕ)) (at : ℕ) (t : IsEnd e q) (l : at ≤ length e.
   chain_flag f room z false b = chain_unflagged f room b
   chain_flag f room z true b = subst (λ (x : Bor (List ℕ)). IsChain e.now at (flagged_chain_reason e x)) (sym z) (flagged_true e at f room b)
 
-  chain_by : (b c : Bool) → has (le2 e.now 20) 0x8000 ≡ b → leb 4 (length e.now - at) ≡ c → rest_at e q ≡ at + (if (if b then c else false) then 4 else 0)
+  pub chain_by : (b c : Bool) → has (le2 e.now 20) 0x8000 ≡ b → leb 4 (length e.now - at) ≡ c → rest_at e q ≡ at + (if (if b then c else false) then 4 else 0)
       → IsChain e.now at (chain_reason_by e q (if (if b then c else false) then Some (record { 0 = le4 e.now at }) else None))
   chain_by false c f g z = chain_no_flags f
   chain_by true false f g z = chain_short_flags (let m = leb-false 4 (length e.now - at) g in omega arith)
@@ -122,10 +119,22 @@ kept_by whole at s c f (Err why) e on b g = rw e refl
 kept_by whole at s c f (Ok p) e on true g = rw e (rw g (on p.1))
 kept_by whole at s c f (Ok p) e on false g = rw e (rw g refl)
 
-pub kept_chain : (f whole at : ℕ) (s : Bor (List ℕ)) (c : ℕ) → kept_of (chain_from whole at s c f) ≡ outcome (chained s c f) (λ x. x.0) (λ why. 0)
+nothing_kept : (whole at : ℕ) (s : Bor (List ℕ)) (c : ℕ) → kept_of (chain_from whole at s c 0) ≡ outcome (chained s c 0) (λ x. x.0) (λ why. 0)
+unfolding chain_from chained
+nothing_kept whole at s c = refl
+
+kept_chain : (f whole at : ℕ) (s : Bor (List ℕ)) (c : ℕ) → kept_of (chain_from whole at s c f) ≡ outcome (chained s c f) (λ x. x.0) (λ why. 0)
 kept_chain zero whole at s c = nothing_kept whole at s c
-  where
-    nothing_kept : (whole at : ℕ) (s : Bor (List ℕ)) (c : ℕ) → kept_of (chain_from whole at s c 0) ≡ outcome (chained s c 0) (λ x. x.0) (λ why. 0)
-    unfolding chain_from chained
-    nothing_kept whole at s c = refl
 kept_chain (suc f) whole at s c = kept_by whole at s c f (first_of s) refl (λ p. kept_chain f whole at p (c + 1)) _ refl
+
+-- none is kept of a chain of no bytes
+none_chained : (s : Bor (List ℕ)) → length s.now ≡ 0 → chain_of s ≡ Err (TooShort 7 0)
+unfolding chained
+none_chained s z = rw z refl
+
+pub kept_flagged : (e s : Bor (List ℕ)) → kept_of (flagged_chain_reason e s) ≡ outcome (chain_of s) (λ x. x.0) (λ why. 0)
+kept_flagged e s = by (eqb (length s.now) 0) refl
+  where
+    by : (t : Bool) → eqb (length s.now) 0 ≡ t → kept_of (if t then NoRoom (length e.now) 0 else met_chain_reason (length e.now) s) ≡ outcome (chain_of s) (λ x. x.0) (λ why. 0)
+    by true g = sym (ap (λ (w : Result (ℕ × Bor (List ℕ)) Refusal). outcome w (λ x. x.0) (λ why. 0)) (none_chained s (eqb-true (length s.now) 0 g)))
+    by false g = kept_chain (length s.now) (length e.now) (length e.now - length s.now) s 0

@@ -4,4 +4,4 @@ pub mod Stands
 pub mod One
 pub mod True
 pub mod Chain
-pub mod Theorems
+pub mod Explained

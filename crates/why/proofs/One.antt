@@ -1,12 +1,11 @@
 -- Of one entry the reasons that are true are the same: proved.
-use Rattle.std.proofs.Common.{◌≡◌, ◌⊎◌, inl, inr, ℕ, zero, suc, ◌+◌, ◌<◌, ◌≤◌, true, false, List, length, drop, refl, sym, ap, ap₂, ◌∙◌, arith, length-drop, subst}
-use Rattle.le.specs.Le.{le2, le4, has}
+use Rattle.std.proofs.Common.{◌≡◌, ◌⊎◌, inl, inr, ℕ, suc, ◌+◌, ◌<◌, ◌≤◌, false, List, length, drop, refl, sym, ap, ap₂, ◌∙◌, arith, length-drop, subst}
+use Rattle.le.specs.Le.{le2}
 use Rattle.refusal.specs.declared.Refusal.{Refusal}
 use Rattle.attribute.specs.Laid as attribute
 use Rattle.refactor.specs.Laid as refactor
 use Rattle.why.specs.declared.Reason.{Reason}
-use Rattle.why.specs.declared.Reason.TheVariants.{NotFlagged, NoExtendedFlags, NoRoom, Whole, Refused, Owed}
-use Rattle.why.specs.declared.Reasons.{Reasons}
+use Rattle.why.specs.declared.Reason.TheVariants.{NoRoom, Whole, Refused, Owed}
 use Rattle.why.specs.Meant.{IsCutAttribute, least, cut, IsCutRecord, least_record, cut_record, strings_end, IsFixed, fixed_unflagged, fixed_short, fixed_there, Behind, behind_unflagged, behind_short, behind_there}
 use Rattle.why.specs.Meant.{IsAttributes, attributes_unflagged, attributes_short, attributes_whole, attributes_refused, attributes_owed, BehindAttributes, list_unflagged, list_short, list_there}
 use Rattle.why.specs.Meant.{IsChain, chain_no_flags, chain_short_flags, chain_unflagged, chain_no_byte, chain_refused, chain_whole, ReasonsOne}
@@ -57,21 +56,21 @@ module _ (e : List ℕ) where
 
   -- so many stand behind one another, and there the list stops
   module _ (at : ℕ) where
-    record List_ends (before to : ℕ) : Type 0 where
-      stands : attribute.Stands e (at + 2) to before
-      few : before ≤ le2 e at
-      stops : Stops e before to (le2 e at)
+    pub record ListEnds (before to : ℕ) : Type 0 where
+      pub stands : attribute.Stands e (at + 2) to before
+      pub few : before ≤ le2 e at
+      pub stops : Stops e before to (le2 e at)
 
-    same_end : {n m to other : ℕ} → List_ends n to → List_ends m other → (n ≡ m) × (to ≡ other)
+    pub same_end : {n m to other : ℕ} → ListEnds n to → ListEnds m other → (n ≡ m) × (to ≡ other)
     same_end {n} {m} {to} {other} p q = one_stop e (at + 2) to other n m (le2 e at) p.stands q.stands p.few q.few p.stops q.stops
 
-    at_count : {to : ℕ} → attribute.Stands e (at + 2) to (le2 e at) → List_ends (le2 e at) to
+    pub at_count : {to : ℕ} → attribute.Stands e (at + 2) to (le2 e at) → ListEnds (le2 e at) to
     at_count s = record { stands = s; few = omega arith; stops = inl refl }
 
-    at_cut : {n to : ℕ} {why : Refusal} → attribute.Stands e (at + 2) to n → n < le2 e at → IsCutAttribute (drop to e) why → List_ends n to
+    pub at_cut : {n to : ℕ} {why : Refusal} → attribute.Stands e (at + 2) to n → n < le2 e at → IsCutAttribute (drop to e) why → ListEnds n to
     at_cut {n} {to} {why} s l c = record { stands = s; few = omega arith; stops = inr (is_cut (drop to e) why c) }
 
-    at_end : {n : ℕ} (owed : ℕ) → attribute.Stands e (at + 2) (length e) n → n + owed ≡ le2 e at → List_ends n (length e)
+    pub at_end : {n : ℕ} (owed : ℕ) → attribute.Stands e (at + 2) (length e) n → n + owed ≡ le2 e at → ListEnds n (length e)
     at_end {n} owed s h = record { stands = s; few = omega arith; stops = inr (let d = length-drop (length e) e in omega arith) }
 
     two_refused : {n m to other : ℕ} {v w : Refusal} → (n ≡ m) × (to ≡ other) → IsCutAttribute (drop to e) v → IsCutAttribute (drop other e) w → ◌≡◌ {A = Reason} (Refused n to v) (Refused m other w)

@@ -1,6 +1,5 @@
 -- Records one behind another: where so many end, and where a list of them stops.
-use Rattle.std.proofs.Common.{◌≡◌, ◌⊎◌, inl, inr, ℕ, zero, suc, ◌+◌, ◌-◌, ◌<◌, ◌≤◌, true, List, length, drop, refl, sym, ap, arith, length-drop, drop-drop, subst}
-use native.Mathlib.Nat.{add_assoc}
+use Rattle.std.proofs.Common.{◌≡◌, ◌⊎◌, inl, inr, ℕ, zero, suc, ◌+◌, ◌-◌, ◌<◌, ◌≤◌, true, List, length, drop, refl, ap, arith, length-drop, drop-drop, subst}
 use Rattle.attribute.specs.Laid as attribute
 use Rattle.attribute.specs.Laid.{here, behind}
 use Rattle.refactor.specs.Laid as refactor
@@ -53,16 +52,3 @@ module _ (s : List ℕ) where
   one_chain_stop from at to (suc n) (suc m) (record_behind t b u) (record_behind v c w) p q =
       let r = one_chain_stop (from + refactor.size (drop from s)) at to n m u w p q in
       (ap suc r.0, r.1)
-
-  pub chain_within : (from at n : ℕ) → refactor.Stands s from at n → from ≤ length s → at ≤ length s
-  chain_within from at zero record_here l = l
-  chain_within from at (suc n) (record_behind t b u) l = chain_within (from + refactor.size (drop from s)) at n u (let d = length-drop from s in omega arith)
-
-  pub chain_further : (a from at n : ℕ) → refactor.Stands (drop a s) from at n → refactor.Stands s (a + from) (a + at) n
-  chain_further a from at zero record_here = record_here
-  chain_further a from at (suc n) (record_behind t b u) =
-      let d : drop from (drop a s) ≡ drop (a + from) s = drop-drop from a s in
-      let t' = subst (λ (x : List ℕ). refactor.size x ≤ length x) d t in
-      let b' = subst (λ (x : List ℕ). refactor.followed x ≡ true) d b in
-      let z : a + (from + refactor.size (drop from (drop a s))) ≡ a + from + refactor.size (drop (a + from) s) = let y = ap refactor.size d in omega (arith, y) in
-      record_behind t' b' (subst (λ (x : ℕ). refactor.Stands s x (a + at) n) z (chain_further a (from + refactor.size (drop from (drop a s))) at n u))

@@ -1,39 +1,33 @@
 -- The reasons of a symbol are true of its bytes: proved.
-use Rattle.std.proofs.Common.{◌≡◌, ◌⊎◌, inl, inr, ℕ, zero, suc, ◌+◌, ◌-◌, ◌<◌, ◌≤◌, Bool, true, false, List, length, drop, Ok, Err, Result, refl, sym, ap, ap₂, ◌∙◌, subst, arith, length-drop, drop-drop, Bor}
-use Rattle.std.specs.Prelude.{Option, Some, None, is_some, ltb, leb, eqb, if◌then◌else◌}
+use Rattle.std.proofs.Common.{◌≡◌, ◌⊎◌, inl, inr, ℕ, ◌+◌, ◌-◌, ◌<◌, ◌≤◌, Bool, true, false, List, length, drop, Ok, Err, Result, refl, sym, ap, ◌∙◌, subst, arith, length-drop, drop-drop, Bor}
+use Rattle.std.specs.Prelude.{ltb, leb, if◌then◌else◌}
 use Rattle.std.proofs.lemmas.Bool.{leb-false}
 use native.Mathlib.Nat.{add-zero}
-use borrow.Author.Tests.{ltb-true, ltb-false, le-ltb, lt-ltb, leb-true, le-leb, eqb-true, eqb-false}
-use Rattle.le.specs.Le.{le2, le4, has}
+use borrow.Author.Tests.{le-ltb, lt-ltb, leb-true}
+use Rattle.le.specs.Le.{le2, has}
 use Rattle.part.specs.Slice.{after}
 use Rattle.part.specs.End.{IsEnd, rest_at}
-use Rattle.part.proofs.Slice.{after_after}
-use Rattle.refusal.specs.declared.Mode.{Mode}
-use Rattle.refusal.specs.declared.Mode.TheVariants.{Present, Checked}
 use Rattle.refusal.specs.declared.Refusal.{Refusal}
 use Rattle.refusal.specs.declared.Refusal.TheVariants.{TooShort, UnexpectedLength}
 use Rattle.attribute.specs.declared.AdsAttribute.{AdsAttribute}
 use Rattle.attribute.specs.Laid as attribute
-use Rattle.attribute.specs.Attribute.{first_of, listed, after_listed, stopped}
+use Rattle.attribute.specs.Attribute.{first_of, listed, after_listed}
 use Rattle.attribute.specs.Read.{First, first_short, first_cut, first_whole, IsListed}
 use Rattle.attribute.specs.Stopped.{WhyItEnds, all, at_end, refused}
-use Rattle.attribute.proofs.Laws.{after_none, listed_none}
+use Rattle.attribute.proofs.Laws.{after_none}
 use Rattle.attribute.proofs.Read.{attributes_read}
 use Rattle.attribute.proofs.Stopped.{attributes_stopped}
 use Rattle.symbol.specs.declared.AdsSymbolInfo.{AdsSymbolInfo}
-use Rattle.symbol.specs.Symbol.{symbol_of}
-use Rattle.symbol.specs.Inside.{behind_strings, behind_guid, behind_attributes, is_there, IsInside}
-use Rattle.symbol.specs.ReadOn.{Shows, all as shows_all, up_to, announced, IsReadOn}
-use Rattle.symbol.proofs.Laws.{symbols_whole, checked_is}
-use Rattle.symbol.proofs.Lies.{symbols_inside}
-use Rattle.symbol.proofs.ReadOn.{symbols_read_on}
+use Rattle.symbol.specs.Inside.{behind_guid, behind_attributes, IsInside}
+use Rattle.symbol.specs.ReadOn.{Shows, all as shows_all, up_to, announced}
 use Rattle.why.specs.declared.Reason.{Reason}
-use Rattle.why.specs.declared.Reason.TheVariants.{NotFlagged, NoExtendedFlags, NoRoom, Whole, Refused, Owed}
-use Rattle.why.specs.Reasons.{fixed_reason, listed_reason, list_reason, attributes_reason}
-use Rattle.why.specs.Meant.{IsCutAttribute, least, cut, strings_end, IsFixed, fixed_unflagged, fixed_short, fixed_there, Behind, behind_unflagged, behind_short, behind_there}
+use Rattle.why.specs.declared.Reason.TheVariants.{NotFlagged, NoRoom}
+use Rattle.why.specs.Reasons.{fixed_reason, list_reason, attributes_reason}
+use Rattle.why.specs.Meant.{IsCutAttribute, least, cut, IsFixed, fixed_unflagged, fixed_short, fixed_there, Behind, behind_unflagged, behind_short, behind_there}
 use Rattle.why.specs.Meant.{IsFlagged, IsAttributes, attributes_unflagged, attributes_short, attributes_whole, attributes_refused, attributes_owed, BehindAttributes, list_unflagged, list_short, list_there}
 use Rattle.why.proofs.Stands.{stand_within, stand_further}
-use Rattle.why.proofs.One.{is_cut}
+use Rattle.why.specs.Shown.{shown_of}
+use Rattle.why.proofs.One.{is_cut, ListEnds, same_end, at_count, at_cut, at_end as at_list_end}
 
 -- a section of one size that is there exactly where it is flagged and has room
 module _ (e : List ℕ) (bit size at : ℕ) (there : Bool) (l : at ≤ length e) (some : 0 < size) where
@@ -139,7 +133,6 @@ module _ (e q : Bor (List ℕ)) (p : ℕ) (l : p ≤ length e.now) (t : IsEnd e 
       let r : p + 2 ≤ length e.now = omega arith in
       rw n (subst (λ (x : Bor (List ℕ)). IsAttributes e.now p (list_reason e p x (le2 e.now p))) (sym (from_two r z)) (listed_true e p f r))
 
-
 -- where what follows them begins
 module _ (e : Bor (List ℕ)) (r : AdsSymbolInfo) (i : IsInside e r) (w : Shows r.attributes.bytes (announced e r) r.attributes.count)
     (counted : length (listed r.attributes.bytes r.attributes.count) ≡ r.attributes.count) (l : behind_guid r ≤ length e.now) where
@@ -155,34 +148,75 @@ module _ (e : Bor (List ℕ)) (r : AdsSymbolInfo) (i : IsInside e r) (w : Shows 
     where
       at_none : shown ≡ 0 → behind_attributes e r ≡ p
       at_none n = rw n (ap (rest_at e) (after_none r.attributes.bytes) ∙ h)
+
       by : Shows r.attributes.bytes (announced e r) shown → behind_attributes e r ≡ p
       by (shows_all n) = at_none (n ∙ z)
       by (up_to why n g) = absurd (omega (arith, z))
 
-  there : has (le2 e.now 20) 0x1000 ≡ true → p + 2 ≤ length e.now → announced e r ≡ le2 e.now p → rest_at e r.attributes.bytes ≡ p + 2 → BehindAttributes e.now p (behind_attributes e r)
-  there f room z h =
+  -- so many stand in the entry as are shown, and behind them the list stops
+  pub record ShownEnds : Type 0 where
+    pub to : ℕ
+    pub ends : ListEnds e.now p shown to
+    pub at : behind_attributes e r ≡ to
+
+  ends_there : p + 2 ≤ length e.now → announced e r ≡ le2 e.now p → rest_at e r.attributes.bytes ≡ p + 2 → ShownEnds
+  ends_there room z h =
       let at : r.attributes.bytes ≡ after e (p + 2) = i.attribute_bytes.is ∙ ap (after e) h in
       let q = placed e (p + 2) shown room in
       let c : length (listed (after e (p + 2)) shown) ≡ shown = subst (λ (x : Bor (List ℕ)). length (listed x shown) ≡ shown) at counted in
       let st : attribute.Stands e.now (p + 2) q.to shown = subst (attribute.Stands e.now (p + 2) q.to) c q.stands in
-      let b : behind_attributes e r ≡ q.to = ap (λ (x : Bor (List ℕ)). rest_at e (after_listed x shown)) at ∙ q.at in
-      subst (BehindAttributes e.now p) (sym b) (by w at q st)
+      record { to = q.to; ends = by w at q st; at = ap (λ (x : Bor (List ℕ)). rest_at e (after_listed x shown)) at ∙ q.at }
     where
-      by : Shows r.attributes.bytes (announced e r) shown → r.attributes.bytes ≡ after e (p + 2) → (q : Placed e (p + 2) shown room) → attribute.Stands e.now (p + 2) q.to shown → BehindAttributes e.now p q.to
-      by (shows_all n) at q st = list_there f room st (omega (arith, z)) (inl (n ∙ z))
+      by : Shows r.attributes.bytes (announced e r) shown → r.attributes.bytes ≡ after e (p + 2) → (q : Placed e (p + 2) shown room) → attribute.Stands e.now (p + 2) q.to shown → ListEnds e.now p shown q.to
+      by (shows_all n) at q st = record { stands = st; few = omega (arith, z, n); stops = inl (n ∙ z) }
       by (up_to why n g) at q st =
           let g' : first_of (after_listed (after e (p + 2)) shown) ≡ Err why = subst (λ (x : Bor (List ℕ)). first_of (after_listed x shown) ≡ Err why) at g in
           let d : IsCutAttribute (drop q.to e.now) why = subst (λ (x : List ℕ). IsCutAttribute x why) q.is (cut_here (after_listed (after e (p + 2)) shown) why g') in
-          list_there f room st (omega (arith, z)) (inr (is_cut (drop q.to e.now) why d))
+          record { stands = st; few = omega (arith, z); stops = inr (is_cut (drop q.to e.now) why d) }
+
+  there : has (le2 e.now 20) 0x1000 ≡ true → p + 2 ≤ length e.now → ShownEnds → BehindAttributes e.now p (behind_attributes e r)
+  there f room s = subst (BehindAttributes e.now p) (sym s.at) (list_there f room s.ends.stands s.ends.few s.ends.stops)
 
   by_room : (b c : Bool) → has (le2 e.now 20) 0x1000 ≡ b → leb 2 (length e.now - p) ≡ c → rest_at e r.attributes.bytes ≡ p + (if (if b then c else false) then 2 else 0)
       → announced e r ≡ (if (if b then c else false) then le2 e.now p else 0) → BehindAttributes e.now p (behind_attributes e r)
   by_room false c f g h z = subst (BehindAttributes e.now p) (sym (absent z (h ∙ add-zero p))) (list_unflagged f)
   by_room true false f g h z = subst (BehindAttributes e.now p) (sym (absent z (h ∙ add-zero p))) (list_short (let m = leb-false 2 (length e.now - p) g in omega arith))
-  by_room true true f g h z = there f (let m = leb-true 2 (length e.now - p) g in omega arith) z h
+  by_room true true f g h z = let room : p + 2 ≤ length e.now = (let m = leb-true 2 (length e.now - p) g in omega arith) in there f room (ends_there room z h)
 
   pub behind_list : BehindAttributes e.now p (behind_attributes e r)
   behind_list = by_room (has (le2 e.now 20) 0x1000) (leb 2 (length e.now - p)) refl refl i.attributes_at refl
+
+  -- what the reason says of how many are shown
+  none_shown : announced e r ≡ 0 → shown ≡ 0
+  none_shown z = by w
+    where
+      by : Shows r.attributes.bytes (announced e r) shown → shown ≡ 0
+      by (shows_all n) = n ∙ z
+      by (up_to why n g) = absurd (omega (arith, z))
+
+  some_shown : p + 2 ≤ length e.now → (x : Reason) → ShownEnds → IsAttributes e.now p x → has (le2 e.now 20) 0x1000 ≡ true → shown_of x ≡ shown
+  some_shown room x s (attributes_unflagged f) t = cc
+  some_shown room x s (attributes_short f h m) t = absurd (omega arith)
+  some_shown room x s (attributes_whole f h st) t = (same_end e.now p (at_count e.now p st) s.ends).0
+  some_shown room x s (attributes_refused f h st m o c) t = (same_end e.now p (at_cut e.now p st m c) s.ends).0
+  some_shown room x s (attributes_owed f h st m o c) t = omega (arith, (same_end e.now p (at_list_end e.now p _ st c) s.ends).0)
+
+  -- of a section that is absent
+  absent_shown : (x : Reason) → IsAttributes e.now p x → (has (le2 e.now 20) 0x1000 ≡ true → p + 2 ≤ length e.now → ⊥) → 0 ≡ shown → shown_of x ≡ shown
+  absent_shown x (attributes_unflagged f) not z = z
+  absent_shown x (attributes_short f h m) not z = z
+  absent_shown x (attributes_whole f h st) not z = absurd (not f h)
+  absent_shown x (attributes_refused f h st m o c) not z = absurd (not f h)
+  absent_shown x (attributes_owed f h st m o c) not z = absurd (not f h)
+
+  shown_by : (x : Reason) → IsAttributes e.now p x → (b c : Bool) → has (le2 e.now 20) 0x1000 ≡ b → leb 2 (length e.now - p) ≡ c → rest_at e r.attributes.bytes ≡ p + (if (if b then c else false) then 2 else 0)
+      → announced e r ≡ (if (if b then c else false) then le2 e.now p else 0) → shown_of x ≡ shown
+  shown_by x a false c f g h z = absent_shown x a (λ t room. let y : true ≡ false = sym t ∙ f in cc) (sym (none_shown z))
+  shown_by x a true false f g h z = absent_shown x a (λ t room. let m = leb-false 2 (length e.now - p) g in omega arith) (sym (none_shown z))
+  shown_by x a true true f g h z = let room : p + 2 ≤ length e.now = (let m = leb-true 2 (length e.now - p) g in omega arith) in some_shown room x (ends_there room z h) a f
+
+  pub attributes_shown : (x : Reason) → IsAttributes e.now p x → shown_of x ≡ shown
+  attributes_shown x a = shown_by x a (has (le2 e.now 20) 0x1000) (leb 2 (length e.now - p)) refl refl i.attributes_at refl
 
 pub attributes_true : (e : Bor (List ℕ)) (r : AdsSymbolInfo) → IsInside e r → behind_guid r ≤ length e.now → IsAttributes e.now (behind_guid r) (attributes_reason e r (behind_guid r))
 unfolding attributes_reason

@@ -20,9 +20,15 @@ pub enum Reason {
     /// Of a chain alone: its flag stands among the extended flags, and there are none.
     NoExtendedFlags,
     /// It is flagged, and too few bytes are left at the place where it would begin.
-    NoRoom { place: usize, left: usize },
+    NoRoom {
+        place: usize,
+        left: usize,
+    },
     /// It begins at this place and is shown whole: as many attributes as its count announces, every record of a chain; a GUID and extended flags are one.
-    Whole { place: usize, count: usize },
+    Whole {
+        place: usize,
+        count: usize,
+    },
     /// A record is refused: which of the list, counted from 0, where it begins, and why.
     Refused {
         record: usize,
@@ -30,7 +36,10 @@ pub enum Reason {
         why: Refusal,
     },
     /// Of attributes alone: the entry ends behind one, and so many of those that the count announces are owed.
-    Owed { announced: usize, owed: usize },
+    Owed {
+        announced: usize,
+        owed: usize,
+    },
 }
 
 /// Why the four sections of a symbol are as they are.

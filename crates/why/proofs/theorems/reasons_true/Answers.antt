@@ -1,4 +1,4 @@
-use Rattle.why.proofs.Theorems.{reasons_true}
+use Rattle.why.proofs.Explained.{reasons_true}
 use Rattle.why.proofs.theorems.reasons_true.Goals as goal
 
 pub returns : goal.returns
