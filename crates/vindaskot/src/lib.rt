@@ -2,6 +2,7 @@
 #![tactic(auto)]
 
 mod modes;
+mod reasons;
 mod types;
 
 ghost use Rattle.std.specs.Prelude.{◌≡◌, Ok};
