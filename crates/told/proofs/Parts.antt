@@ -1,5 +1,5 @@
 -- Where the records of a list lie in the bytes that it is read from, and what is told of them.
-use Rattle.std.proofs.Common.{ℕ, zero, suc, ◌+◌, ◌-◌, ◌<◌, ◌≡◌, refl, sym, ap, ◌∙◌, subst, List, [], ◌∷◌, length, get_or, Ok, Err, Result, arith, Bor}
+use Rattle.std.proofs.Common.{ℕ, zero, suc, ◌+◌, ◌-◌, ◌<◌, ◌≤◌, ◌≡◌, refl, sym, ap, ◌∙◌, subst, List, [], ◌∷◌, length, take, drop, get_or, Ok, Err, Result, arith, Bor, length-drop}
 use Rattle.part.specs.Slice.{part, after}
 use Rattle.part.specs.Outcome.{outcome}
 use Rattle.part.proofs.Slice.{after_after, part_after}

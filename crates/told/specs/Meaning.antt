@@ -1,6 +1,6 @@
 -- docs/FORMAT.md, "Symbol entries", "Field entries", "Attributes" and "Refactor records": what the slots of a record say of the bytes that it was read from,
 -- slot by slot, as bindings/c/vindaskot.h numbers them. A string, and what a list is read from, are the part of the bytes at the place told.
-use Rattle.std.specs.Prelude.{ℕ, ◌-◌, ◌≡◌, if◌then◌else◌, List, Option, Some, None, Ok, Err, Contains, get_or, length, replicate}
+use Rattle.std.specs.Prelude.{ℕ, ◌-◌, ◌<◌, ◌≡◌, if◌then◌else◌, List, Option, Some, None, Ok, Err, Contains, get_or, length, replicate}
 use Rattle.std.specs.Borrow.{Bor}
 use Rattle.le.specs.Le.{le2, le4}
 use Rattle.part.specs.Slice.{part, after}

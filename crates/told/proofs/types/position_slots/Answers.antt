@@ -1,4 +1,4 @@
-use Rattle.std.proofs.Common.{◌≡◌, ◌++◌, [], refl, ◌∙◌, rules, arith}
+use Rattle.std.proofs.Common.{ℕ, ◌≡◌, ◌∷◌, ◌++◌, [], List, length, get_or, refl, ◌∙◌, rules, arith}
 use Rattle.std.proofs.lemmas.List.{ext_get_or, append-nil}
 use Rattle.told.proofs.types.position_slots.Goals as goal
 
