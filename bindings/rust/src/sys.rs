@@ -67,7 +67,10 @@ pub const WHY_NO_FLAGS: u32 = 2;
 pub const WHY_NO_ROOM: u32 = 3;
 pub const WHY_WHOLE: u32 = 4;
 pub const WHY_REFUSED: u32 = 5;
-#[allow(dead_code, reason = "what is none of the others; tests/header.rs compares them")]
+#[allow(
+    dead_code,
+    reason = "what is none of the others; tests/header.rs compares them"
+)]
 pub const WHY_OWED: u32 = 6;
 
 pub const FIELD_LENGTH: usize = 0;

@@ -69,7 +69,10 @@ impl fmt::Display for Reason {
                 counted(f, count, "item")
             }
             Self::Refused { record, place, why } => {
-                write!(f, "its record {record}, at place {place}, is refused: {why}")
+                write!(
+                    f,
+                    "its record {record}, at place {place}, is refused: {why}"
+                )
             }
             Self::Owed { announced, owed } => {
                 write!(f, "the entry ends before ")?;

@@ -57,7 +57,12 @@ impl Model<'_> {
     }
 
     /// How long the record here is, by its least, its strings' lengths and what stands beside them.
-    fn record(&self, least: usize, strings: impl Fn() -> usize, cut: u32) -> Result<usize, Refusal> {
+    fn record(
+        &self,
+        least: usize,
+        strings: impl Fn() -> usize,
+        cut: u32,
+    ) -> Result<usize, Refusal> {
         let left = self.left();
         if left < least {
             return Err(refusal(2, least, left));
@@ -125,7 +130,10 @@ impl Model<'_> {
 /// Of an entry that the reader accepts.
 fn model(bytes: &[u8]) -> Reasons {
     let mut model = Model { bytes, at: 33 };
-    model.at += [24, 26, 28].map(|at| model.number(at, 2)).iter().sum::<usize>();
+    model.at += [24, 26, 28]
+        .map(|at| model.number(at, 2))
+        .iter()
+        .sum::<usize>();
     let flags = model.number(20, 2) as u16;
     let guid = model.fixed(flags & GUID != 0, 16);
     let attributes = model.attributes(flags & ATTRIBUTES != 0);
@@ -164,9 +172,15 @@ fn ask(data: &[u8]) -> Option<Reasons> {
     assert_eq!(reasons, model(info.as_bytes()));
     assert_eq!(info.reasons(), Ok(reasons));
     assert_eq!(shown(reasons.attributes, false), info.attributes().len());
-    assert_eq!(shown(reasons.refactor_infos, true), info.refactor_infos().len());
+    assert_eq!(
+        shown(reasons.refactor_infos, true),
+        info.refactor_infos().len()
+    );
     assert_eq!(reasons.guid.is_whole(), info.guid().is_some());
-    assert_eq!(reasons.extended_flags.is_whole(), info.extended_flags().is_some());
+    assert_eq!(
+        reasons.extended_flags.is_whole(),
+        info.extended_flags().is_some()
+    );
     if let Ok(checked) = AdsSymbolInfo::try_from_slice_in(data, Mode::Checked) {
         assert_eq!(ends::of_symbol(info.as_bytes()), None);
         assert_eq!(checked.reasons(), Ok(reasons));
@@ -195,22 +209,66 @@ fn each_reason_by_name() {
         (ATTRIBUTES, b"\x05", attributes(no_room(33, 1))),
         (ATTRIBUTES, b"\0\0", attributes(whole(33, 0))),
         (ATTRIBUTES, b"\x05\0", attributes(refused(0, 35, 2, 4, 0))),
-        (ATTRIBUTES, b"\x01\0\x01\x01u\0v\0", attributes(whole(33, 1))),
-        (ATTRIBUTES, b"\x05\x01\x01\x01u\0v\0", attributes(Owed { announced: 261, owed: 260 })),
-        (ATTRIBUTES, b"\x05\0\x01\x01u\0v\0\0\0\0", attributes(refused(1, 41, 2, 4, 3))),
-        (ATTRIBUTES, b"\x05\0\x01\x01u\0v\0\x02\x01\0\0\0\0", attributes(refused(1, 41, 1, 7, 6))),
-        (GUID | ATTRIBUTES, b"\x01\0\0\0\0\0", [no_room(33, 6), whole(33, 1), none[2], none[3]]),
-        (EXTENDED, b"\x04\0\0", [none[0], none[1], no_room(33, 3), NoExtendedFlags]),
+        (
+            ATTRIBUTES,
+            b"\x01\0\x01\x01u\0v\0",
+            attributes(whole(33, 1)),
+        ),
+        (
+            ATTRIBUTES,
+            b"\x05\x01\x01\x01u\0v\0",
+            attributes(Owed {
+                announced: 261,
+                owed: 260,
+            }),
+        ),
+        (
+            ATTRIBUTES,
+            b"\x05\0\x01\x01u\0v\0\0\0\0",
+            attributes(refused(1, 41, 2, 4, 3)),
+        ),
+        (
+            ATTRIBUTES,
+            b"\x05\0\x01\x01u\0v\0\x02\x01\0\0\0\0",
+            attributes(refused(1, 41, 1, 7, 6)),
+        ),
+        (
+            GUID | ATTRIBUTES,
+            b"\x01\0\0\0\0\0",
+            [no_room(33, 6), whole(33, 1), none[2], none[3]],
+        ),
+        (
+            EXTENDED,
+            b"\x04\0\0",
+            [none[0], none[1], no_room(33, 3), NoExtendedFlags],
+        ),
         (EXTENDED, b"\xFB\xFF\xFF\xFF\0", chain(NotFlagged)),
         (EXTENDED, b"\x04\0\0\0", chain(no_room(37, 0))),
         (EXTENDED, b"\x04\0\0\0\0\0", chain(refused(0, 37, 2, 7, 2))),
-        (EXTENDED, b"\x04\0\0\0\0\0\0\0\x01\0n\0", chain(whole(37, 1))),
-        (EXTENDED, b"\x04\0\0\0\0\0\0\x01\0\0\0\0\0\0\0\0\0\0", chain(whole(37, 2))),
-        (EXTENDED, b"\x04\0\0\0\0\0\0\x01\0\0\0\0\0\0\0\x02\0n\0", chain(refused(1, 44, 2, 9, 8))),
+        (
+            EXTENDED,
+            b"\x04\0\0\0\0\0\0\0\x01\0n\0",
+            chain(whole(37, 1)),
+        ),
+        (
+            EXTENDED,
+            b"\x04\0\0\0\0\0\0\x01\0\0\0\0\0\0\0\0\0\0",
+            chain(whole(37, 2)),
+        ),
+        (
+            EXTENDED,
+            b"\x04\0\0\0\0\0\0\x01\0\0\0\0\0\0\0\x02\0n\0",
+            chain(refused(1, 44, 2, 9, 8)),
+        ),
         (
             ATTRIBUTES | EXTENDED,
             b"\x01\0\x04\0\0\0",
-            [none[0], refused(0, 35, 1, 8, 4), whole(35, 1), no_room(39, 0)],
+            [
+                none[0],
+                refused(0, 35, 1, 8, 4),
+                whole(35, 1),
+                no_room(39, 0),
+            ],
         ),
     ];
     for (flags, tail, [guid, attributes, extended_flags, refactor_infos]) in cases {
@@ -241,15 +299,25 @@ fn reasons_in_words() {
             "it is flagged, and the entry has only 1 byte left at place 33, where it would begin",
         ),
         (
-            Reason::Whole { place: 33, count: 0 },
+            Reason::Whole {
+                place: 33,
+                count: 0,
+            },
             "it begins at place 33 and is whole, with 0 items",
         ),
         (
-            Reason::Refused { record: 1, place: 41, why: refusal(1, 7, 6) },
+            Reason::Refused {
+                record: 1,
+                place: 41,
+                why: refusal(1, 7, 6),
+            },
             "its record 1, at place 41, is refused: refusal 1, unexpected length: 7 needed, 6 present",
         ),
         (
-            Reason::Owed { announced: 261, owed: 260 },
+            Reason::Owed {
+                announced: 261,
+                owed: 260,
+            },
             "the entry ends before 260 records of the 261 announced",
         ),
     ];
