@@ -8,6 +8,7 @@
  *   boundary_edges.c   empty slices, every length lent, names that are nearly alike, the limits
  *   boundary_case.c    symbols by names in another case
  *   boundary_high.c    bytes 22 and 23 of a symbol
+ *   boundary_why.c     why a section of a symbol is there or not
  *   boundary_ends.c    end bytes, which the checked mode looks at
  *   boundary_kinds.c   which of the end bytes an answer is about, so that each kind is counted
  *   boundary_salvage.c what is kept of a damaged upload, and what is dropped
@@ -56,6 +57,17 @@ enum group {
     HIGHS_READ,
     HIGHS_WRITTEN,
     HIGHS_APART,
+    WHYS,
+    WHY_NOT_FLAGGED,
+    WHY_NO_FLAGS,
+    WHY_NO_ROOM,
+    WHY_WHOLE,
+    WHY_NONE_ANNOUNCED,
+    WHY_REFUSED,
+    WHY_END_BEHIND_COUNT,
+    WHY_OWED,
+    WHY_SHOWN,
+    WHY_ACCEPTED,
     STAYS,
     ENDS,
     ENDS_APART,
@@ -198,6 +210,7 @@ enum function {
     SYMBOL_ATTRIBUTE,
     SYMBOL_REFACTOR_INFO,
     SYMBOL_ATTRIBUTE_NAMED,
+    SYMBOL_WHY,
     FIELD_READ,
     FIELD_STEP,
     FIELD_ATTRIBUTE,
@@ -264,6 +277,9 @@ const char *name_of(enum function function);
 bool all_seen(enum function function);
 void begin_calls(void);
 
+/* The sections of a symbol, in the order in which it has them. */
+enum section { GUID_SECTION, ATTRIBUTES_SECTION, EXTENDED_SECTION, CHAIN_SECTION, SECTIONS };
+
 /* All that a call told. What it does not tell is 0. */
 struct told {
     enum function function;
@@ -272,6 +288,7 @@ struct told {
     uint64_t slots[VINDASKOT_SYMBOL_SLOTS];
     uint8_t guid[16];
     uint64_t path[VINDASKOT_PATH_SLOTS];
+    uint64_t whys[SECTIONS][VINDASKOT_WHY_SLOTS];
     size_t cursor;
     size_t steps;
 };
@@ -299,6 +316,7 @@ struct told call_symbol_step(struct bytes bytes, size_t cursor);
 struct told call_symbol_attribute(struct bytes bytes, size_t number);
 struct told call_symbol_refactor_info(struct bytes bytes, size_t number);
 struct told call_symbol_attribute_named(struct bytes bytes, struct bytes name);
+struct told call_symbol_why(struct bytes bytes);
 struct told call_field_read(struct bytes bytes);
 struct told call_field_step(struct bytes bytes, size_t cursor);
 struct told call_field_attribute(struct bytes bytes, size_t number);
@@ -364,6 +382,7 @@ struct told model_symbol_step(struct bytes bytes, size_t cursor);
 struct told model_symbol_attribute(struct bytes bytes, size_t number);
 struct told model_symbol_refactor_info(struct bytes bytes, size_t number);
 struct told model_symbol_attribute_named(struct bytes bytes, struct bytes name);
+struct told model_symbol_why(struct bytes bytes);
 struct told model_field_read(struct bytes bytes);
 struct told model_field_step(struct bytes bytes, size_t cursor);
 struct told model_field_attribute(struct bytes bytes, size_t number);
@@ -508,6 +527,8 @@ void miss_case(struct room name);
 void try_edges(void);
 void try_capitals(void);
 void try_highs(void);
+void try_whys(void);
+void try_why(struct bytes bytes);
 void try_ends(void);
 void try_salvages(void);
 void try_salvage(struct bytes bytes);

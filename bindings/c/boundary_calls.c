@@ -37,6 +37,7 @@ static const struct {
     [SYMBOL_REFACTOR_INFO] = {"vindaskot_symbol_refactor_info", OF_REFACTOR, false, false, false, DIRECT | NUMBER(14)},
     [SYMBOL_ATTRIBUTE_NAMED] = {"vindaskot_symbol_attribute_named", OF_ATTRIBUTE, false, false, false,
                                 DIRECT | NUMBER(13)},
+    [SYMBOL_WHY] = {"vindaskot_symbol_why", 0, false, false, false, DIRECT},
     [FIELD_READ] = {"vindaskot_field_read", OF_FIELD, true, false, false, DIRECT | NUMBER(1)},
     [FIELD_STEP] = {"vindaskot_field_step", OF_FIELD, true, true, false, STEP | NUMBER(1)},
     [FIELD_ATTRIBUTE] = {"vindaskot_field_attribute", OF_ATTRIBUTE, false, false, false,
@@ -119,6 +120,12 @@ static bool tells_path(enum function function)
     return function == TYPE_MEMBER_IN;
 }
 
+/* The one function that tells reasons. */
+static bool tells_why(enum function function)
+{
+    return function == SYMBOL_WHY;
+}
+
 enum function calling = FUNCTIONS;
 uint64_t calls[FUNCTIONS];
 
@@ -142,6 +149,10 @@ static struct frame {
     uint64_t guard5[4];
     uint64_t path[VINDASKOT_PATH_SLOTS];
     uint64_t guard6[4];
+    struct {
+        uint64_t slots[VINDASKOT_WHY_SLOTS];
+        uint64_t guard[4];
+    } whys[SECTIONS];
 } blank, lent;
 
 void begin_calls(void)
@@ -207,6 +218,10 @@ static struct told finish(enum function f, uint32_t status)
         memcpy(may.path, lent.path, sizeof may.path);
         memcpy(told.path, lent.path, sizeof may.path);
     }
+    for (size_t i = 0; status == VINDASKOT_DONE && tells_why(f) && i < SECTIONS; i++) {
+        memcpy(may.whys[i].slots, lent.whys[i].slots, sizeof may.whys[i].slots);
+        memcpy(told.whys[i], lent.whys[i].slots, sizeof told.whys[i]);
+    }
     CHECK(FRAMES, memcmp(&may, &lent, sizeof may) == 0,
           "%s changed what it may not: slots, guid, path or a guard word (status %u)", functions[f].name,
           (unsigned)status);
@@ -245,7 +260,8 @@ void same_at(const char *file, int line, enum group group, struct told got, stru
         slot++;
     bool same = got.status == want.status && got.answer[0] == want.answer[0] && got.answer[1] == want.answer[1] &&
                 got.cursor == want.cursor && got.steps == want.steps && slot == VINDASKOT_SYMBOL_SLOTS &&
-                memcmp(got.guid, want.guid, sizeof got.guid) == 0 && memcmp(got.path, want.path, sizeof got.path) == 0;
+                memcmp(got.guid, want.guid, sizeof got.guid) == 0 &&
+                memcmp(got.path, want.path, sizeof got.path) == 0 && memcmp(got.whys, want.whys, sizeof got.whys) == 0;
     if (same) {
         checks[group]++;
         return;
@@ -262,6 +278,7 @@ void same_at(const char *file, int line, enum group group, struct told got, stru
         (unsigned long long)want.answer[0], (unsigned long long)want.answer[1], want.cursor, want.steps, more,
         memcmp(got.guid, want.guid, sizeof got.guid) != 0   ? "; another guid"
         : memcmp(got.path, want.path, sizeof got.path) != 0 ? "; another path"
+        : memcmp(got.whys, want.whys, sizeof got.whys) != 0 ? "; another reason"
                                                             : "");
 }
 
@@ -311,6 +328,14 @@ struct told call_symbol_attribute_named(struct bytes b, struct bytes n)
 {
     IN_MODE(SYMBOL_ATTRIBUTE_NAMED, 0, vindaskot_symbol_attribute_named(b.at, b.len, n.at, n.len, f->slots, f->answer),
             vindaskot_symbol_attribute_named_in(b.at, b.len, mode == CHECKED, n.at, n.len, f->slots, f->answer));
+}
+
+struct told call_symbol_why(struct bytes b)
+{
+    struct frame *f = begin(SYMBOL_WHY, 0);
+    return finish(SYMBOL_WHY, vindaskot_symbol_why(b.at, b.len, f->whys[GUID_SECTION].slots,
+                                                   f->whys[ATTRIBUTES_SECTION].slots, f->whys[EXTENDED_SECTION].slots,
+                                                   f->whys[CHAIN_SECTION].slots, f->answer));
 }
 
 struct told call_field_read(struct bytes b)

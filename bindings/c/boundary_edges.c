@@ -38,6 +38,7 @@ static void empty_reads(struct bytes none)
     SAME(EMPTY, call_symbol_read(none), refused(2, 30, 0));
     SAME(EMPTY, call_symbol_attribute(none, 0), refused(2, 30, 0));
     SAME(EMPTY, call_symbol_refactor_info(none, 0), refused(2, 30, 0));
+    SAME(EMPTY, call_symbol_why(none), refused(2, 30, 0));
     SAME(EMPTY, call_symbol_attribute_named(none, none), refused(2, 30, 0));
     SAME(EMPTY, call_field_read(none), refused(2, 42, 0));
     SAME(EMPTY, call_field_attribute(none, 0), refused(2, 42, 0));
@@ -659,12 +660,14 @@ static void refused_symbols(void)
     SAME(READS, call_symbol_read(b), refused(3, 31, 30));
     SAME(NUMBERED, call_symbol_attribute(b, 0), refused(3, 31, 30));
     SAME(NUMBERED, call_symbol_refactor_info(b, 0), refused(3, 31, 30));
+    SAME(WHYS, call_symbol_why(b), refused(3, 31, 30));
     ask(b, text(""), refused(3, 31, 30), call_symbol_attribute_named);
     SAME(WALKS, call_symbol_step(b, 0), moved(refused(3, 31, 30), 30));
     b = claiming(29, 30);
     SAME(READS, call_symbol_read(b), refused(4, 30, 29));
     SAME(NUMBERED, call_symbol_attribute(b, 0), refused(4, 30, 29));
     SAME(NUMBERED, call_symbol_refactor_info(b, 0), refused(4, 30, 29));
+    SAME(WHYS, call_symbol_why(b), refused(4, 30, 29));
     ask(b, text(""), refused(4, 30, 29), call_symbol_attribute_named);
     SAME(WALKS, call_symbol_step(b, 0), moved(refused(2, 30, 29), 29));
     b = lay(UPLOAD, (struct bytes){one_symbol, sizeof one_symbol});
@@ -725,6 +728,7 @@ static void try_mode(void)
     try_names();
     try_capitals();
     try_highs();
+    try_whys();
     try_ends();
     try_salvages();
     try_rooms();
@@ -785,6 +789,7 @@ static void limit_symbol(size_t len)
           (unsigned long long)read.slots[VINDASKOT_SYMBOL_UNREAD]);
     SAME(LIMITS, call_symbol_attribute(b, 1), at_limit(len, model_symbol_attribute(b, 1)));
     SAME(LIMITS, call_symbol_refactor_info(b, 1), at_limit(len, model_symbol_refactor_info(b, 1)));
+    SAME(LIMITS, call_symbol_why(b), at_limit(len, model_symbol_why(b)));
     struct bytes name = lay(NAME, rich.names[1]);
     SAME(LIMITS, call_symbol_attribute_named(b, name), at_limit(len, model_symbol_attribute_named(b, name)));
     SAME(LIMITS, call_symbol_attribute_named(b, letters(NAME, len)), at_limit(len, refused(13, 0, 0)));

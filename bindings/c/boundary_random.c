@@ -249,6 +249,7 @@ static void try_symbol(struct bytes b)
                 model_symbol_attribute);
     try_numbers(b, length, s[VINDASKOT_SYMBOL_REFACTOR_COUNT], a_refactor, call_symbol_refactor_info,
                 model_symbol_refactor_info);
+    try_why(b);
     try_names(b, &of_symbol, told);
     if (told.status == 16)
         try_refused_names(b, &of_symbol, present);

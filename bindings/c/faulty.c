@@ -9,6 +9,15 @@
 
 #include "vindaskot.h"
 
+#if FAULT > 310
+/* What the explanation of a symbol takes, and the right one. */
+#define EXPLAINS                                                                                                       \
+    const uint8_t *bytes, size_t bytes_len, uint64_t *guid, uint64_t *attributes, uint64_t *extended_flags,            \
+        uint64_t *chain, uint64_t *answer
+#define EXPLAINED __real_vindaskot_symbol_why(bytes, bytes_len, guid, attributes, extended_flags, chain, answer)
+uint32_t __real_vindaskot_symbol_why(EXPLAINS);
+#endif
+
 #if FAULT > 15 && FAULT < 20 && FAULT != 18
 /* The attributes that these look at: each call reads the entry anew, and there can be 65,535. */
 enum { FEW = 99 };
@@ -2932,6 +2941,100 @@ uint32_t __real_vindaskot_type_find_ordered_in(BYTES, INDEX, NAMED, uint64_t *an
 uint32_t __wrap_vindaskot_type_find_ordered_in(BYTES, INDEX, NAMED, uint64_t *answer)
 {
     return __real_vindaskot_type_find_ordered_in(bytes, bytes_len, !checked, starts, count, name, name_len, answer);
+}
+
+#elif FAULT == 319 /* attributes without room are told as not flagged */
+uint32_t __wrap_vindaskot_symbol_why(EXPLAINS)
+{
+    uint32_t status = EXPLAINED;
+    if (status == VINDASKOT_DONE && attributes[VINDASKOT_WHY_REASON] == VINDASKOT_WHY_NO_ROOM)
+        memcpy(attributes, (uint64_t[6]){VINDASKOT_WHY_NOT_FLAGGED}, 48);
+    return status;
+}
+
+#elif FAULT == 320 /* one attribute more is told as owed */
+uint32_t __wrap_vindaskot_symbol_why(EXPLAINS)
+{
+    uint32_t status = EXPLAINED;
+    if (status == VINDASKOT_DONE && attributes[VINDASKOT_WHY_REASON] == VINDASKOT_WHY_OWED)
+        attributes[VINDASKOT_WHY_SECOND]++;
+    return status;
+}
+
+#elif FAULT == 321 /* where the entry ends behind the count, attributes are told as owed */
+uint32_t __wrap_vindaskot_symbol_why(EXPLAINS)
+{
+    uint32_t status = EXPLAINED;
+    if (status == VINDASKOT_DONE && attributes[VINDASKOT_WHY_REASON] == VINDASKOT_WHY_REFUSED &&
+        attributes[VINDASKOT_WHY_GOT] == 0)
+        memcpy(attributes, (uint64_t[6]){VINDASKOT_WHY_OWED, 1, 1}, 48);
+    return status;
+}
+
+#elif FAULT == 322 /* the place of a refused attribute counts from the upload's end */
+uint32_t __wrap_vindaskot_symbol_why(EXPLAINS)
+{
+    uint32_t status = EXPLAINED;
+    if (status == VINDASKOT_DONE && attributes[VINDASKOT_WHY_REASON] == VINDASKOT_WHY_REFUSED)
+        attributes[VINDASKOT_WHY_FIRST] = bytes_len - attributes[VINDASKOT_WHY_FIRST];
+    return status;
+}
+
+#elif FAULT == 323 /* records that are refused are numbered from 1 */
+uint32_t __wrap_vindaskot_symbol_why(EXPLAINS)
+{
+    uint32_t status = EXPLAINED;
+    if (status == VINDASKOT_DONE && chain[VINDASKOT_WHY_REASON] == VINDASKOT_WHY_REFUSED)
+        chain[VINDASKOT_WHY_SECOND]++;
+    return status;
+}
+
+#elif FAULT == 324 /* attributes that are owed are told as all that are announced */
+uint32_t __wrap_vindaskot_symbol_why(EXPLAINS)
+{
+    uint32_t status = EXPLAINED;
+    if (status == VINDASKOT_DONE && attributes[VINDASKOT_WHY_REASON] == VINDASKOT_WHY_OWED)
+        memcpy(attributes, (uint64_t[6]){VINDASKOT_WHY_WHOLE, 33, attributes[1] - attributes[2]}, 48);
+    return status;
+}
+
+#elif FAULT == 325 /* the figures of a refused record are exchanged */
+uint32_t __wrap_vindaskot_symbol_why(EXPLAINS)
+{
+    uint32_t status = EXPLAINED;
+    if (status == VINDASKOT_DONE && attributes[VINDASKOT_WHY_REASON] == VINDASKOT_WHY_REFUSED) {
+        uint64_t expected = attributes[VINDASKOT_WHY_EXPECTED];
+        attributes[VINDASKOT_WHY_EXPECTED] = attributes[VINDASKOT_WHY_GOT];
+        attributes[VINDASKOT_WHY_GOT] = expected;
+    }
+    return status;
+}
+
+#elif FAULT == 326 /* the reasons of a refused symbol are written over */
+uint32_t __wrap_vindaskot_symbol_why(EXPLAINS)
+{
+    uint32_t status = EXPLAINED;
+    if (status != VINDASKOT_DONE)
+        chain[VINDASKOT_WHY_REASON] = 0;
+    return status;
+}
+
+#elif FAULT == 327 /* a chain without a byte is told as refused */
+uint32_t __wrap_vindaskot_symbol_why(EXPLAINS)
+{
+    uint32_t status = EXPLAINED;
+    if (status == VINDASKOT_DONE && chain[VINDASKOT_WHY_REASON] == VINDASKOT_WHY_NO_ROOM)
+        memcpy(chain, (uint64_t[6]){VINDASKOT_WHY_REFUSED, chain[1], 0, 2, 7, 0}, 48);
+    return status;
+}
+
+#elif FAULT == 328 /* the extended flags are told where they end */
+uint32_t __wrap_vindaskot_symbol_why(EXPLAINS)
+{
+    uint32_t status = EXPLAINED;
+    if (status == VINDASKOT_DONE && extended_flags[VINDASKOT_WHY_REASON] == VINDASKOT_WHY_WHOLE)
+        extended_flags[VINDASKOT_WHY_FIRST] += 4;
+    return status;
 }
 
 #elif FAULT == 0

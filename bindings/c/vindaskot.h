@@ -201,6 +201,45 @@ uint32_t vindaskot_symbol_attribute_named(const uint8_t *bytes, size_t bytes_len
                                           size_t name_len, uint64_t slots[VINDASKOT_AT_LEAST 5],
                                           uint64_t answer[VINDASKOT_AT_LEAST 2]);
 
+/* Why a section is there or not, and why a list shows no more: what a reason's slots hold. Places are in the entry.
+ *   NOT_FLAGGED  its flag is not set; a chain's is that of refactor records among the extended flags
+ *   NO_FLAGS     of a chain: there are no extended flags, which would flag it
+ *   NO_ROOM      it is flagged, and fewer bytes are left than it has at least: 16 of a GUID, 2 of attributes, 4 of
+ *                extended flags, 1 of a chain. FIRST is the place where it would begin, SECOND the bytes left there
+ *   WHOLE        it begins at place FIRST, where the attributes' count stands, and is shown whole. SECOND is how many
+ *                attributes their count announces, which may be 0, or how many records a chain has; else it is 1
+ *   REFUSED      of attributes, whose list it ends, and of a chain, which it drops: the record at place FIRST is
+ *                refused. SECOND is which of the list it is, from 0; NUMBER, EXPECTED and GOT are its refusal. Where the
+ *                entry ends straight behind the count, attribute 0 is refused: 2 (4, 0)
+ *   OWED         of attributes: the entry ends behind one. FIRST is how many are announced, SECOND how many are owed
+ * A slot that is not named with a reason is 0. */
+enum {
+    VINDASKOT_WHY_REASON, /* one of those below */
+    VINDASKOT_WHY_FIRST,
+    VINDASKOT_WHY_SECOND,
+    VINDASKOT_WHY_NUMBER,
+    VINDASKOT_WHY_EXPECTED,
+    VINDASKOT_WHY_GOT,
+    VINDASKOT_WHY_SLOTS
+};
+#define VINDASKOT_WHY_NOT_FLAGGED 1u
+#define VINDASKOT_WHY_NO_FLAGS 2u
+#define VINDASKOT_WHY_NO_ROOM 3u
+#define VINDASKOT_WHY_WHOLE 4u
+#define VINDASKOT_WHY_REFUSED 5u
+#define VINDASKOT_WHY_OWED 6u
+
+/* Why each section of the symbol entry at the start of bytes is there or not: exactly one reason each, in slots of its
+ * own. A section that has no room moves nothing, and a refused attribute ends its list: the next section is looked for
+ * at that same place. The reasons are those of the present mode, and the same where the checked mode accepts the entry.
+ * Refusals: those of vindaskot_symbol_read_2. */
+uint32_t vindaskot_symbol_why(const uint8_t *bytes, size_t bytes_len,
+                              uint64_t guid[VINDASKOT_AT_LEAST 6],
+                              uint64_t attributes[VINDASKOT_AT_LEAST 6],
+                              uint64_t extended_flags[VINDASKOT_AT_LEAST 6],
+                              uint64_t chain[VINDASKOT_AT_LEAST 6],
+                              uint64_t answer[VINDASKOT_AT_LEAST 2]);
+
 /* ---- Fields ---- */
 
 /* What a field's slots hold. */

@@ -22,6 +22,7 @@ mod sys;
 pub mod text;
 mod told;
 pub mod walk;
+pub mod why;
 
 pub use attributes::{AdsAttribute, AdsAttributes, AttributeWriter};
 pub use block::Block;
@@ -40,3 +41,4 @@ pub use salvage::{Run, Runs, Salvage, salvage, salvage_in};
 pub use salvage::{Salvaged, salvage_to_vec, salvage_to_vec_in};
 pub use symbol::{AdsSymbolInfo, AdsSymbolInfoIterator, SymbolNumbers, SymbolParts};
 pub use walk::{WalkEnd, Walked, walk};
+pub use why::{Reason, Reasons};

@@ -54,6 +54,25 @@ pub const REFACTOR_NAME_LEN: usize = 3;
 pub const REFACTOR_NEXT: usize = 4;
 pub const REFACTOR_SLOTS: usize = 5;
 
+pub const WHY_REASON: usize = 0;
+pub const WHY_FIRST: usize = 1;
+pub const WHY_SECOND: usize = 2;
+pub const WHY_NUMBER: usize = 3;
+pub const WHY_EXPECTED: usize = 4;
+pub const WHY_GOT: usize = 5;
+pub const WHY_SLOTS: usize = 6;
+
+pub const WHY_NOT_FLAGGED: u32 = 1;
+pub const WHY_NO_FLAGS: u32 = 2;
+pub const WHY_NO_ROOM: u32 = 3;
+pub const WHY_WHOLE: u32 = 4;
+pub const WHY_REFUSED: u32 = 5;
+#[allow(
+    dead_code,
+    reason = "what is none of the others; tests/header.rs compares them"
+)]
+pub const WHY_OWED: u32 = 6;
+
 pub const FIELD_LENGTH: usize = 0;
 pub const FIELD_VERSION: usize = 1;
 pub const FIELD_HASH_VALUE: usize = 2;
@@ -171,6 +190,15 @@ unsafe extern "C" {
         name: *const u8,
         name_len: usize,
         slots: &mut [u64; 5],
+        answer: &mut [u64; 2],
+    ) -> u32;
+    pub fn vindaskot_symbol_why(
+        bytes: *const u8,
+        bytes_len: usize,
+        guid: &mut [u64; 6],
+        attributes: &mut [u64; 6],
+        extended_flags: &mut [u64; 6],
+        chain: &mut [u64; 6],
         answer: &mut [u64; 2],
     ) -> u32;
     pub fn vindaskot_field_read(

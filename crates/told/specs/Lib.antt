@@ -8,3 +8,4 @@ pub mod One
 pub mod Meaning
 pub mod TypeMeaning
 pub mod Calls
+pub mod Reasons

@@ -2,6 +2,7 @@
 #![tactic(auto)]
 
 pub mod fields;
+pub mod reasons;
 pub mod records;
 pub mod symbols;
 pub mod theorems;

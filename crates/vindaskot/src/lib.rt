@@ -3,6 +3,7 @@
 
 mod modes;
 mod names;
+mod reasons;
 mod types;
 
 ghost use Rattle.std.specs.Prelude.{◌≡◌, Ok};
