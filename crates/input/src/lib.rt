@@ -1,4 +1,4 @@
-// What a program reads of an input that comes as it will: as many bytes as a buffer has room for.
+//! What a program reads of an input that comes as it will: as many bytes as a buffer has room for.
 #![tactic(auto)]
 
 ghost use Rattle.std.specs.Prelude.{◌≡◌, ◌<◌, ◌≤◌, IfOk, length, take};
@@ -7,7 +7,8 @@ ghost use Rattle.std.specs.Io.KnownBytes.{Consumes, IsAtEnd};
 use std::io;
 use std::io::{ErrorKind, Read};
 
-// Fills the buffer, and answers how many bytes stand in it: fewer only where the input ends. Where a signal interrupts a read, it reads again.
+/// Fills the buffer, and answers how many bytes stand in it: fewer only where the input ends. Where a signal interrupts a read, it reads
+/// again; any other error of a read is passed on, and the buffer then holds what was read before.
 pub fn fill<R: Read>(input: &mut R, buf: &mut [u8]) -> io::Result<usize>
     ensures within { IfOk result (λ n. n ≤ length buf.new) }
     ensures long { length buf.new ≡ length buf.old }
