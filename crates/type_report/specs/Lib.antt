@@ -1,0 +1,5 @@
+pub mod Joined
+pub mod Marks
+pub mod Node
+pub mod Json
+pub mod Counts

@@ -1,0 +1,4 @@
+pub mod Marked
+pub mod Stepping
+pub mod Counting
+pub mod Trees
