@@ -51,18 +51,19 @@ given u name place h =
       first_there = record { first = f; given = is; letters = (same-by-letters f.has.symbol.name.now name).0 f.has.named };
     }
 
+-- a name that finding refuses is not answered
+not_both : (u : Upload) (name : List ℕ) (f : Found) (why : Refusal) → find u.mode u.bytes name ≡ Err why → named u name ≡ Ok f → ⊥
+unfolding named
+not_both u name f why e h =
+    let k : Err why ≡ Ok f = sym (ap (λ r. and_then r (λ at. symbol_at at (step_at (symbol_of u.mode) u.bytes at).answer)) e) ∙ h in
+    cc
+
 first_by : (u : Upload) (name : List ℕ) (f : Found) (r : Result ℕ Refusal) → find u.mode u.bytes name ≡ r → named u name ≡ Ok f → IsFirst u name f
 first_by u name f (Ok place) e h =
     let g = given u name place e in
     let same : record { at = place; symbol = g.symbol } ≡ f = cc (g.answered, h) in
     subst (IsFirst u name) same g.first_there
 first_by u name f (Err why) e h = absurd (not_both u name f why e h)
-  where
-    not_both : (u : Upload) (name : List ℕ) (f : Found) (why : Refusal) → find u.mode u.bytes name ≡ Err why → named u name ≡ Ok f → ⊥
-    unfolding named
-    not_both u name f why e h =
-        let k : Err why ≡ Ok f = sym (ap (λ r. and_then r (λ at. symbol_at at (step_at (symbol_of u.mode) u.bytes at).answer)) e) ∙ h in
-        cc
 
 pub named_meant : NamedMeant
 unfolding named
