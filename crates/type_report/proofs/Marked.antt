@@ -1,6 +1,6 @@
 -- Words one by one are the words of the list that has those that are set.
 use Rattle.std.proofs.Common.{◌≡◌, ℕ, Bool, true, false, List, [], ◌∷◌, ◌++◌, refl, sym, ap, ◌∙◌, append_assoc, append-nil}
-use Rattle.std.specs.Prelude.{◌||◌, codes, if◌then◌else◌}
+use Rattle.std.specs.Prelude.{◌||◌, codes}
 use Rattle.le.specs.Le.{has}
 use Rattle.type_report.specs.declared.marks.Marks.{Marks}
 use Rattle.type_report.specs.Joined.{more, joined, placed}
@@ -38,7 +38,7 @@ module _ (between quote : List ℕ) where
 
   pub four : (follows a b c d : Bool) (p q r s : List ℕ)
       → word_text follows a between quote p ++ (word_text (follows || a) b between quote q ++ (word_text (follows || a || b) c between quote r ++ word_text (follows || a || b || c) d between quote s))
-        ≡ placed follows between in_quotes (said a p ++ (said b q ++ (said c r ++ said d s)))
+      ≡ placed follows between in_quotes (said a p ++ (said b q ++ (said c r ++ said d s)))
   four follows a b c d p q r s =
       ap (λ x. word_text follows a between quote p ++ (word_text (follows || a) b between quote q ++ (word_text (follows || a || b) c between quote r ++ x))) (last (follows || a || b || c) d s)
       ∙ ap (λ x. word_text follows a between quote p ++ (word_text (follows || a) b between quote q ++ x)) (one (follows || a || b) c r (said d s))
@@ -48,9 +48,9 @@ module _ (between quote : List ℕ) where
 pub words : (between quote prefix : List ℕ) (flags : ℕ) (follows a b c d : Bool)
     → a ≡ has flags 0x20 → b ≡ has flags 0x20000 → c ≡ has flags 4 → d ≡ has flags 0x40
     → word_text follows a between quote (prefix ++ codes "bits")
-      ++ (word_text (follows || a) b between quote (prefix ++ codes "static")
-      ++ (word_text (follows || a || b) c between quote (prefix ++ codes "reference") ++ word_text (follows || a || b || c) d between quote (prefix ++ codes "property")))
-      ≡ words_text follows between quote prefix flags
+    ++ (word_text (follows || a) b between quote (prefix ++ codes "static")
+    ++ (word_text (follows || a || b) c between quote (prefix ++ codes "reference") ++ word_text (follows || a || b || c) d between quote (prefix ++ codes "property")))
+    ≡ words_text follows between quote prefix flags
 unfolding words_text words_of
 words between quote prefix flags follows a b c d is_a is_b is_c is_d =
     let f : List ℕ → List ℕ = λ w. quote ++ (w ++ quote) in

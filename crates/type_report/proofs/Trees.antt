@@ -1,5 +1,5 @@
 -- An object with so many levels below it.
-use Rattle.std.proofs.Common.{ℕ, zero, suc, ◌-◌, ◌<◌, ◌≡◌, List, ◌++◌, codes, sym, ap, ◌∙◌, append_assoc, arith}
+use Rattle.std.proofs.Common.{ℕ, zero, suc, ◌-◌, ◌<◌, ◌≡◌, List, ◌++◌, codes, ap, ◌∙◌, append_assoc, arith}
 use Rattle.refusal.specs.declared.Mode.{Mode}
 use Rattle.type_report.specs.declared.node.Node.{Node}
 use Rattle.type_report.specs.Joined.{joined}

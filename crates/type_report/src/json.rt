@@ -26,10 +26,7 @@ impl fmt::Display for Own<'_> {
         let numbers = Numbers(self.0);
         let shape = Shape(self.0);
         let maker = Maker(&self.0.info.field);
-        write!(
-            f,
-            "\"place\":{place},{strings},{numbers},{shape},{maker}"
-        )?;
+        write!(f, "\"place\":{place},{strings},{numbers},{shape},{maker}")?;
         let guid = GuidOrNull(&self.0.info.field.guid);
         let attributes = AttributeObjects(self.0.info.field.attributes);
         write!(f, ",\"guid\":{guid},\"attributes\":[{attributes}]")

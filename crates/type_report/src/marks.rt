@@ -80,10 +80,7 @@ impl Words {
         ensures { result ≡ is_any self.flags.0 }
     {
         let flags = self.flags;
-        flags.is_bit_values()
-            | flags.is_static()
-            | flags.is_reference_to()
-            | flags.is_prop_item()
+        flags.is_bit_values() | flags.is_static() | flags.is_reference_to() | flags.is_prop_item()
     }
 }
 
@@ -99,7 +96,12 @@ impl fmt::Display for Words {
         let fixed = Word(self, is_static, self.follows | is_bits, "static");
         let follows = self.follows | is_bits | is_static;
         let reference = Word(self, is_reference, follows, "reference");
-        let property = Word(self, flags.is_prop_item(), follows | is_reference, "property");
+        let property = Word(
+            self,
+            flags.is_prop_item(),
+            follows | is_reference,
+            "property",
+        );
         write!(f, "{bits}{fixed}{reference}{property}")
     }
 }

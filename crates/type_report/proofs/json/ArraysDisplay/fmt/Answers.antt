@@ -1,4 +1,4 @@
-use Rattle.std.proofs.Common.{[], ◌++◌, codes, sym, ap, rules}
+use Rattle.std.proofs.Common.{codes, sym, ap, rules}
 use Rattle.std.proofs.Output.{has_written_of_eq}
 use Rattle.type_report.specs.Joined.{joined}
 use Rattle.type_report.specs.Json.{array_text}

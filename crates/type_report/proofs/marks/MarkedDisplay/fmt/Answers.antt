@@ -1,4 +1,3 @@
-use Rattle.std.proofs.Common.{rules}
 use Rattle.std.proofs.Output.{has_written_of_eq}
 use Rattle.type_report.proofs.Marked.{both}
 use Rattle.type_report.proofs.marks.MarkedDisplay.fmt.Goals as goal

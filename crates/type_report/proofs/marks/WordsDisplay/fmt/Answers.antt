@@ -6,5 +6,5 @@ pub returns-clause-writes : goal.returns-clause-writes
 returns-clause-writes g c = λ plain ok.
     let w = c.args.self.now in
     has_written_of_eq _ _ _ _ _
-    (words w.style.between.now w.style.quote.now w.prefix.now w.flags.0 w.follows _ _ _ _ c.is_bit_values.ensures c.is_static.ensures c.is_reference_to.ensures c.is_prop_item.ensures)
+    (words w.style.between.now w.style.quote.now w.prefix.now w.flags.0 w.follows _ _ _ _ c.is_bit_values-is_bits.ensures c.is_static-is_static.ensures c.is_reference_to-is_reference.ensures c.is_prop_item.ensures)
     (c.write.ensures.writes plain ok)
