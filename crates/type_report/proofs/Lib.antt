@@ -2,3 +2,4 @@ pub mod Marked
 pub mod Stepping
 pub mod Counting
 pub mod Trees
+pub mod Sample

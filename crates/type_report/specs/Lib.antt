@@ -3,3 +3,4 @@ pub mod Marks
 pub mod Node
 pub mod Json
 pub mod Counts
+pub mod Sample

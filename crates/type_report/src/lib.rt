@@ -9,6 +9,7 @@ pub mod list;
 pub mod marks;
 pub mod node;
 pub mod table;
+pub mod theorems;
 
 use data_type::AdsDataTypeInfo;
 use refusal::Refusal;
