@@ -3,3 +3,4 @@ pub mod Stepping
 pub mod Counting
 pub mod Trees
 pub mod Sample
+pub mod SubItems

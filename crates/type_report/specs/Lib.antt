@@ -4,3 +4,4 @@ pub mod Node
 pub mod Json
 pub mod Counts
 pub mod Sample
+pub mod Meaning
