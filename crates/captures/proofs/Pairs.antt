@@ -6,7 +6,7 @@ use Rattle.std.proofs.lemmas.List.Elements.{All-get_or}
 use Rattle.std.proofs.lemmas.List.Sums.{AllPass-from_list_all, list_all-from_AllPass}
 use Rattle.std.proofs.Math.Seq.{take_all}
 use Rattle.le.specs.Put.{Wrote}
-use Rattle.le.proofs.Laws.{take_more, put-none, put_one, wrote, after, same_bytes}
+use Rattle.le.proofs.Laws.{take_more, put_none, put_one, wrote, after, same_bytes}
 use Rattle.hex.specs.Hex.{encode_with, upper_digits, encode_upper, hex_digit_value, is_hex_digit, value_at, digit_or_error, pair_value, decode_pairs, decode_of, ◌>>=◌}
 use Rattle.hex.specs.declared.error.FromHexError.{FromHexError}
 use Rattle.hex.proofs.HexLemmas.{decode_of-ok, decode_of-digits, decode_of-even}
@@ -144,7 +144,7 @@ fit s at lent h =
     record { pairs = are_pairs s k.0 k.1; room = omega (arith, k.2, ap length (decoded s k.0 k.1)) }
 
 pub none_spelt : (old : List ℕ) (at : ℕ) → at ≤ length old → Wrote old at [] old (at + 0)
-none_spelt old at h = record { is = sym (put-none old at); end = omega arith; room = omega arith; long = refl }
+none_spelt old at h = record { is = sym (put_none old at); end = omega arith; room = omega arith; long = refl }
 
 pub more_spelt : {old now : List ℕ} {at i : ℕ} (bytes : List ℕ) (b : ℕ) → Wrote old at (take i bytes) now (at + i) → i < length bytes → at + length bytes ≤ length old → b ≡ get_or bytes i 0
     → Wrote old at (take (i + 1) bytes) (set now (at + i) b) (at + (i + 1))

@@ -12,7 +12,7 @@ use Rattle.refusal.specs.declared.Refusal.{Refusal}
 use Rattle.refusal.specs.declared.Refusal.TheVariants.{TooLarge}
 use Rattle.entry.specs.Entry.{claim_at}
 use Rattle.entry.specs.Walk.{stands, steps_from, steps}
-use Rattle.entry.proofs.Claims.{moves-on, moves-within}
+use Rattle.entry.proofs.Claims.{moves_on, moves_within}
 use Rattle.walk.specs.declared.Piece.{Piece}
 use Rattle.walk.specs.Pieces as walk
 use Rattle.walk.proofs.Left.{piece_starts}
@@ -58,7 +58,7 @@ module _ (s : List ℕ) where
   -- before the end a piece is at least a byte, and ends in the upload
   ends_by : (at : ℕ) → at < length s → (b : Bool) → stands s at ≡ b → (at < end_of s at) × (end_of s at ≤ length s)
   ends_by at h true e = simp e (h, omega arith)
-  ends_by at h false e = simp e (omega (arith, moves-on s at h, eqb-false (claim_at s at).next at e), moves-within s at h)
+  ends_by at h false e = simp e (omega (arith, moves_on s at h, eqb-false (claim_at s at).next at e), moves_within s at h)
 
   pub ends_in : (at : ℕ) → at < length s → (at < end_of s at) × (end_of s at ≤ length s)
   ends_in at h = ends_by at h (stands s at) refl

@@ -64,9 +64,16 @@ pub enum Asked<'a> {
     },
 }
 
-// The word that says what to do.
-#[derive(Clone, Copy, Debug, PartialEq, Eq)]
+// The word that says what to do: with a length, or with a file.
+#[derive(Clone, Copy, Debug)]
 enum Command {
+    Room,
+    OfFile(Task),
+}
+
+// What is done with a file.
+#[derive(Clone, Copy, Debug)]
+enum Task {
     Find,
     Show,
     List,
@@ -74,22 +81,28 @@ enum Command {
     Check,
     Compare,
     Salvage,
-    Room,
 }
 
 impl Command {
     fn of(word: &str) -> Option<Command> {
         match word {
-            "find" => Some(Command::Find),
-            "show" => Some(Command::Show),
-            "list" => Some(Command::List),
-            "type" => Some(Command::Type),
-            "check" => Some(Command::Check),
-            "compare" => Some(Command::Compare),
-            "salvage" => Some(Command::Salvage),
             "room" => Some(Command::Room),
+            "find" => Some(Command::OfFile(Task::Find)),
+            "show" => Some(Command::OfFile(Task::Show)),
+            "list" => Some(Command::OfFile(Task::List)),
+            "type" => Some(Command::OfFile(Task::Type)),
+            "check" => Some(Command::OfFile(Task::Check)),
+            "compare" => Some(Command::OfFile(Task::Compare)),
+            "salvage" => Some(Command::OfFile(Task::Salvage)),
             _ => None,
         }
+    }
+
+    fn has_json(self) -> bool {
+        matches!(
+            self,
+            Command::OfFile(Task::List | Task::Type | Task::Compare)
+        )
     }
 }
 
@@ -123,12 +136,12 @@ impl Options {
 
     // Refuses one that is not for this command.
     fn suit(&self, alloc: Global, command: Command, word: &str) -> Result<(), Failure> {
-        if self.json && !matches!(command, Command::List | Command::Type | Command::Compare) {
+        if self.json && !command.has_json() {
             return Err(Failure::Usage(format!(in alloc;
                 "--json is for list, type and compare, not for {word}"
             )?));
         }
-        if command != Command::Room {
+        if let Command::OfFile(_) = command {
             return Ok(());
         }
         match (self.form, self.mode) {
@@ -237,7 +250,7 @@ impl<'a> Words<'a> {
             Command::Room => Request::Room {
                 length: self.length()?,
             },
-            _ => Request::Run(self.run(command, options)?),
+            Command::OfFile(task) => Request::Run(self.run(task, options)?),
         };
         match self.next() {
             None => Ok(request),
@@ -247,30 +260,30 @@ impl<'a> Words<'a> {
         }
     }
 
-    fn run(&mut self, command: Command, options: Options) -> Result<Run<'a>, Failure> {
+    fn run(&mut self, task: Task, options: Options) -> Result<Run<'a>, Failure> {
         let file = self.need("a file, or - for standard input")?;
         let json = options.json;
-        let asked = match command {
-            Command::Find => Asked::Find {
+        let asked = match task {
+            Task::Find => Asked::Find {
                 name: self.need("the name of a symbol")?,
                 attribute: self.next(),
             },
-            Command::Show => Asked::Show {
+            Task::Show => Asked::Show {
                 name: self.need("the name of a symbol")?,
             },
-            Command::List => Asked::List { json },
-            Command::Type => Asked::Type {
+            Task::List => Asked::List { json },
+            Task::Type => Asked::Type {
                 name: self.next(),
                 json,
             },
-            Command::Compare => Asked::Compare {
+            Task::Compare => Asked::Compare {
                 with: self.other_file(file)?,
                 json,
             },
-            Command::Salvage => Asked::Salvage {
+            Task::Salvage => Asked::Salvage {
                 to: self.need("a path that what is kept is written to")?,
             },
-            Command::Check | Command::Room => Asked::Check,
+            Task::Check => Asked::Check,
         };
         Ok(Run {
             file,

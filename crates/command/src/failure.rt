@@ -1,9 +1,11 @@
 //! How the program ends where it does not do what was asked.
 
+ghost use Rattle.std.specs.Prelude.{◌≡◌};
+ghost use Rattle.command.specs.Status.{is_unread, failure_status, status_of};
+
 use std::alloc::{AllocError, Global};
 use std::io;
 use std::io::ErrorKind;
-use std::process::ExitCode;
 
 /// A message in a sentence, by the status that it ends with.
 #[derive(Debug, Drop)]
@@ -40,7 +42,9 @@ impl From<io::Error> for Failure {
 
 impl Failure {
     /// Whether the reader of standard output has gone: of a pipe, or of a socket in which it left something unread.
-    pub fn is_unread(&self) -> bool {
+    pub fn is_unread(&self) -> bool
+        ensures { result ≡ is_unread self.now }
+    {
         match self {
             Failure::Output(why) => matches!(
                 why.kind(),
@@ -50,35 +54,45 @@ impl Failure {
         }
     }
 
-    /// Says it on standard error; the status.
-    pub fn tell(&self, rt: &HostRuntime) -> ExitCode {
-        if self.is_unread() {
-            return ExitCode::SUCCESS;
-        }
+    fn status(&self) -> u8
+        ensures { result ≡ failure_status self.now }
+    {
         match self {
-            Failure::Refused(why) | Failure::Dropped(why) => {
-                let _ = eprintln!(rt; "vindaskot: {why}.");
-                return ExitCode::from(1);
+            Failure::Refused(_) | Failure::Dropped(_) => 1,
+            Failure::Output(_) if self.is_unread() => 0,
+            Failure::Usage(_) | Failure::File(_) | Failure::Output(_) | Failure::Memory => 2,
+        }
+    }
+
+    /// Says it on standard error, but for a reader that has gone.
+    pub fn tell(&self, rt: &HostRuntime) {
+        if self.is_unread() {
+            return;
+        }
+        let _ = match self {
+            Failure::Refused(why) | Failure::Dropped(why) | Failure::File(why) => {
+                eprintln!(rt; "vindaskot: {why}.")
             }
             Failure::Usage(why) => {
-                let _ = eprintln!(rt; "vindaskot: {why}. `vindaskot --help` says what there is.");
-            }
-            Failure::File(why) => {
-                let _ = eprintln!(rt; "vindaskot: {why}.");
+                eprintln!(rt; "vindaskot: {why}. `vindaskot --help` says what there is.")
             }
             Failure::Output(why) => match in_words(rt.alloc(), why) {
-                Ok(why) => {
-                    let _ = eprintln!(rt; "vindaskot: standard output can't be written: {why}.");
-                }
-                Err(_) => {
-                    let _ = eprintln!(rt; "vindaskot: standard output can't be written.");
-                }
+                Ok(why) => eprintln!(rt; "vindaskot: standard output can't be written: {why}."),
+                Err(_) => eprintln!(rt; "vindaskot: standard output can't be written."),
             },
-            Failure::Memory => {
-                let _ = eprintln!(rt; "vindaskot: there is no memory left.");
-            }
-        }
-        ExitCode::from(2)
+            Failure::Memory => eprintln!(rt; "vindaskot: there is no memory left."),
+        };
+    }
+}
+
+/// The status of an end: whether all was done as asked, or why not.
+pub fn status(end: &Result<bool, Failure>) -> u8
+    ensures { result ≡ status_of end.now }
+{
+    match end {
+        Ok(true) => 0,
+        Ok(false) => 1,
+        Err(failure) => failure.status(),
     }
 }
 

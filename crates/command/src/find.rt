@@ -61,9 +61,8 @@ pub fn find<W: Write>(
         None => finding::write_place(&found, out)?,
         Some(attribute) => {
             let asked = windows_1252(alloc, attribute)?;
-            match found.symbol.attributes.named(asked.as_slice()) {
-                Ok(one) => finding::write_value(&one, out)?,
-                Err(_) => return no_attribute(alloc, upload, &found.symbol, asked.as_slice()),
+            if !finding::write_attribute(&found, asked.as_slice(), out)? {
+                return no_attribute(alloc, upload, &found.symbol, asked.as_slice());
             }
         }
     }

@@ -23,11 +23,11 @@ use std::process::ExitCode;
 use wording::Grouped;
 
 fn main(rt: HostRuntime) -> ExitCode {
-    match run(&rt) {
-        Ok(true) => ExitCode::SUCCESS,
-        Ok(false) => ExitCode::from(1),
-        Err(failure) => failure.tell(&rt),
+    let end = run(&rt);
+    if let Err(failure) = &end {
+        failure.tell(&rt);
     }
+    ExitCode::from(failure::status(&end))
 }
 
 // Does what is asked; whether nothing was refused.

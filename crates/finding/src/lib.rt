@@ -1,9 +1,10 @@
 //! What `find` answers: a symbol by its name, the value of an attribute (docs/FORMAT.md, "The command's text").
-#![tactic(auto, unfolding(crate::specs::Find::named))]
+#![tactic(auto, unfolding(crate::specs::Find::named, crate::specs::Find::attribute_text))]
 
-ghost use Rattle.std.specs.Prelude.{◌≡◌, OnOk};
+ghost use Rattle.std.specs.Prelude.{◌≡◌, OnOk, IfOk, is_ok};
 ghost use Rattle.std.specs.Io.KnownBytes.{Appends};
-ghost use Rattle.finding.specs.Find.{named, place_text, value_text};
+ghost use Rattle.finding.specs.Find.{named, value, place_text, value_text, attribute_text};
+ghost use Rattle.finding.specs.Meaning.{NamedMeant};
 
 use attribute::AdsAttribute;
 use refusal::Refusal;
@@ -11,6 +12,7 @@ use report::Upload;
 use std::io;
 use std::io::Write;
 use symbol::AdsSymbolInfo;
+use walk::Cursor;
 use wording::strings::Exact;
 
 /// A symbol, and where it starts.
@@ -26,11 +28,12 @@ pub struct Found<'a> {
 pub fn named<'a>(upload: &Upload<'a>, name: &[u8]) -> Result<Found<'a>, Refusal>
     ensures { result ≡ named upload.now name.now }
 {
-    let bytes = upload.bytes;
-    let at = symbol_find::find(bytes, upload.mode, name)?;
-    let from = &bytes[at.min(bytes.len())..];
-    let symbol = walk::parse::<AdsSymbolInfo>(from, upload.mode)?;
-    Ok(Found { at, symbol })
+    let at = symbol_find::find(upload.bytes, upload.mode, name)?;
+    let step = Cursor { at }.step::<AdsSymbolInfo>(upload.bytes, upload.mode);
+    match step.answer {
+        Some(Ok(symbol)) => Ok(Found { at, symbol }),
+        _ => Err(Refusal::NameNotFound),
+    }
 }
 
 /// Writes where a symbol starts, and its type.
@@ -42,10 +45,28 @@ pub fn write_place<W: Write>(found: &Found<'_>, out: &mut W) -> io::Result<()>
     writeln!(out, "{at} {type_name}")
 }
 
-/// Writes the value of an attribute alone.
-pub fn write_value<W: Write>(one: &AdsAttribute<'_>, out: &mut W) -> io::Result<()>
+fn write_value<W: Write>(one: &AdsAttribute<'_>, out: &mut W) -> io::Result<()>
     ensures { OnOk result (Appends (W.contents out.old) (W.contents out.new) (value_text one.now)) }
 {
     let value = Exact(one.value);
     writeln!(out, "{value}")
 }
+
+/// Writes the value of the first attribute of a name alone; whether there is one.
+pub fn write_attribute<W: Write>(found: &Found<'_>, name: &[u8], out: &mut W) -> io::Result<bool>
+    ensures text { OnOk result (Appends (W.contents out.old) (W.contents out.new) (attribute_text found.now name.now)) }
+    ensures answer { IfOk result (λ is_there. is_there ≡ is_ok (value found.now name.now)) }
+{
+    match found.symbol.attributes.named(name) {
+        Ok(one) => {
+            write_value(&one, out)?;
+            Ok(true)
+        }
+        Err(_) => Ok(false),
+    }
+}
+
+/// A symbol is found exactly where finding without an index finds it: the first of the walk's steps that has the name letter by letter, in any case. A refusal is that of finding.
+pub fn named_meant()
+    ensures { NamedMeant }
+{}

@@ -6,7 +6,7 @@ use borrow.Author.Tests.{ltb-true, ltb-false}
 use Rattle.std.proofs.lemmas.List.{drop_all}
 use Rattle.le.specs.Le.{le2, le4, bytes2, bytes4, part}
 use mathlib.Core.List.{append_assoc}
-use Rattle.le.proofs.Laws.{drop-part}
+use Rattle.le.proofs.Laws.{drop_part}
 
 -- a byte of some bytes, or 0 behind them
 past_0 : (s : List ℕ) (k : ℕ) → length s ≤ k → get_or s k 0 ≡ 0
@@ -91,6 +91,6 @@ pub string_then : (s : List ℕ) (at n : ℕ) → at + n < length s → get_or s
 unfolding part
 string_then s at n h z =
     let next : suc (at + n) ≡ at + n + 1 = omega arith in
-    drop-part s at n
+    drop_part s at n
     ∙ ap (λ (t : List ℕ). take n (drop at s) ++ t) (byte_then s (at + n) h ∙ ap₂ (λ (b k : ℕ). b ∷ drop k s) z next)
     ∙ sym (append_assoc (take n (drop at s)) (0 ∷ []) (drop (at + n + 1) s))

@@ -4,7 +4,7 @@ use Rattle.std.specs.Prelude.{Option, Some, None, is_some, ltb, leb, eqb, if◌t
 use mathlib.Core.List.{append_assoc}
 use lib.Seq.{drop-append_seam}
 use Rattle.le.specs.Le.{le2, le4, has, bytes2, bytes4}
-use Rattle.le.proofs.Laws.{le2-bytes2, le4-bytes4}
+use Rattle.le.proofs.Laws.{le2_bytes2, le4_bytes4}
 use Rattle.part.specs.End.{rest_at}
 use Rattle.refusal.specs.declared.Refusal.{Refusal}
 use Rattle.refusal.specs.declared.Mode.TheVariants.{Present}

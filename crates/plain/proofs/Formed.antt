@@ -6,7 +6,7 @@ use lib.Seq.{length-take-le}
 use mathlib.Core.List.{append_assoc}
 use borrow.Author.Tests.{le-leb, leb-true, leb-false}
 use Rattle.le.specs.Le.{le2, le4, has, bytes2, bytes4, part}
-use Rattle.le.proofs.Laws.{drop-part}
+use Rattle.le.proofs.Laws.{drop_part}
 use Rattle.part.specs.Slice as slice
 use Rattle.part.specs.End.{IsEnd, IsString, rest_at}
 use Rattle.part.proofs.Slice.{end_self}
@@ -123,7 +123,7 @@ module _ (e : Bor (List ℕ)) (r : AdsSymbolInfo) (h : HoldsBytes e) (read : sym
     guid_then : (g : Option (List ℕ)) (t : Bool) → g ≡ (if t then Some (take 16 (drop (behind_strings r) e.now)) else None)
         → drop (behind_strings r) e.now ≡ guid_bytes g ++ drop (behind_strings r + (if is_some g then 16 else 0)) e.now
     unfolding part
-    guid_then g true w = subst (λ (g : Option (List ℕ)). drop (behind_strings r) e.now ≡ guid_bytes g ++ drop (behind_strings r + (if is_some g then 16 else 0)) e.now) (sym w) (drop-part e.now (behind_strings r) 16)
+    guid_then g true w = subst (λ (g : Option (List ℕ)). drop (behind_strings r) e.now ≡ guid_bytes g ++ drop (behind_strings r + (if is_some g then 16 else 0)) e.now) (sym w) (drop_part e.now (behind_strings r) 16)
     guid_then g false w =
         subst (λ (g : Option (List ℕ)). drop (behind_strings r) e.now ≡ guid_bytes g ++ drop (behind_strings r + (if is_some g then 16 else 0)) e.now) (sym w) (ap (λ (k : ℕ). drop k e.now) (omega arith))
 
@@ -147,7 +147,7 @@ module _ (e : Bor (List ℕ)) (r : AdsSymbolInfo) (h : HoldsBytes e) (read : sym
     block_is =
         let is : (new_of r).attributes.bytes.now ≡ take (to - from) (drop from e.now) = ap (λ (q : Bor (List ℕ)). q.now) cuts.attributes in
         let end : from + (to - from) ≡ to = omega (arith, forward) in
-        drop-part e.now from (to - from) ∙ ap₂ (λ (x : List ℕ) (k : ℕ). x ++ drop k e.now) (sym is) end
+        drop_part e.now from (to - from) ∙ ap₂ (λ (x : List ℕ) (k : ℕ). x ++ drop k e.now) (sym is) end
 
     flags_are : (bit : ℕ) → has r.flags.0 bit ≡ has (le2 e.now 20) bit
     flags_are bit = ap (λ (w : ℕ). has w bit) i.flags
@@ -215,7 +215,7 @@ module _ (e : Bor (List ℕ)) (r : AdsSymbolInfo) (h : HoldsBytes e) (read : sym
     chain_is =
         let is : (new_of r).refactor_infos.bytes.now ≡ take (rest_at e r.unread - chain_from) (drop chain_from e.now) = ap (λ (q : Bor (List ℕ)). q.now) cuts.refactor_infos in
         let end : chain_from + (rest_at e r.unread - chain_from) ≡ length e.now = omega (arith, f.read_whole) in
-        drop-part e.now chain_from (rest_at e r.unread - chain_from)
+        drop_part e.now chain_from (rest_at e r.unread - chain_from)
         ∙ ap (λ (t : List ℕ). take (rest_at e r.unread - chain_from) (drop chain_from e.now) ++ t) (ap (λ (k : ℕ). drop k e.now) end ∙ drop_all (length e.now) e.now (omega arith))
         ∙ append-nil (take (rest_at e r.unread - chain_from) (drop chain_from e.now))
         ∙ sym is

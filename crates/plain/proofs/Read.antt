@@ -4,7 +4,7 @@ use Rattle.std.specs.Prelude.{Option, Some, None, is_some, ltb, if◌then◌else
 use mathlib.Core.List.{append_assoc}
 use lib.Seq.{drop-append_seam}
 use Rattle.le.specs.Le.{le2, le4, has, bytes2, bytes4}
-use Rattle.le.proofs.Laws.{le2-bytes2, le4-bytes4}
+use Rattle.le.proofs.Laws.{le2_bytes2, le4_bytes4}
 use Rattle.refusal.specs.declared.Refusal.{Refusal}
 use Rattle.refusal.specs.declared.Mode.TheVariants.{Present}
 use Rattle.flags.specs.declared.symbol_flags.AdsSymbol2Flags.{AdsSymbol2Flags}
@@ -20,7 +20,7 @@ use Rattle.symbol.specs.Inside.{behind_strings, behind_guid}
 use Rattle.symbol.specs.Writing.{flagged, guid_bytes, extended_bytes, header_bytes, sections_bytes, symbol_bytes, symbol_written}
 use Rattle.symbol.specs.Again.{new_of}
 use Rattle.symbol.proofs.Accepted.{Accepted, accepted_is}
-use Rattle.symbol.proofs.Sections.{same_test}
+use Rattle.std.specs.Cmp.{booleans_Decides}
 use Rattle.symbol.proofs.Header as header
 use Rattle.symbol.proofs.Header.{body_of}
 use Rattle.symbol.proofs.Lies.{two_from}
@@ -65,7 +65,7 @@ module _ (e : Bor (List ℕ)) (r : AdsSymbolInfo) (h : HoldsBytes e) (read : sym
   unfolding entry_bytes
   claims =
       let l : length e.now ≡ length (body_of n ++ []) + 4 = ap length is ∙ length_entry (body_of n ++ []) in
-      ap (λ (s : List ℕ). le4 s 0) is ∙ le4-bytes4 (length (body_of n ++ []) + 4) (body_of n ++ []) fits ∙ sym l
+      ap (λ (s : List ℕ). le4 s 0) is ∙ le4_bytes4 (length (body_of n ++ []) + 4) (body_of n ++ []) fits ∙ sym l
 
   l : laid.Laid (entry_bytes (body_of n ++ [])) (bytes4 (length (body_of n ++ []) + 4) ++ header_bytes n) n.name.now n.type_name.now n.comment.now (sections_bytes n ++ []) 30
   l = header.laid n (typed e r h read) a [] fits
@@ -109,7 +109,7 @@ module _ (e : Bor (List ℕ)) (r : AdsSymbolInfo) (h : HoldsBytes e) (read : sym
       let c = a.count in
       record {
         there = omega (arith, long);
-        all = sym (two_from e.now (behind_guid r)) ∙ ap (λ (s : List ℕ). le2 s 0) d ∙ le2-bytes2 n.attributes.count (n.attributes.bytes.now ++ rest) (omega (arith, c));
+        all = sym (two_from e.now (behind_guid r)) ∙ ap (λ (s : List ℕ). le2 s 0) d ∙ le2_bytes2 n.attributes.count (n.attributes.bytes.now ++ rest) (omega (arith, c));
       }
   complete_by false q d = cc
 
@@ -122,10 +122,10 @@ module _ (e : Bor (List ℕ)) (r : AdsSymbolInfo) (h : HoldsBytes e) (read : sym
       record {
         within = small;
         claims = claims;
-        guid = sym (same_test _ _ a.guid_agrees);
+        guid = sym ((booleans_Decides _ _).0 a.guid_agrees);
         attributes = λ q. complete_by (flagged n attributes_flag) q behind_it;
         extended_flags = flag_there r.extended_flags _ _ (ap (λ (t : Told). t.extended_flags) told);
-        chain = sym (same_test _ _ a.chain_agrees);
+        chain = sym ((booleans_Decides _ _).0 a.chain_agrees);
         good_attributes = passed_attributes_good _ n.attributes.bytes a.attributes_good;
         good_chain = passed_records_good _ n.refactor_infos.bytes a.chain_good;
         name_ended = ap (λ (s : List ℕ). get_or s (30 + length r.name.now) 0) is ∙ name_end;

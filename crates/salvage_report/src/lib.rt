@@ -1,10 +1,13 @@
 //! `salvage`: the accepted entries of a damaged upload, and a table of what was dropped (docs/FORMAT.md, "The command's text").
 #![tactic(auto)]
 
-ghost use Rattle.std.specs.Prelude.{◌≡◌, ◌≤◌, ◌++◌, IfOk, OnOk, length};
+ghost use Rattle.std.specs.Prelude.{◌≡◌, ◌≤◌, ◌++◌, IfOk, OnOk, Some, codes, length};
+ghost use Rattle.std.specs.Io.KnownBytes.{Appends};
 ghost use Rattle.symbol.specs.Symbol.{symbol_of};
 ghost use Rattle.walk.specs.Pieces.{pieces};
 ghost use Rattle.salvage.specs.Salvage.{bytes_of, kept};
+ghost use Rattle.report.specs.Report.{tally_of, upload_text};
+ghost use Rattle.salvage_report.specs.Dropped.{dropped_of, dropped_text, kept_text, AppendsSome, Reports};
 
 use report::table::digits;
 use report::{Tally, Upload};
@@ -40,7 +43,8 @@ fn keep(bytes: &[u8], piece: &Piece<AdsSymbolInfo<'_>>, out: &mut Vec<u8>) -> Re
 
 /// Salvages an upload (docs/FORMAT.md, "Salvage").
 pub fn salvage(alloc: Global, upload: &Upload<'_>) -> Result<Salvaged, AllocError>
-    ensures { IfOk result (λ s. s.kept.items ≡ kept upload.now.bytes.now (pieces (symbol_of upload.now.mode) upload.now.bytes)) }
+    ensures kept { IfOk result (λ s. s.kept.items ≡ kept upload.now.bytes.now (pieces (symbol_of upload.now.mode) upload.now.bytes)) }
+    ensures tally { IfOk result (λ s. s.tally ≡ tally_of (pieces (symbol_of upload.now.mode) upload.now.bytes)) }
 {
     let bytes = upload.bytes;
     let mut kept = Vec::new(alloc);
@@ -63,7 +67,9 @@ pub struct Dropped {
 
 impl Dropped {
     /// What this salvage of an upload dropped.
-    pub fn of(upload: &Upload<'_>, salvaged: &Salvaged) -> Dropped {
+    pub fn of(upload: &Upload<'_>, salvaged: &Salvaged) -> Dropped
+        ensures { result ≡ dropped_of upload.now salvaged.now.tally salvaged.now.kept.items }
+    {
         Dropped {
             runs: salvaged.tally.refused,
             bytes: upload.bytes.len().saturating_sub(salvaged.kept.len()),
@@ -72,6 +78,9 @@ impl Dropped {
 }
 
 impl fmt::Display for Dropped {
+    ghost output = { λ d. Some (dropped_text d) };
+
+    #[tactic(auto, unfolding(crate::specs::Dropped::dropped_text))]
     fn fmt<W: fmt::Write>(&self, f: &mut fmt::Formatter<W>) -> fmt::Result {
         let runs = Many {
             number: self.runs,
@@ -105,17 +114,21 @@ fn widths_of(upload: &Upload<'_>) -> Widths {
     widths
 }
 
-/// Writes a line for each run that was dropped, and what was kept; `to` is where that is.
-pub fn write<W: Write>(
+fn write_upload<W: Write>(upload: &Upload<'_>, out: &mut W) -> io::Result<()>
+    ensures { OnOk result (Appends (W.contents out.old) (W.contents out.new) (upload_text upload.now ++ codes "\n")) }
+{
+    writeln!(out, "{upload}")
+}
+
+#[tactic(auto, unfolding(crate::specs::Dropped::kept_text))]
+fn write_kept<W: Write>(
     upload: &Upload<'_>,
     salvaged: &Salvaged,
     to: &str,
     out: &mut W,
-) -> io::Result<()> {
-    writeln!(out, "{upload}")?;
-    if salvaged.tally.refused > 0 {
-        write_runs(upload, out)?;
-    }
+) -> io::Result<()>
+    ensures { OnOk result (Appends (W.contents out.old) (W.contents out.new) (kept_text upload.now salvaged.now.tally salvaged.now.kept.items to.now)) }
+{
     let entries = Many {
         number: salvaged.tally.accepted,
         one: "entry",
@@ -126,21 +139,59 @@ pub fn write<W: Write>(
     writeln!(out, "kept: {entries}, {bytes}, in {to}; {dropped}")
 }
 
-// An upload can have millions, so none is kept as text. Numbers stand at the right of their columns.
-fn write_runs<W: Write>(upload: &Upload<'_>, out: &mut W) -> io::Result<()> {
-    let widths = widths_of(upload);
+/// Writes a line for each run that was dropped, and what was kept; `to` is where that is.
+pub fn write<W: Write>(
+    upload: &Upload<'_>,
+    salvaged: &Salvaged,
+    to: &str,
+    out: &mut W,
+) -> io::Result<()>
+    ensures { OnOk result (Reports (W.contents out.old) (W.contents out.new) upload.now salvaged.now.tally salvaged.now.kept.items to.now) }
+{
+    write_upload(upload, out)?;
+    if salvaged.tally.refused > 0 {
+        write_runs(upload, out)?;
+    }
+    write_kept(upload, salvaged, to, out)?;
+    Ok(())
+}
+
+fn write_headings<W: Write>(widths: Widths, out: &mut W) -> io::Result<()>
+    ensures { OnOk result (AppendsSome (W.contents out.old) (W.contents out.new)) }
+{
     let before = Spaces(widths.place.saturating_sub(5));
     let between = Spaces(widths.length.saturating_sub(6));
-    writeln!(out, "{before}place  {between}length  why")?;
-    for piece in Symbols::new(upload.bytes, upload.mode) {
-        if let Err(why) = piece.answer {
+    writeln!(out, "{before}place  {between}length  why")
+}
+
+fn write_run<W: Write>(
+    piece: &Piece<AdsSymbolInfo<'_>>,
+    widths: Widths,
+    out: &mut W,
+) -> io::Result<()>
+    ensures { OnOk result (AppendsSome (W.contents out.old) (W.contents out.new)) }
+{
+    match &piece.answer {
+        Ok(_) => Ok(()),
+        Err(why) => {
             let place = piece.start;
             let length = piece.end.saturating_sub(place);
             let before = Spaces(widths.place.saturating_sub(digits(place, 10)));
             let between = Spaces(widths.length.saturating_sub(digits(length, 10)));
-            let why = InWords(&why);
-            writeln!(out, "{before}{place}  {between}{length}  {why}")?;
+            let why = InWords(why);
+            writeln!(out, "{before}{place}  {between}{length}  {why}")
         }
+    }
+}
+
+// An upload can have millions, so none is kept as text. Numbers stand at the right of their columns.
+fn write_runs<W: Write>(upload: &Upload<'_>, out: &mut W) -> io::Result<()>
+    ensures { OnOk result (AppendsSome (W.contents out.old) (W.contents out.new)) }
+{
+    let widths = widths_of(upload);
+    write_headings(widths, out)?;
+    for piece in Symbols::new(upload.bytes, upload.mode) {
+        write_run(&piece, widths, out)?;
     }
     Ok(())
 }

@@ -1,8 +1,14 @@
 //! What an entry tells of itself, as the first members of an object of JSON.
 
+ghost use Rattle.std.specs.Prelude.{Some, codes};
+ghost use Rattle.data_type.specs.Array as array;
+ghost use Rattle.type_report.specs.Joined.{joined, more};
+ghost use Rattle.type_report.specs.Json.{own_text, strings_text, numbers_text, shape_text, maker_text, array_text};
+
 use crate::marks::{Marked, Style};
-use crate::node::{Node, next_array};
-use data_type::array::{AdsArrayInfo, ArrayInfos};
+use crate::node::{Dimensions, Node};
+use data_type::array::AdsArrayInfo;
+use field::AdsFieldInfo;
 use report::json::{AttributeObjects, GuidOrNull};
 use std::fmt;
 use wording::strings::Quoted;
@@ -12,24 +18,29 @@ use wording::strings::Quoted;
 pub struct Own<'a>(pub &'a Node<'a>);
 
 impl fmt::Display for Own<'_> {
+    ghost output = { λ o. Some (own_text o.0.now) };
+
     fn fmt<W: fmt::Write>(&self, f: &mut fmt::Formatter<W>) -> fmt::Result {
         let place = self.0.place;
-        let strings = Strings(self.0);
+        let strings = Strings(&self.0.info.field);
         let numbers = Numbers(self.0);
-        let maker = Maker(self.0);
-        write!(f, "\"place\":{place},{strings},{numbers},{maker}")?;
-        let guid = GuidOrNull(&self.0.record.field.guid);
-        let attributes = AttributeObjects(self.0.record.field.attributes);
+        let shape = Shape(self.0);
+        let maker = Maker(&self.0.info.field);
+        write!(f, "\"place\":{place},{strings},{numbers},{shape},{maker}")?;
+        let guid = GuidOrNull(&self.0.info.field.guid);
+        let attributes = AttributeObjects(self.0.info.field.attributes);
         write!(f, ",\"guid\":{guid},\"attributes\":[{attributes}]")
     }
 }
 
 #[derive(Clone, Copy)]
-struct Strings<'a>(&'a Node<'a>);
+struct Strings<'a>(&'a AdsFieldInfo<'a>);
 
 impl fmt::Display for Strings<'_> {
+    ghost output = { λ s. Some (strings_text s.0.now) };
+
     fn fmt<W: fmt::Write>(&self, f: &mut fmt::Formatter<W>) -> fmt::Result {
-        let field = &self.0.record.field;
+        let field = self.0;
         let length = field.length;
         let name = Quoted(field.name);
         let type_name = Quoted(field.type_name);
@@ -45,15 +56,28 @@ impl fmt::Display for Strings<'_> {
 struct Numbers<'a>(&'a Node<'a>);
 
 impl fmt::Display for Numbers<'_> {
+    ghost output = { λ n. Some (numbers_text n.0.now) };
+
     fn fmt<W: fmt::Write>(&self, f: &mut fmt::Formatter<W>) -> fmt::Result {
         let node = self.0;
-        let offset = node.record.field.offset;
+        let offset = node.info.field.offset;
         let from_start = node.offset_from_start;
-        let size = node.record.field.size;
+        let size = node.info.field.size;
         write!(
             f,
             "\"offset\":{offset},\"offset_from_start\":{from_start},\"size\":{size}"
-        )?;
+        )
+    }
+}
+
+#[derive(Clone, Copy)]
+struct Shape<'a>(&'a Node<'a>);
+
+impl fmt::Display for Shape<'_> {
+    ghost output = { λ s. Some (shape_text s.0.now) };
+
+    fn fmt<W: fmt::Write>(&self, f: &mut fmt::Formatter<W>) -> fmt::Result {
+        let node = self.0;
         let marks = Marked {
             marks: node.marks,
             style: Style {
@@ -61,17 +85,19 @@ impl fmt::Display for Numbers<'_> {
                 quote: "\"",
             },
         };
-        let arrays = Arrays(node.record.arrays);
-        write!(f, ",\"marks\":[{marks}],\"arrays\":[{arrays}]")
+        let arrays = Arrays(Dimensions(node.info.arrays));
+        write!(f, "\"marks\":[{marks}],\"arrays\":[{arrays}]")
     }
 }
 
 #[derive(Clone, Copy)]
-struct Maker<'a>(&'a Node<'a>);
+struct Maker<'a>(&'a AdsFieldInfo<'a>);
 
 impl fmt::Display for Maker<'_> {
+    ghost output = { λ m. Some (maker_text m.0.now) };
+
     fn fmt<W: fmt::Write>(&self, f: &mut fmt::Formatter<W>) -> fmt::Result {
-        let field = &self.0.record.field;
+        let field = self.0;
         let version = field.version;
         let hash = field.hash_value;
         let type_hash = field.type_hash_value;
@@ -87,12 +113,14 @@ impl fmt::Display for Maker<'_> {
 
 // Array records as objects, with commas between them.
 #[derive(Clone, Copy)]
-struct Arrays<'a>(ArrayInfos<'a>);
+struct Arrays<'a>(Dimensions<'a>);
 
 impl fmt::Display for Arrays<'_> {
+    ghost output = { λ a. Some (joined (codes ",") array_text (array.left a.0.0)) };
+
     fn fmt<W: fmt::Write>(&self, f: &mut fmt::Formatter<W>) -> fmt::Result {
         let mut rest = self.0;
-        match next_array(&mut rest) {
+        match rest.next() {
             None => Ok(()),
             Some(first) => {
                 let first = Dimension(first);
@@ -105,15 +133,13 @@ impl fmt::Display for Arrays<'_> {
 
 // Those behind the first, with a comma before each.
 #[derive(Clone, Copy)]
-struct MoreArrays<'a>(ArrayInfos<'a>);
+struct MoreArrays<'a>(Dimensions<'a>);
 
 impl fmt::Display for MoreArrays<'_> {
+    ghost output = { λ a. Some (more (codes ",") array_text (array.left a.0.0)) };
+
     fn fmt<W: fmt::Write>(&self, f: &mut fmt::Formatter<W>) -> fmt::Result {
-        let mut rest = self.0;
-        for _ in 0..rest.count {
-            let Some(one) = next_array(&mut rest) else {
-                return Ok(())
-            };
+        for one in self.0 {
             let one = Dimension(one);
             write!(f, ",{one}")?;
         }
@@ -125,25 +151,11 @@ impl fmt::Display for MoreArrays<'_> {
 struct Dimension(AdsArrayInfo);
 
 impl fmt::Display for Dimension {
+    ghost output = { λ d. Some (array_text d.0) };
+
     fn fmt<W: fmt::Write>(&self, f: &mut fmt::Formatter<W>) -> fmt::Result {
-        let lower = Signed(self.0.lower_bound);
+        let lower = self.0.lower_bound.cast_signed();
         let elements = self.0.elements;
         write!(f, "{{\"lower_bound\":{lower},\"elements\":{elements}}}")
-    }
-}
-
-// Thirty-two bits as a number with a sign.
-#[derive(Clone, Copy)]
-struct Signed(u32);
-
-impl fmt::Display for Signed {
-    fn fmt<W: fmt::Write>(&self, f: &mut fmt::Formatter<W>) -> fmt::Result {
-        let bits = u64::from(self.0);
-        if bits < 0x8000_0000 {
-            write!(f, "{bits}")
-        } else {
-            let below = 0x1_0000_0000 - bits;
-            write!(f, "-{below}")
-        }
     }
 }

@@ -1,13 +1,20 @@
 //! `type`: data types with their members (docs/FORMAT.md, "The command's text").
-#![tactic(auto)]
+#![tactic(auto, unfolding(crate::specs::Json::strings_text, crate::specs::Json::numbers_text, crate::specs::Json::shape_text, crate::specs::Json::maker_text, crate::specs::Json::own_text))]
+
+ghost use Rattle.std.specs.Prelude.{◌≡◌};
+ghost use Rattle.type_report.specs.Counts.{none_counted, counted};
 
 pub mod json;
 pub mod list;
 pub mod marks;
 pub mod node;
 pub mod table;
+pub mod theorems;
 
-/// How many entries there are, and how many were refused.
+use data_type::AdsDataTypeInfo;
+use refusal::Refusal;
+
+/// How many entries there are, and how many were refused. A count stays at the highest number once it is there.
 #[derive(Clone, Copy, Debug)]
 pub struct Counts {
     /// All of them.
@@ -18,14 +25,19 @@ pub struct Counts {
 
 impl Counts {
     /// Of no entry yet.
-    pub fn new() -> Self {
+    pub fn new() -> Self
+        ensures { result ≡ none_counted }
+    {
         Counts { all: 0, refused: 0 }
     }
 
     /// One more.
-    pub fn count(&mut self, is_refused: bool) {
+    #[tactic(auto, unfolding(crate::specs::Counts::counted))]
+    pub fn count(&mut self, answer: &Result<AdsDataTypeInfo<'_>, Refusal>)
+        ensures { self.new ≡ counted self.old answer.now }
+    {
         self.all = self.all.saturating_add(1);
-        if is_refused {
+        if answer.is_err() {
             self.refused = self.refused.saturating_add(1);
         }
     }

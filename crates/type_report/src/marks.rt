@@ -1,5 +1,8 @@
 //! Marks: why the offsets of an entry are not those of its bytes.
 
+ghost use Rattle.std.specs.Prelude.{◌≡◌, ◌++◌, Some};
+ghost use Rattle.type_report.specs.Marks.{marks_within, is_any, word_text, words_text, marks_text};
+
 use flags::type_flags::AdsTypeFlags;
 use std::fmt;
 
@@ -14,7 +17,9 @@ pub struct Marks {
 
 impl Marks {
     /// Those of what stands in this entry, with flags of its own.
-    pub fn within(self, own: AdsTypeFlags) -> Marks {
+    pub fn within(self, own: AdsTypeFlags) -> Marks
+        ensures { result ≡ marks_within self own }
+    {
         Marks {
             own,
             around: AdsTypeFlags(self.around.0 | self.own.0),
@@ -41,6 +46,8 @@ pub struct Marked {
 }
 
 impl fmt::Display for Marked {
+    ghost output = { λ m. Some (marks_text m.style.between.now m.style.quote.now m.marks) };
+
     fn fmt<W: fmt::Write>(&self, f: &mut fmt::Formatter<W>) -> fmt::Result {
         let own = Words {
             flags: self.marks.own,
@@ -68,26 +75,33 @@ struct Words {
 }
 
 impl Words {
-    fn is_any(self) -> bool {
+    #[tactic(auto, unfolding(crate::specs::Marks::is_any))]
+    fn is_any(self) -> bool
+        ensures { result ≡ is_any self.flags.0 }
+    {
         let flags = self.flags;
-        flags.is_bit_values()
-            || flags.is_static()
-            || flags.is_reference_to()
-            || flags.is_prop_item()
+        flags.is_bit_values() | flags.is_static() | flags.is_reference_to() | flags.is_prop_item()
     }
 }
 
 impl fmt::Display for Words {
+    ghost output = { λ w. Some (words_text w.follows w.style.between.now w.style.quote.now w.prefix.now w.flags.0) };
+
     fn fmt<W: fmt::Write>(&self, f: &mut fmt::Formatter<W>) -> fmt::Result {
         let flags = self.flags;
-        let before = self.follows;
-        let bits = Word(self, flags.is_bit_values(), before, "bits");
-        let before = before || flags.is_bit_values();
-        let fixed = Word(self, flags.is_static(), before, "static");
-        let before = before || flags.is_static();
-        let reference = Word(self, flags.is_reference_to(), before, "reference");
-        let before = before || flags.is_reference_to();
-        let property = Word(self, flags.is_prop_item(), before, "property");
+        let is_bits = flags.is_bit_values();
+        let is_static = flags.is_static();
+        let is_reference = flags.is_reference_to();
+        let bits = Word(self, is_bits, self.follows, "bits");
+        let fixed = Word(self, is_static, self.follows | is_bits, "static");
+        let follows = self.follows | is_bits | is_static;
+        let reference = Word(self, is_reference, follows, "reference");
+        let property = Word(
+            self,
+            flags.is_prop_item(),
+            follows | is_reference,
+            "property",
+        );
         write!(f, "{bits}{fixed}{reference}{property}")
     }
 }
@@ -97,6 +111,9 @@ impl fmt::Display for Words {
 struct Word<'a>(&'a Words, bool, bool, &'static str);
 
 impl fmt::Display for Word<'_> {
+    ghost output = { λ w. Some (word_text w.2 w.1 w.0.now.style.between.now w.0.now.style.quote.now (w.0.now.prefix.now ++ w.3.now)) };
+
+    #[tactic(auto, unfolding(crate::specs::Marks::word_text))]
     fn fmt<W: fmt::Write>(&self, f: &mut fmt::Formatter<W>) -> fmt::Result {
         let Word(words, is_set, follows, text) = *self;
         if !is_set {

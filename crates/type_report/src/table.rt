@@ -1,7 +1,7 @@
 //! `type`: a table of data types, their members below them.
 use crate::Counts;
 use crate::marks::{Marked, Style};
-use crate::node::{Node, next_array};
+use crate::node::{Dimensions, Node};
 use attribute::Attributes;
 use data_type::DataTypes;
 use data_type::array::ArrayInfos;
@@ -43,13 +43,12 @@ pub fn lines(alloc: Global, upload: &Upload<'_>) -> Result<(Vec<Line>, Counts), 
     let mut all = Vec::new(alloc);
     for piece in DataTypes::new(upload.bytes, upload.mode) {
         let place = piece.start;
+        counts.count(&piece.answer);
         match piece.answer {
-            Ok(record) => {
-                counts.count(false);
-                push_node(alloc, &Node::root(place, record), upload.mode, 0, &mut all)?;
+            Ok(info) => {
+                push_node(alloc, &Node::root(place, info), upload.mode, 0, &mut all)?;
             }
             Err(why) => {
-                counts.count(true);
                 all.push(Line::Refused(format!(in alloc; "{place}")?, why))?;
             }
         }
@@ -85,14 +84,14 @@ fn push_node(
 }
 
 fn cells(alloc: Global, node: &Node<'_>, depth: usize) -> Result<[String; 9], AllocError> {
-    let record = &node.record;
+    let info = &node.info;
     let place = node.place;
     let indent = Spaces(STEP.saturating_mul(depth));
-    let name = Shown(record.field.name);
-    let type_name = Shown(record.field.type_name);
-    let offset = record.field.offset;
+    let name = Shown(info.field.name);
+    let type_name = Shown(info.field.type_name);
+    let offset = info.field.offset;
     let from_start = node.offset_from_start;
-    let size = record.field.size;
+    let size = info.field.size;
     let marks = Marked {
         marks: node.marks,
         style: Style {
@@ -100,8 +99,8 @@ fn cells(alloc: Global, node: &Node<'_>, depth: usize) -> Result<[String; 9], Al
             quote: "",
         },
     };
-    let bounds = Bounds(record.arrays);
-    let attributes = InOneCell(record.field.attributes);
+    let bounds = Bounds(info.arrays);
+    let attributes = InOneCell(info.field.attributes);
     Ok([
         format!(in alloc; "{place}")?,
         format!(in alloc; "{indent}{name}")?,
@@ -121,15 +120,11 @@ struct Bounds<'a>(ArrayInfos<'a>);
 
 impl fmt::Display for Bounds<'_> {
     fn fmt<W: fmt::Write>(&self, f: &mut fmt::Formatter<W>) -> fmt::Result {
-        let mut rest = self.0;
         let mut is_first = true;
-        for _ in 0..rest.count {
-            let Some(one) = next_array(&mut rest) else {
-                break
-            };
+        for one in Dimensions(self.0) {
             let before = if is_first { "[" } else { ", " };
             is_first = false;
-            let lower = signed(one.lower_bound);
+            let lower = i64::from(one.lower_bound.cast_signed());
             let upper = lower
                 .saturating_add(i64::from(one.elements))
                 .saturating_sub(1);
@@ -139,16 +134,6 @@ impl fmt::Display for Bounds<'_> {
             return Ok(());
         }
         write!(f, "]")
-    }
-}
-
-// Thirty-two bits as a number with a sign.
-fn signed(bits: u32) -> i64 {
-    let number = i64::from(bits);
-    if bits < 0x8000_0000 {
-        number
-    } else {
-        number.saturating_sub(0x1_0000_0000)
     }
 }
 

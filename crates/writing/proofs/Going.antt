@@ -1,7 +1,7 @@
 -- A buffer that is written in turns of a loop.
 use Rattle.std.proofs.Common.{ℕ, ◌+◌, ◌≤◌, ◌≡◌, refl, sym, ap, subst, ◌∙◌, List, [], ◌++◌, length, arith, length-append}
 use Rattle.le.specs.Put.{put, Wrote}
-use Rattle.le.proofs.Laws.{put_then, put-none}
+use Rattle.le.proofs.Laws.{put_then, put_none}
 
 -- a buffer into which all goes from place 0 on, of which some bytes are still to come
 pub record Going (old now : List ℕ) (at : ℕ) (rest all : List ℕ) : Type 0 where
@@ -18,7 +18,7 @@ goes_on {old} {now} {new} {rest} {all} {at} {next} bs g w = record {
 }
 
 pub gone : {old now all : List ℕ} {at : ℕ} → Going old now at [] all → now ≡ put old 0 all
-gone {old} {now} {all} {at} g = sym (put-none now at) ∙ g.is
+gone {old} {now} {all} {at} g = sym (put_none now at) ∙ g.is
 
 pub going_by : {old now xs ys all : List ℕ} {at : ℕ} → xs ≡ ys → Going old now at xs all → Going old now at ys all
 going_by {old} {now} {xs} {ys} {all} {at} e g = subst (λ (x : List ℕ). Going old now at x all) e g
