@@ -1,5 +1,5 @@
 -- Where an attribute lies, by what an iterator that gave it has left.
-use Rattle.std.proofs.Common.{◌≡◌, ℕ, zero, suc, ◌+◌, ◌-◌, ◌≤◌, List, [], ◌∷◌, length, Ok, Err, Result, arith, Bor, refl, sym, ap, ap₂, ◌∙◌, subst, length-drop}
+use Rattle.std.proofs.Common.{◌≡◌, ℕ, zero, suc, ◌+◌, ◌≤◌, List, [], ◌∷◌, length, Ok, Err, Result, arith, Bor, refl, sym, ap, ap₂, ◌∙◌, subst}
 use Rattle.std.specs.Prelude.{Some}
 use Rattle.std.specs.Iterator.{Yields}
 use Rattle.part.specs.Slice.{part, after}
@@ -10,7 +10,7 @@ use Rattle.refusal.specs.declared.Refusal.{Refusal}
 use Rattle.attribute.specs.declared.AdsAttribute.{AdsAttribute}
 use Rattle.attribute.specs.declared.Attributes.{Attributes}
 use Rattle.attribute.specs.Attribute.{first_of, listed, NextGives}
-use Rattle.attribute.proofs.Again.{n_of, v_of, here, fits, is_here}
+use Rattle.attribute.proofs.Again.{n_of, v_of, fits, is_here}
 use Rattle.attribute.proofs.Left.{goes_on}
 use Rattle.places.specs.Places.{IsAttributeBefore}
 

@@ -15,13 +15,11 @@ use Rattle.refactor.specs.Refactor as refactor
 use Rattle.refactor.specs.declared.RefactorInfos.{RefactorInfos}
 use Rattle.refactor.proofs.Inside.{chains_counted, refactors_shown}
 use Rattle.symbol.specs.declared.AdsSymbolInfo.{AdsSymbolInfo}
-use Rattle.symbol.specs.Symbol.{symbol_of}
 use Rattle.symbol.proofs.Laws.{symbols_whole}
 use Rattle.field.specs.declared.AdsFieldInfo.{AdsFieldInfo}
-use Rattle.field.specs.Field.{field_of}
 use Rattle.field.proofs.Within.{fields_within}
 use Rattle.data_type.specs.declared.AdsDataTypeInfo.{AdsDataTypeInfo}
-use Rattle.data_type.specs.DataType.{levels, type_of}
+use Rattle.data_type.specs.DataType.{levels}
 use Rattle.data_type.proofs.AsField.{entry_as_field}
 use Rattle.places.specs.declared.AttributePlaces.{AttributePlaces}
 use Rattle.places.specs.declared.RefactorPlaces.{RefactorPlaces}

@@ -1,7 +1,7 @@
-use Rattle.std.proofs.Common.{◌≡◌, ap, ◌∙◌, rules, Ok}
+use Rattle.std.proofs.Common.{ap, ◌∙◌, rules, Ok}
 use borrow.Author.Tests.{tests}
 use Rattle.std.specs.Cmp.Lexicographic.{pointwise}
-use Rattle.std.specs.Prelude.{Option, Some, None, nat_eq, find, ok_or}
+use Rattle.std.specs.Prelude.{Option, Some, None, nat_eq, ok_or}
 use Rattle.std.proofs.lemmas.Iterator.Search.{find_from_yields_List}
 use Rattle.refusal.specs.declared.Refusal.TheVariants.{NameNotFound}
 use Rattle.attribute.specs.declared.AdsAttribute.{AdsAttribute}
