@@ -6,3 +6,5 @@ pub mod Formed
 pub mod Good
 pub mod Form
 pub mod Read
+pub mod Faithful
+pub mod Meaning

@@ -70,7 +70,7 @@ module _ (e : Bor (List ℕ)) (r : AdsSymbolInfo) (h : HoldsBytes e) (read : sym
   l : laid.Laid (entry_bytes (body_of n ++ [])) (bytes4 (length (body_of n ++ []) + 4) ++ header_bytes n) n.name.now n.type_name.now n.comment.now (sections_bytes n ++ []) 30
   l = header.laid n (typed e r h read) a [] fits
 
-  told : told_of r ≡ meant n []
+  pub told : told_of r ≡ meant n []
   told =
       let again : symbol_written n ≡ Ok (symbol_bytes n) = w ∙ ap Ok (accepted_is n e.now w).1 in
       let b = sym (ap (map_ok told_of) read) ∙ symbols_read_back Present n [] e (typed e r h read) again (is ∙ sym (dropped n)) small in

@@ -1,2 +1,3 @@
 pub mod Plain
 pub mod Form
+pub mod Meaning

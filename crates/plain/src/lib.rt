@@ -8,6 +8,7 @@ ghost use Rattle.writing.specs.Layout.{lengths_bytes, string_bytes, strings_byte
 ghost use Rattle.symbol.specs.Writing.{numbers_bytes, header_bytes, guid_bytes, extended_bytes, sections_bytes, symbol_bytes};
 ghost use Rattle.plain.specs.Plain.{along, IsInside, departing, plain_of};
 ghost use Rattle.plain.specs.Form.{PlainInForm};
+ghost use Rattle.plain.specs.Meaning.{PlainMeant, PlainFaithful};
 
 use refusal::{Mode, Refusal};
 use symbol::{AdsSymbolInfo, NewSymbol};
@@ -231,4 +232,15 @@ pub fn check(upload: &[u8]) -> Result<(), Refusal>
 /// records are good, each end byte is 0 and nothing is unread.
 pub fn plain_in_form()
     ensures { PlainInForm }
+{}
+
+/// An upload passes exactly where each of its pieces is a plain entry. Else the first that is not is refused: as its reading, by 10, or by 19 with the first place
+/// at which it departs from what is written of its record, its start where that is refused.
+pub fn plain_meant()
+    ensures { PlainMeant }
+{}
+
+/// Two plain entries tell the same exactly where they are the same bytes.
+pub fn plain_faithful()
+    ensures { PlainFaithful }
 {}

@@ -1,0 +1,52 @@
+-- docs/FORMAT.md, "Plain form": which uploads are plain, by which refusal the others are refused, and that plain entries are as many as what they tell.
+use Rattle.std.specs.Prelude.{ℕ, ◌+◌, ◌-◌, ◌<◌, ◌≡◌, ◌↔◌, List, ◌∷◌, ◌++◌, Result, Ok, Err, length, take, slice_get}
+use Rattle.std.specs.List.{All}
+use Rattle.std.specs.Borrow.{Bor}
+use Rattle.part.specs.Slice.{part}
+use Rattle.refusal.specs.declared.Mode.TheVariants.{Present}
+use Rattle.refusal.specs.declared.Refusal.{Refusal}
+use Rattle.refusal.specs.declared.Refusal.TheVariants.{NotPlain}
+use Rattle.walk.specs.declared.Piece.{Piece}
+use Rattle.walk.specs.Pieces.{pieces}
+use Rattle.symbol.specs.declared.AdsSymbolInfo.{AdsSymbolInfo}
+use Rattle.symbol.specs.Symbol.{symbol_of}
+use Rattle.symbol.specs.Told.{told_of}
+use Rattle.symbol.specs.Writing.{symbol_written}
+use Rattle.symbol.specs.Again.{new_of}
+use Rattle.plain.specs.Plain.{plain_of}
+use Rattle.plain.specs.Form.{HoldsBytes, IsWrittenSo}
+
+-- the first place at which two lists are not the same
+pub record Departs (e bytes : List ℕ) (at : ℕ) : Type 0 where
+  pub before : take at e ≡ take at bytes
+  pub there : slice_get e at ≡ slice_get bytes at → ⊥
+
+module _ (s : Bor (List ℕ)) where
+  abbrev pub own : Piece AdsSymbolInfo → Bor (List ℕ)
+  own p = part s p.start (p.end - p.start)
+
+  -- a piece that is a plain entry
+  pub record IsPlain (p : Piece AdsSymbolInfo) : Type 0 where
+    pub read : AdsSymbolInfo
+    pub is : p.answer ≡ Ok read
+    pub written : IsWrittenSo (own p) read
+
+  -- why a piece is not one, and the refusal
+  pub data NotSo (p : Piece AdsSymbolInfo) : Refusal → Type 0 where
+    refused : {why : Refusal} → p.answer ≡ Err why → NotSo p why
+    unwritten : (r : AdsSymbolInfo) (why : Refusal) → p.answer ≡ Ok r → symbol_written (new_of r) ≡ Err why → NotSo p (NotPlain p.start)
+    departs : (r : AdsSymbolInfo) (bytes : List ℕ) (at : ℕ) → p.answer ≡ Ok r → symbol_written (new_of r) ≡ Ok bytes → Departs (own p).now bytes at → NotSo p (NotPlain (p.start + at))
+
+  -- all pieces are plain entries, or the first that is not is refused
+  pub data Told : Result Unit Refusal → Type 0 where
+    plain : All IsPlain (pieces (symbol_of Present) s) → Told (Ok tt)
+    first : (before behind : List (Piece AdsSymbolInfo)) (p : Piece AdsSymbolInfo) {why : Refusal} → pieces (symbol_of Present) s ≡ before ++ (p ∷ behind) → All IsPlain before → NotSo p why → Told (Err why)
+
+abbrev pub PlainMeant : Type 0
+PlainMeant = (s : Bor (List ℕ)) → Told s (plain_of s)
+
+-- two plain entries tell the same exactly where they are the same bytes
+abbrev pub PlainFaithful : Type 0
+PlainFaithful =
+    (e f : Bor (List ℕ)) (r q : AdsSymbolInfo) → HoldsBytes e → HoldsBytes f → symbol_of Present e ≡ Ok r → symbol_of Present f ≡ Ok q → IsWrittenSo e r → IsWrittenSo f q
+    → ((told_of r ≡ told_of q) ↔ (e.now ≡ f.now))
