@@ -2,5 +2,5 @@ mod Rows
 mod Lines
 mod Texts
 mod Spelling
-mod Anywhere
+pub mod Anywhere
 pub mod Meaning
