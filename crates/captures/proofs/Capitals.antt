@@ -1,5 +1,5 @@
 -- Bytes in capitals are what the kit writes, and nothing else.
-use Rattle.std.proofs.Common.{ℕ, zero, suc, ◌+◌, ◌*◌, ◌/◌, ◌%◌, ◌<◌, ◌≤◌, ◌≡◌, refl, sym, ap, ap₂, ◌∙◌, List, [], ◌∷◌, ◌++◌, length, get_or, codes, arith}
+use Rattle.std.proofs.Common.{ℕ, zero, suc, ◌+◌, ◌*◌, ◌/◌, ◌%◌, ◌<◌, ◌≡◌, refl, sym, ap, ◌∙◌, List, [], ◌∷◌, length, get_or, arith}
 use Rattle.hex.specs.Hex.{encode_with, upper_digits, encode_upper}
 use Rattle.hex.proofs.HexLemmas.{length-encode_with}
 use Rattle.captures.specs.Meaning.{Capitals}

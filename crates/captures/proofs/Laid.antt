@@ -1,6 +1,6 @@
 -- What splitting writes are the lines of the upload, and no others.
-use Rattle.std.proofs.Common.{ℕ, zero, suc, ◌+◌, ◌-◌, ◌*◌, ◌<◌, ◌≤◌, ◌≡◌, ◌⊎◌, inl, inr, refl, sym, ap, ap₂, subst, ◌∙◌, Bool, true, false, List, [], ◌∷◌, ◌++◌, length, take, drop, append_assoc, append-nil, length-drop, arith}
-use Rattle.std.specs.Prelude.{leb, ltb, map, Result, Ok, Err, Some, None, if◌then◌else◌}
+use Rattle.std.proofs.Common.{ℕ, zero, suc, ◌+◌, ◌-◌, ◌<◌, ◌≤◌, ◌≡◌, inl, inr, refl, sym, ap, ap₂, subst, ◌∙◌, Bool, true, false, List, [], ◌∷◌, ◌++◌, length, drop, append_assoc, length-drop, arith}
+use Rattle.std.specs.Prelude.{leb, ltb, map, Result, Ok, Err, if◌then◌else◌}
 use Rattle.std.specs.List.{flat_map, slice_range}
 use Rattle.std.proofs.lemmas.List.{take_all}
 use borrow.Author.Tests.{leb-true, leb-false, le-leb, eqb-true, eqb-false, ltb-true, ltb-false}
@@ -19,7 +19,7 @@ use Rattle.captures.specs.Meaning.{Capitals, IsCut, Lines, done, entry, last, Sp
 use Rattle.captures.proofs.Capitals.{capitals_are, are_capitals}
 use Rattle.captures.proofs.Pieces.{split_large, split_within}
 
-line_first : (piece : List ℕ) (pieces : List (List ℕ)) → text_of (piece ∷ pieces) ≡ encode_upper piece ++ (10 ∷ text_of pieces)
+pub line_first : (piece : List ℕ) (pieces : List (List ℕ)) → text_of (piece ∷ pieces) ≡ encode_upper piece ++ (10 ∷ text_of pieces)
 unfolding text_of
 line_first piece pieces = append_assoc (encode_upper piece) (10 ∷ []) (flat_map line pieces)
 

@@ -1,6 +1,6 @@
 -- Lines of a text, one after another.
-use Rattle.std.proofs.Common.{ℕ, zero, suc, ◌+◌, ◌*◌, ◌<◌, ◌≤◌, ◌≡◌, refl, sym, ap, subst, ◌∙◌, Bool, true, false, List, [], ◌∷◌, ◌++◌, length, take, drop, arith, length-append, append_assoc}
-use Rattle.std.specs.Prelude.{cond, Result, Ok, Err, Some, None, IfOk, IsOkAnd}
+use Rattle.std.proofs.Common.{ℕ, zero, suc, ◌+◌, ◌<◌, ◌≤◌, ◌≡◌, refl, sym, ap, subst, ◌∙◌, Bool, true, false, List, [], ◌∷◌, ◌++◌, length, take, drop, arith, length-append}
+use Rattle.std.specs.Prelude.{cond, Result, Ok, Err, Some, IfOk, IsOkAnd}
 use Rattle.std.specs.List.{onto_first}
 use Rattle.part.specs.Outcome.{and_then}
 use Rattle.memchr.specs.Find.{is_byte, Passes, Nowhere, IsFirstByte}

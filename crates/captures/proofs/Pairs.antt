@@ -1,6 +1,6 @@
 -- Bytes in digits, and what digits spell.
 use Rattle.std.proofs.Common.{ℕ, zero, suc, ◌+◌, ◌*◌, ◌/◌, ◌%◌, ◌<◌, ◌≤◌, ◌≡◌, refl, sym, ap, ◌∙◌, Bool, true, false, List, [], ◌∷◌, ◌++◌, length, take, get_or, set, subst, arith}
-use Rattle.std.specs.Prelude.{Option, Some, None, Result, Ok, Err, unwrap_or, is_ok, is_some, slice_index, IfOk, IsOkAnd}
+use Rattle.std.specs.Prelude.{Option, Some, None, Result, Ok, Err, unwrap_or, is_ok, slice_index, IfOk, IsOkAnd}
 use Rattle.std.specs.List.{list_all}
 use Rattle.std.proofs.lemmas.List.Elements.{All-get_or}
 use Rattle.std.proofs.lemmas.List.Sums.{AllPass-from_list_all, list_all-from_AllPass}
@@ -10,7 +10,6 @@ use Rattle.le.proofs.Laws.{take_more, put_none, put_one, wrote, after, same_byte
 use Rattle.hex.specs.Hex.{encode_with, upper_digits, encode_upper, hex_digit_value, is_hex_digit, value_at, digit_or_error, pair_value, decode_pairs, decode_of, ◌>>=◌}
 use Rattle.hex.specs.declared.error.FromHexError.{FromHexError}
 use Rattle.hex.proofs.HexLemmas.{decode_of-ok, decode_of-digits, decode_of-even}
-use Rattle.refusal.specs.declared.Refusal.{Refusal}
 use Rattle.refusal.specs.declared.Refusal.TheVariants.{BadHexadecimal}
 use Rattle.captures.specs.Captures.{spelt, told_length}
 

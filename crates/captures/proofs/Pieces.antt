@@ -1,9 +1,9 @@
 -- The pieces of an upload, by claims alone.
-use Rattle.std.proofs.Common.{ℕ, zero, suc, ◌+◌, ◌-◌, ◌*◌, ◌<◌, ◌≤◌, ◌≡◌, refl, sym, ap, ap₂, ◌∙◌, Bool, true, false, List, [], ◌∷◌, ◌++◌, length, take, drop, arith, length-append, length-drop, append_assoc, append-nil, Bor}
+use Rattle.std.proofs.Common.{ℕ, zero, suc, ◌+◌, ◌-◌, ◌*◌, ◌<◌, ◌≤◌, ◌≡◌, refl, sym, ap, ap₂, ◌∙◌, Bool, true, false, List, [], ◌∷◌, ◌++◌, length, drop, arith, length-append, length-drop, append-nil, Bor}
 use Rattle.std.specs.Prelude.{leb, map, Result, Ok, Err, if◌then◌else◌}
 use Rattle.std.specs.List.{flat_map, slice_range, concat}
 use Rattle.std.proofs.lemmas.List.{drop_all, take_all, length-map}
-use Rattle.std.proofs.lemmas.List.Folds.{flat_map-map, drop_split}
+use Rattle.std.proofs.lemmas.List.Folds.{drop_split}
 use borrow.Author.Tests.{leb-true, leb-false, eqb-false, lt-ltb, le-ltb}
 use Rattle.hex.specs.Hex.{upper_digits, encode_upper}
 use Rattle.hex.proofs.HexLemmas.{length-encode_with}
@@ -38,8 +38,11 @@ module _ {R : Type 0} (read : Bor (List ℕ) → Result R Refusal) (s : Bor (Lis
   ends at true e = simp e
   ends at false e = simp e
 
+  pub ends_at : (at : ℕ) → (walk.piece_at read s at).end ≡ end_of s.now at
+  ends_at at = ends at (stands s.now at) refl
+
   same_line : (at : ℕ) → line (slice_range s.now (walk.piece_at read s at).start (walk.piece_at read s at).end) ≡ line (piece_at s.now at)
-  same_line at = ap₂ (λ (a b : ℕ). line (slice_range s.now a b)) (piece_starts read s at) (ends at (stands s.now at) refl)
+  same_line at = ap₂ (λ (a b : ℕ). line (slice_range s.now a b)) (piece_starts read s at) (ends_at at)
 
   same_lines : (places : List ℕ) → lines_of s.now (map (walk.piece_at read s) places) ≡ flat_map line (map (piece_at s.now) places)
   unfolding lines_of

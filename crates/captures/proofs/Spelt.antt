@@ -1,6 +1,6 @@
 -- What a text spells, character by character, is what its lines spell.
-use Rattle.std.proofs.Common.{ℕ, zero, suc, ◌+◌, ◌-◌, ◌*◌, ◌/◌, ◌%◌, ◌<◌, ◌≤◌, ◌≡◌, refl, sym, ap, ap₂, subst, ◌∙◌, Bool, true, false, ◌&&◌, List, [], ◌∷◌, ◌++◌, length, get_or, append_assoc, append-nil, arith}
-use Rattle.std.specs.Prelude.{leb, cond, nat_le, Option, Some, None, Result, Ok, Err, if◌then◌else◌}
+use Rattle.std.proofs.Common.{ℕ, ◌+◌, ◌-◌, ◌*◌, ◌<◌, ◌≤◌, ◌≡◌, refl, sym, ap, subst, ◌∙◌, Bool, true, false, ◌&&◌, List, [], ◌∷◌, ◌++◌, length, append-nil, arith}
+use Rattle.std.specs.Prelude.{leb, cond, Option, Some, None, Result, Ok, Err, if◌then◌else◌}
 use Rattle.std.specs.List.{onto_first, join_with_byte}
 use Rattle.std.proofs.lemmas.List.Splits.{join_with_byte-slice_split}
 use borrow.Author.Tests.{leb-true, ne_eqb, lt-ltb, le-ltb}
@@ -8,7 +8,7 @@ use Rattle.part.specs.Outcome.{and_then}
 use Rattle.refusal.specs.Refusal.{limit}
 use Rattle.refusal.specs.declared.Refusal.{Refusal}
 use Rattle.refusal.specs.declared.Refusal.TheVariants.{TooLarge, BadHexadecimal}
-use Rattle.hex.specs.Hex.{hex_digit_value, is_hex_digit, value_at, digit_or_error, pair_value, decode_pairs, decode_of, ◌>>=◌}
+use Rattle.hex.specs.Hex.{hex_digit_value, value_at, digit_or_error, pair_value, decode_pairs, decode_of}
 use Rattle.hex.specs.declared.error.FromHexError.{FromHexError}
 use Rattle.hex.proofs.HexLemmas.{decode_of-ok, decode_of-even, decode_pairs-ok, decode_pairs-digits}
 use Rattle.hex.proofs.Pairs.{cons_byte, decode_pairs-ok_pair}
@@ -17,7 +17,7 @@ use Rattle.writing.proofs.Entry.{entry_passed}
 use Rattle.captures.specs.Captures.{lines, spelt, joined, joining}
 use Rattle.captures.specs.Meaning.{IsDigit, number, capital, small, Spells, end, line, byte, JoinMeant}
 use Rattle.captures.proofs.Pairs.{pairs_read, bind_ok}
-use Rattle.captures.proofs.Lines.{Parts, parts, join_checked}
+use Rattle.captures.proofs.Lines.{parts, join_checked}
 
 -- ---- digits
 pub digit_reads : (c v : ℕ) → IsDigit c v → hex_digit_value c ≡ Some v
@@ -40,7 +40,7 @@ digit_is c v =
     (leb 65 c) (leb c 70) refl refl
 
 -- no digit is an LF
-not_end : (c v : ℕ) → IsDigit c v → c ≡ 10 → ⊥
+pub not_end : (c v : ℕ) → IsDigit c v → c ≡ 10 → ⊥
 not_end c v (number a e) h = omega arith
 not_end c v (capital a b e) h = omega arith
 not_end c v (small a b e) h = omega arith

@@ -1,10 +1,10 @@
 -- There and back.
-use Rattle.std.proofs.Common.{ℕ, zero, suc, ◌+◌, ◌-◌, ◌*◌, ◌/◌, ◌%◌, ◌<◌, ◌≤◌, ◌≡◌, refl, sym, ap, ap₂, subst, ◌∙◌, List, [], ◌∷◌, ◌++◌, length, take, drop, get_or, append_assoc, append-nil, length-append, arith}
-use Rattle.std.specs.Prelude.{Ok, slice_index}
+use Rattle.std.proofs.Common.{ℕ, zero, suc, ◌+◌, ◌*◌, ◌/◌, ◌%◌, ◌<◌, ◌≤◌, ◌≡◌, sym, ap, ap₂, subst, ◌∙◌, List, [], ◌∷◌, ◌++◌, length, take, drop, get_or, append_assoc, append-nil, length-append, arith}
+use Rattle.std.specs.Prelude.{slice_index}
 use Rattle.std.specs.List.{slice_range}
 use Rattle.std.proofs.lemmas.List.{drop_all, get_or-append-add, get_or_append_left}
 use Rattle.std.proofs.lemmas.List.Folds.{drop_split}
-use Rattle.std.proofs.Math.Seq.{drop-append_seam, take-append_seam, get_or-drop}
+use Rattle.std.proofs.Math.Seq.{drop-append_seam, take-append_seam}
 use Rattle.le.specs.Le.{le4}
 use Rattle.hex.specs.Hex.{IsBytes, encode_with, upper_digits, encode_upper}
 use Rattle.hex.proofs.HexLemmas.{IsDigits-upper_digits}
@@ -14,13 +14,13 @@ use Rattle.captures.proofs.Spelt.{digit_is, join_meant}
 use Rattle.captures.proofs.Laid.{split_meant, within_limit}
 
 -- ---- bytes
-bytes_take : (n : ℕ) (s : List ℕ) → IsBytes s → IsBytes (take n s)
+pub bytes_take : (n : ℕ) (s : List ℕ) → IsBytes s → IsBytes (take n s)
 bytes_take zero s h k = omega arith
 bytes_take (suc n) [] h k = omega arith
 bytes_take (suc n) (b ∷ s) h zero = h 0
 bytes_take (suc n) (b ∷ s) h (suc k) = bytes_take n s (λ k. h (suc k)) k
 
-bytes_drop : (n : ℕ) (s : List ℕ) → IsBytes s → IsBytes (drop n s)
+pub bytes_drop : (n : ℕ) (s : List ℕ) → IsBytes s → IsBytes (drop n s)
 bytes_drop zero s h k = h k
 bytes_drop (suc n) [] h k = omega arith
 bytes_drop (suc n) (b ∷ s) h k = bytes_drop n s (λ k. h (suc k)) k

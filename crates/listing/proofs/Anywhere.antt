@@ -23,7 +23,7 @@ unfolding entry_row
 row_still line start (Ok r) = refl
 row_still line start (Err why) = refl
 
-row_of : (mode : Mode) (line start : ℕ) (m : ℕ × ℕ) (e : Bor (List ℕ)) → answer_row line start (symbol_of mode (moved m e)) ≡ answer_row line start (symbol_of mode e)
+pub row_of : (mode : Mode) (line start : ℕ) (m : ℕ × ℕ) (e : Bor (List ℕ)) → answer_row line start (symbol_of mode (moved m e)) ≡ answer_row line start (symbol_of mode e)
 row_of mode line start m e = sym (row_still line start (symbol_of mode (moved m e))) ∙ ap (answer_row line start) (read_still mode m e) ∙ row_still line start (symbol_of mode e)
 
 module _ (mode : Mode) (line : ℕ) (m : ℕ × ℕ) (s : Bor (List ℕ)) where

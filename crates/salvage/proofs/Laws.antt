@@ -1,13 +1,13 @@
 -- What the loops of a salvage keep.
-use Rattle.std.proofs.Common.{ℕ, zero, suc, ◌+◌, ◌-◌, ◌*◌, ◌<◌, ◌≤◌, ◌≡◌, refl, sym, ap, subst, ◌∙◌, Bool, true, false, List, [], ◌∷◌, ◌++◌, length, arith, length-append}
+use Rattle.std.proofs.Common.{ℕ, zero, suc, ◌+◌, ◌-◌, ◌*◌, ◌≤◌, ◌≡◌, refl, ap, Bool, true, false, List, [], ◌∷◌, ◌++◌, length, arith, length-append}
 use Rattle.std.specs.Prelude.{leb, All, Ok, Err, if◌then◌else◌}
 use Rattle.std.specs.Prelude.{Result}
 use Rattle.std.specs.Borrow.{Bor}
-use Rattle.std.proofs.lemmas.List.Elements.{All-nil, All-cons, All-head}
+use Rattle.std.proofs.lemmas.List.Elements.{All-head}
 use borrow.Author.Tests.{leb-false}
 use Rattle.le.specs.Le.{part}
-use Rattle.le.specs.Put.{put, Wrote}
-use Rattle.le.proofs.Laws.{put_then, put_none, length_part, same_bytes}
+use Rattle.le.specs.Put.{Wrote}
+use Rattle.le.proofs.Laws.{length_part, same_bytes}
 use Rattle.refusal.specs.Refusal.{figures_of}
 use Rattle.refusal.specs.declared.Refusal.{Refusal}
 use Rattle.walk.specs.declared.Piece.{Piece}

@@ -20,10 +20,10 @@ mod accepted;
 mod unread;
 
 pub use accepted::{Accepted, Accepts};
-pub use unread::Unread;
 use entry::Walked;
 use refusal::{Mode, Refusal};
 use std::marker::PhantomData;
+pub use unread::Unread;
 
 /// A kind of entry, by what reading an entry's own bytes gives. What is read may be parts of them.
 pub trait Entry<'a>: Drop {

@@ -1,4 +1,4 @@
-use Rattle.std.proofs.Common.{◌≡◌, ◌+◌, ◌≤◌, ◌∙◌, sym, ap, length, arith}
+use Rattle.std.proofs.Common.{◌≡◌, ◌≤◌, ap, length, arith}
 use Rattle.refusal.specs.declared.Mode.TheVariants.{Present}
 use Rattle.walk.specs.Pieces.{pieces, walker_left}
 use Rattle.walk.specs.Unread.{unread_of}

@@ -1,4 +1,4 @@
-use Rattle.std.proofs.Common.{ℕ, List, Err, ◌≡◌, ◌≤◌, ◌∙◌, sym, ap, length, rules, arith}
+use Rattle.std.proofs.Common.{Err, ◌≡◌, ◌≤◌, ◌∙◌, sym, length, rules, arith}
 use Rattle.le.specs.Put.{put}
 use Rattle.le.proofs.Laws.{wrote}
 use Rattle.writing.proofs.Laws.{refuses}

@@ -1,4 +1,4 @@
-use Rattle.std.proofs.Common.{arith, length, length-append, ◌∷◌, []}
+use Rattle.std.proofs.Common.{arith, length-append, ◌∷◌, []}
 use Rattle.hex.specs.Hex.{upper_digits, encode_upper}
 use Rattle.hex.proofs.HexLemmas.{length-encode_with}
 use Rattle.le.proofs.Laws.{after}

@@ -1,13 +1,11 @@
-use Rattle.std.proofs.Common.{ℕ, List, ◌≡◌, ◌+◌, ◌≤◌, ◌∙◌, sym, ap, length, arith, length-append}
-use Rattle.std.specs.List.{slice_range}
-use Rattle.std.proofs.lemmas.List.Elements.{All-rest, All-head}
+use Rattle.std.proofs.Common.{ℕ, ◌≡◌, ◌∙◌, ap, length, arith, length-append}
+use Rattle.std.proofs.lemmas.List.Elements.{All-rest}
 use Rattle.le.specs.Put.{put}
 use Rattle.refusal.specs.declared.Mode.TheVariants.{Present}
 use Rattle.walk.specs.Pieces.{pieces, walker_left}
 use Rattle.walk.specs.Unread.{unread_of}
 use Rattle.walk.proofs.Forward.{Forward, all_forward}
 use Rattle.writing.proofs.Going.{going, goes_on, gone, going_by}
-use Rattle.captures.specs.Captures.{line, text_of, piece_bytes}
 use Rattle.captures.proofs.Pieces.{lines_of, lines_are, line_then, no_line}
 use Rattle.captures.proofs.put_lines.Goals as goal
 

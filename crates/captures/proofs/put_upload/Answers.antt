@@ -1,6 +1,6 @@
-use Rattle.std.proofs.Common.{◌+◌, ◌∙◌, ap, sym, take, drop, length, arith, length-drop, List, ℕ, ◌∷◌, subst}
+use Rattle.std.proofs.Common.{◌+◌, ◌∙◌, ap, sym, take, length, arith, length-drop, List, ℕ, ◌∷◌}
 use Rattle.captures.specs.Captures.{lines}
-use Rattle.captures.proofs.Lines.{lines_first, lines_last, all_left, line_fits, line_goes, line_ends, Left}
+use Rattle.captures.proofs.Lines.{lines_first, lines_last, all_left, line_fits, line_goes, line_ends}
 use Rattle.captures.proofs.put_upload.Goals as goal
 
 pub loop-end-init : goal.loop-end-init

@@ -1,4 +1,4 @@
-use Rattle.std.proofs.Common.{◌∙◌, arith}
+use Rattle.std.proofs.Common.{arith}
 use Rattle.le.proofs.Laws.{wrote}
 use Rattle.writing.proofs.Laws.{refuses, too_small, done}
 use Rattle.captures.proofs.Pieces.{splits_long, few_steps, split_large, split_within}

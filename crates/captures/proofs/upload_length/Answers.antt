@@ -1,4 +1,4 @@
-use Rattle.std.proofs.Common.{ℕ, ◌≡◌, ◌+◌, take, drop, length, arith, sym, ap, ◌∙◌, length-drop, length-take-le, List, ◌*◌, ◌≤◌, Err, rules}
+use Rattle.std.proofs.Common.{ℕ, ◌≡◌, ◌+◌, take, length, arith, sym, ap, ◌∙◌, length-drop, length-take-le, List, Err, rules}
 use Rattle.captures.specs.Captures.{lines, joined}
 use Rattle.captures.proofs.Pairs.{few_told}
 use Rattle.captures.proofs.Lines.{with_length, none_before, length_more, length_bad, length_last, length_last_bad}
@@ -27,7 +27,7 @@ loop-end-preserved c =
     record {
       few = omega (arith, few, c.loop-end.invariant.few, length-take-le c.in-Some.end c.loop-end.rest.now (omega (arith, c.in-Some.ensures.0.high)), c.in-Some.ensures.0.high, ap length c.behind-rest.ensures, length-drop (c.in-Some.end + 1) c.loop-end.rest.now);
       told = ap (λ (l : List ℕ). with_length (c.loop-end.length + c.in_ok-length.field-0) (joined (lines l))) c.behind-rest.ensures
-      ∙ sym (length_more c.loop-end.rest.now c.in-Some.end c.in-Some.ensures c.loop-end.length c.in_ok-length.field-0 told) ∙ c.loop-end.invariant.told;
+          ∙ sym (length_more c.loop-end.rest.now c.in-Some.end c.in-Some.ensures c.loop-end.length c.in_ok-length.field-0 told) ∙ c.loop-end.invariant.told;
     }
 
 pub returns-in_err-line_length : goal.returns-in_err-line_length

@@ -1,4 +1,4 @@
-use Rattle.std.proofs.Common.{◌*◌, sym, ◌∙◌}
+use Rattle.std.proofs.Common.{sym, ◌∙◌}
 use borrow.Author.Tests.{ne_eqb}
 use Rattle.captures.proofs.Pairs.{tested, odd}
 use Rattle.captures.proofs.digits.are_pairs.Goals as goal

@@ -1,4 +1,4 @@
-use Rattle.std.proofs.Common.{take, length, ap, arith, ◌<◌, ◌≤◌}
+use Rattle.std.proofs.Common.{take, ap, arith}
 use Rattle.std.proofs.Math.Seq.{length-take-le, take_all}
 use Rattle.hex.specs.Hex.{encode_with, upper_digits, encode_upper}
 use Rattle.hex.proofs.HexLemmas.{length-encode_with}

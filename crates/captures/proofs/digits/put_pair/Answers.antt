@@ -1,4 +1,4 @@
-use Rattle.std.proofs.Common.{ℕ, List, [], ◌∷◌, ap₂, arith}
+use Rattle.std.proofs.Common.{ℕ, [], ◌∷◌, ap₂, arith}
 use Rattle.hex.specs.Hex.{encode_with}
 use Rattle.le.proofs.Laws.{put_two, wrote, same_bytes}
 use Rattle.captures.proofs.digits.put_pair.Goals as goal

@@ -1,4 +1,4 @@
-use Rattle.std.proofs.Common.{ℕ, ◌+◌, ◌*◌, ◌<◌, ◌≤◌, ◌≡◌, List, length, arith}
+use Rattle.std.proofs.Common.{◌+◌, ◌*◌, length, arith}
 use Rattle.hex.specs.Hex.{decode_of}
 use Rattle.le.specs.Put.{Wrote}
 use Rattle.captures.proofs.Pairs.{pair_bytes, fit, none_spelt, more_spelt, all_spelt, spelt_at, if_ok, decoded}
