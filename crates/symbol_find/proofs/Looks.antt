@@ -12,13 +12,13 @@ use Rattle.part.specs.Outcome.{and_then}
 use Rattle.refusal.specs.declared.Mode.{Mode}
 use Rattle.refusal.specs.declared.Refusal.{Refusal}
 use Rattle.names.specs.Names.{same_name}
-use Rattle.names.specs.Near.{low, ends_near}
-use Rattle.names.proofs.Laws.{other_length, ends_differ, ends_none, ends_last, low_small, unless}
+use Rattle.names.specs.Near.{low, look_of, ends_near}
+use Rattle.names.proofs.Laws.{other_length, ends_differ, ends_none, ends_last, looks_equal, unless}
 use Rattle.entry.specs.Entry.{claim_at}
 use Rattle.walk.specs.Step.{step_at}
 use Rattle.symbol.specs.declared.AdsSymbolInfo.{AdsSymbolInfo}
 use Rattle.symbol.specs.Symbol.{symbol_of, ended_symbol, with_strings}
-use Rattle.symbol_find.specs.Looks.{look_of, looks_named}
+use Rattle.symbol_find.specs.Looks.{looks_named}
 use Rattle.symbol_find.specs.Find.{has_name, is_named}
 
 -- where the name of an accepted symbol stands
@@ -49,25 +49,6 @@ alone false = refl
 pub looks_none : (e name : List ℕ) → 30 + length name ≤ length e → length name ≡ 0 → looks_named e name ≡ eqb (le2 e 24) 0
 unfolding looks_named
 looks_none e name h z = simp (le-ltb (length e) (30 + length name) h, ends_none e name 30 z) (alone (eqb (le2 e 24) (length name)) ∙ ap (eqb (le2 e 24)) z)
-
--- two numbers in one
-both_by : (x n a b : ℕ) → a < 32 → b < 32 → (p q : Bool) → eqb x n ≡ p → eqb a b ≡ q → eqb (x * 32 + a) (n * 32 + b) ≡ (if p then q else false)
-both_by x n a b h k true true e f =
-    let same : x * 32 + a ≡ n * 32 + b = omega (arith, eqb-true x n e, eqb-true a b f) in
-    eq-eqb _ _ same
-both_by x n a b h k true false e f = ne_eqb (x * 32 + a) (n * 32 + b) (λ (s : x * 32 + a ≡ n * 32 + b). eqb-false a b f (omega (arith, eqb-true x n e, s)))
-both_by x n a b h k false q e f = ne_eqb (x * 32 + a) (n * 32 + b) (λ (s : x * 32 + a ≡ n * 32 + b). eqb-false x n e (omega (arith, s)))
-
-look_by : (x n a b : ℕ) → x < 65536 → (small : Bool) → ltb n 65536 ≡ small → eqb (x * 32 + low a) (if small then n * 32 + low b else 65536 * 32) ≡ (if eqb x n then eqb (low a) (low b) else false)
-look_by x n a b h true e = both_by x n (low a) (low b) (low_small a) (low_small b) (eqb x n) (eqb (low a) (low b)) refl refl
-look_by x n a b h false e =
-    let above : 65536 ≤ n = ltb-false n 65536 e in
-    let other : eqb x n ≡ false = ne_eqb x n (λ (s : x ≡ n). omega (arith, s)) in
-    simp other (ne_eqb (x * 32 + low a) (65536 * 32) (λ (s : x * 32 + low a ≡ 65536 * 32). omega (arith, low_small a, s)))
-
-looks_equal : (x n a b : ℕ) → x < 65536 → eqb (look_of x a) (look_of n b) ≡ (if eqb x n then eqb (low a) (low b) else false)
-unfolding look_of
-looks_equal x n a b h = simp (lt-ltb x 65536 h) (look_by x n a b h (ltb n 65536) refl)
 
 -- by what was looked at
 pub looks_by : (e name : List ℕ) (told last own asked : ℕ) → 30 + length name ≤ length e → told < 65536 → told ≡ le2 e 24 → last + 1 ≡ length name → own ≡ look_of told (get_or e (30 + last) 0) → asked ≡ look_of (length name) (get_or name last 0) → eqb own asked ≡ looks_named e name

@@ -3,25 +3,13 @@
 
 ghost use Rattle.std.specs.Prelude.{◌≡◌, Some, drop, is_ok, length, true};
 ghost use Rattle.symbol.specs.Symbol.{symbol_of};
-ghost use Rattle.symbol_find.specs.Looks.{look_of, looks_named};
+ghost use Rattle.symbol_find.specs.Looks.{looks_named};
 ghost use Rattle.symbol_find.specs.Find.{has_name, is_named, find, find_indexed};
 ghost use Rattle.symbol_find.specs.Meaning.{FoundIsFirst, RefusedIsNowhere, FindMeant, AnyCase, SameFind, UselessShutOut};
 
 use refusal::{LIMIT, Mode, Refusal};
 use symbol::AdsSymbolInfo;
 use walk::{Accepts, Unread, Walker};
-
-// What a first look compares, as one number: a length, and the low bits of a last byte, which both cases of a letter share. One test is guessed wrong less often than two.
-#[inline(always)]
-#[tactic(auto, unfolding(crate::specs::Looks::look_of))]
-fn look(length: usize, last: u8) -> usize
-    ensures { result ≡ look_of length last }
-{
-    if length < 65_536 {
-        return length * 32 + names::low(last) as usize;
-    }
-    65_536 * 32
-}
 
 // A first look at an entry, which settles most of them: small, so that the compiler puts it into the loop.
 #[inline(always)]
@@ -38,7 +26,7 @@ fn looks_named_at_once(own: &[u8], name: &[u8]) -> bool
         return told == 0;
     }
     let last = length - 1;
-    look(told, own[30 + last]) == look(length, name[last])
+    names::look(told, own[30 + last]) == names::look(length, name[last])
 }
 
 // The same of the bytes from a place on, for a search from slot to slot: the last place that has room is the same for every slot, and the last byte, mostly in another cache line than the length, is fetched only where the length is right.
