@@ -2,6 +2,7 @@
 #![tactic(auto)]
 
 mod modes;
+mod plain_form;
 mod types;
 
 ghost use Rattle.std.specs.Prelude.{◌≡◌, Ok};
