@@ -716,6 +716,19 @@ uint32_t vindaskot_decode(const uint8_t *src, size_t src_len, uint8_t *out, size
 uint32_t vindaskot_encode(const uint8_t *src, size_t src_len, uint8_t *out, size_t out_len,
                           uint64_t answer[VINDASKOT_AT_LEAST 2]);
 
+/* ---- Captures ---- */
+
+/* An upload as lines of hexadecimal, and back (docs/FORMAT.md, "Captures"). Split: a line for each whole entry, accepted
+ * or not, and one for what is cut at the end or all that an entry of length 0 begins: two digits a byte, in capitals, and
+ * LF. An empty upload has no lines. Join: the bytes of all lines, one after another. A line ends at LF, which the last may
+ * lack; its digits are of either case. What was split and is joined is the same bytes. answer[0]: bytes written. For split
+ * three times bytes_len is always enough, for join half of text_len. Refusals: of split 5, 6; of join 12 (an odd number of
+ * digits in a line, or another character, CR being one), then 5 and 6 for the upload. */
+uint32_t vindaskot_split_lines(const uint8_t *bytes, size_t bytes_len, uint8_t *text, size_t text_len,
+                               uint64_t answer[VINDASKOT_AT_LEAST 2]);
+uint32_t vindaskot_join_lines(const uint8_t *text, size_t text_len, uint8_t *out, size_t out_len,
+                              uint64_t answer[VINDASKOT_AT_LEAST 2]);
+
 #ifdef __cplusplus
 }
 #endif

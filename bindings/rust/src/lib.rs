@@ -8,6 +8,7 @@ extern crate alloc;
 
 pub mod attributes;
 pub mod block;
+pub mod captures;
 pub mod data_type;
 pub mod field;
 pub mod flags;

@@ -680,4 +680,18 @@ unsafe extern "C" {
         out_len: usize,
         answer: &mut [u64; 2],
     ) -> u32;
+    pub fn vindaskot_split_lines(
+        bytes: *const u8,
+        bytes_len: usize,
+        text: *mut u8,
+        text_len: usize,
+        answer: &mut [u64; 2],
+    ) -> u32;
+    pub fn vindaskot_join_lines(
+        text: *const u8,
+        text_len: usize,
+        out: *mut u8,
+        out_len: usize,
+        answer: &mut [u64; 2],
+    ) -> u32;
 }

@@ -17,7 +17,7 @@ use Rattle.entry.proofs.Claims as met
 use Rattle.captures.specs.Captures.{end_of, piece_at, piece_bytes, line, text_of, splitting}
 use Rattle.captures.specs.Meaning.{Capitals, IsCut, Lines, done, entry, last, SplitMeant}
 use Rattle.captures.proofs.Capitals.{capitals_are, are_capitals}
-use Rattle.captures.proofs.Pieces.{split_large, split_within}
+use Rattle.captures.proofs.Pieces.{split_large, split_within, within_limit, split_is}
 
 pub line_first : (piece : List ℕ) (pieces : List (List ℕ)) → text_of (piece ∷ pieces) ≡ encode_upper piece ++ (10 ∷ text_of pieces)
 unfolding text_of
@@ -114,22 +114,8 @@ module _ (s : List ℕ) where
   one_text at at' t t' e (last a cut p) (entry a' b d q more) = absurd (not_cut at' a' b d (subst (IsCut s) e cut))
   one_text at at' t t' e (last a cut p) (last a' cut' q) = ap (λ (x : List ℕ). x ++ (10 ∷ [])) (same_digits (ap (λ (k : ℕ). drop k s) e) p q)
 
--- what is written is within the limit
-pub within_limit : (s text : List ℕ) → splitting s ≡ Ok text → length s ≤ limit
-within_limit s text h = by (ltb limit (length s)) refl
-  where
-    by : (b : Bool) → ltb limit (length s) ≡ b → length s ≤ limit
-    by true e =
-        let large : ◌≡◌ {A = Result (List ℕ) Refusal} (Err (TooLarge (length s))) (Ok text) = sym (split_large s (ltb-true limit (length s) e)) ∙ h in
-        absurd (let z : ◌≡◌ {A = ℕ} 0 1 = cc in omega arith)
-    by false e = ltb-false limit (length s) e
-
 written : (s text : List ℕ) → splitting s ≡ Ok text → Lines s 0 text
-written s text h =
-    let small = within_limit s text h in
-    let same : ◌≡◌ {A = Result (List ℕ) Refusal} (Ok (text_of (piece_bytes s))) (Ok text) = sym (split_within s small) ∙ h in
-    let is : text_of (piece_bytes s) ≡ text = cc in
-    subst (λ (t : List ℕ). Lines s 0 t) is (are_lines s small)
+written s text h = subst (λ (t : List ℕ). Lines s 0 t) (split_is s text h) (are_lines s (within_limit s text h))
 
 only : (s text : List ℕ) → length s ≤ limit → Lines s 0 text → splitting s ≡ Ok text
 only s text small l = split_within s small ∙ ap (λ (t : List ℕ). Ok t) (one_text s 0 0 (text_of (piece_bytes s)) text refl (are_lines s small) l)

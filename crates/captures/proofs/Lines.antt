@@ -8,7 +8,8 @@ use Rattle.hex.specs.Hex.{decode_of}
 use Rattle.hex.specs.declared.error.FromHexError.{FromHexError}
 use Rattle.refusal.specs.declared.Refusal.{Refusal}
 use Rattle.le.specs.Put.{put, Wrote}
-use Rattle.writing.specs.Checks.{entry_checked}
+use Rattle.writing.specs.Checks.{size_checked, entry_checked}
+use Rattle.writing.proofs.Entry.{entry_passed}
 use Rattle.writing.proofs.Going.{Going, going, goes_on, gone, going_by}
 use Rattle.captures.specs.Captures.{lines, spelt, told_length, joined, joining}
 use Rattle.captures.proofs.Pairs.{ok_and, from_if, to_and}
@@ -138,22 +139,43 @@ module _ {text rest old now : List ℕ} {at : ℕ} (left : Left text rest old no
 
 -- ---- the whole of it
 
-told : (r : Result (List ℕ) Refusal) (n : ℕ) → told_length r ≡ Ok n → (bytes : List ℕ) × (r ≡ Ok bytes) × (length bytes ≡ n)
+-- what is told of a length
+pub told : (r : Result (List ℕ) Refusal) (n : ℕ) → told_length r ≡ Ok n → (bytes : List ℕ) × (r ≡ Ok bytes) × (length bytes ≡ n)
 told (Ok bytes) n h = (bytes, refl, cc)
 told (Err why) n h = cc
 
--- how many bytes there are
-pub told_joined : (text : List ℕ) (n : ℕ) → told_length (joined (lines text)) ≡ Ok n → (bytes : List ℕ) × (joined (lines text) ≡ Ok bytes) × (length bytes ≡ n)
-told_joined text n h = told (joined (lines text)) n h
+pub told_refused : (r : Result (List ℕ) Refusal) (why : Refusal) → told_length r ≡ Err why → r ≡ Err why
+told_refused (Ok bytes) why h = cc
+told_refused (Err w) why h = let is : w ≡ why = cc in ap Err is
 
 pub join_bad : (text : List ℕ) (why : Refusal) → told_length (joined (lines text)) ≡ Err why → joining text ≡ Err why
 unfolding joining
-join_bad text why h = by (joined (lines text)) h
-  where
-    by : (r : Result (List ℕ) Refusal) → told_length r ≡ Err why → and_then r entry_checked ≡ Err why
-    by (Ok bytes) e = cc
-    by (Err w) e = let is : w ≡ why = cc in ap Err is
+join_bad text why h = ap (λ (r : Result (List ℕ) Refusal). and_then r entry_checked) (told_refused (joined (lines text)) why h)
 
 pub join_checked : (text bytes : List ℕ) → joined (lines text) ≡ Ok bytes → joining text ≡ entry_checked bytes
 unfolding joining
 join_checked text bytes h = ap (λ (r : Result (List ℕ) Refusal). and_then r entry_checked) h
+
+-- what is joined are the bytes of the lines
+pub joined_is : (text bytes : List ℕ) → joining text ≡ Ok bytes → joined (lines text) ≡ Ok bytes
+unfolding joining
+joined_is text bytes h = by (joined (lines text)) h
+  where
+    by : (r : Result (List ℕ) Refusal) → and_then r entry_checked ≡ Ok bytes → r ≡ Ok bytes
+    by (Ok b) k = ap Ok (sym (entry_passed b bytes k).1)
+    by (Err why) k = cc
+
+-- the size of what is spelt, checked
+module _ (text : List ℕ) (n : ℕ) (h : told_length (joined (lines text)) ≡ Ok n) where
+  checked : (r : Result Unit Refusal) → size_checked n ≡ r → joining text ≡ and_then r (λ u. joined (lines text))
+  unfolding entry_checked
+  checked r e =
+      let t = told (joined (lines text)) n h in
+      join_checked text t.0 t.1 ∙ ap (λ (k : ℕ). and_then (size_checked k) (λ u. Ok t.0)) t.2
+      ∙ ap (λ (r : Result Unit Refusal). and_then r (λ u. Ok t.0)) e ∙ ap (λ (x : Result (List ℕ) Refusal). and_then r (λ u. x)) (sym t.1)
+
+  pub size_passed : (u : Unit {0}) → size_checked n ≡ Ok u → told_length (joining text) ≡ Ok n
+  size_passed u e = ap told_length (checked (Ok u) e) ∙ h
+
+  pub size_refused : (why : Refusal) → size_checked n ≡ Err why → told_length (joining text) ≡ Err why
+  size_refused why e = ap told_length (checked (Err why) e)

@@ -1,10 +1,10 @@
 -- The pieces of an upload, by claims alone.
 use Rattle.std.proofs.Common.{ℕ, zero, suc, ◌+◌, ◌-◌, ◌*◌, ◌<◌, ◌≤◌, ◌≡◌, refl, sym, ap, ap₂, ◌∙◌, Bool, true, false, List, [], ◌∷◌, ◌++◌, length, drop, arith, length-append, length-drop, append-nil, Bor}
-use Rattle.std.specs.Prelude.{leb, map, Result, Ok, Err, if◌then◌else◌}
+use Rattle.std.specs.Prelude.{leb, ltb, map, Result, Ok, Err, if◌then◌else◌}
 use Rattle.std.specs.List.{flat_map, slice_range, concat}
 use Rattle.std.proofs.lemmas.List.{drop_all, take_all, length-map}
 use Rattle.std.proofs.lemmas.List.Folds.{drop_split}
-use borrow.Author.Tests.{leb-true, leb-false, eqb-false, lt-ltb, le-ltb}
+use borrow.Author.Tests.{leb-true, leb-false, eqb-false, lt-ltb, le-ltb, ltb-true, ltb-false}
 use Rattle.hex.specs.Hex.{upper_digits, encode_upper}
 use Rattle.hex.proofs.HexLemmas.{length-encode_with}
 use Rattle.refusal.specs.Refusal.{limit}
@@ -123,3 +123,16 @@ split_large s h = simp (lt-ltb limit (length s) h)
 pub split_within : (s : List ℕ) → length s ≤ limit → splitting s ≡ Ok (text_of (piece_bytes s))
 unfolding splitting
 split_within s h = simp (le-ltb limit (length s) h)
+
+-- what is written is within the limit, and these lines
+pub within_limit : (s text : List ℕ) → splitting s ≡ Ok text → length s ≤ limit
+within_limit s text h = by (ltb limit (length s)) refl
+  where
+    by : (b : Bool) → ltb limit (length s) ≡ b → length s ≤ limit
+    by true e =
+        let large : ◌≡◌ {A = Result (List ℕ) Refusal} (Err (TooLarge (length s))) (Ok text) = sym (split_large s (ltb-true limit (length s) e)) ∙ h in
+        absurd (let z : ◌≡◌ {A = ℕ} 0 1 = cc in omega arith)
+    by false e = ltb-false limit (length s) e
+
+pub split_is : (s text : List ℕ) → splitting s ≡ Ok text → text_of (piece_bytes s) ≡ text
+split_is s text h = let same : ◌≡◌ {A = Result (List ℕ) Refusal} (Ok (text_of (piece_bytes s))) (Ok text) = sym (split_within s (within_limit s text h)) ∙ h in cc

@@ -11,7 +11,8 @@ use Rattle.hex.proofs.HexLemmas.{IsDigits-upper_digits}
 use Rattle.captures.specs.Meaning.{Capitals, Lines, done, entry as lines_entry, last as lines_last, IsDigit, Spells, end, line as ended_line, byte, EntryLines, none, line, last, RoundTrips}
 use Rattle.captures.proofs.Capitals.{capitals_are}
 use Rattle.captures.proofs.Spelt.{digit_is, join_meant}
-use Rattle.captures.proofs.Laid.{split_meant, within_limit}
+use Rattle.captures.proofs.Pieces.{within_limit}
+use Rattle.captures.proofs.Laid.{split_meant}
 
 -- ---- bytes
 pub bytes_take : (n : ℕ) (s : List ℕ) → IsBytes s → IsBytes (take n s)

@@ -1,10 +1,11 @@
 //! Captures: an upload as lines of hexadecimal digits, one for each of its pieces, and back (docs/FORMAT.md, "Captures").
 #![tactic(auto)]
 
-ghost use Rattle.std.specs.Prelude.{◌≡◌, ◌+◌, ◌<◌, ◌≤◌, IfOk, IsOkAnd, drop, length};
+ghost use Rattle.std.specs.Prelude.{◌≡◌, ◌+◌, ◌<◌, ◌≤◌, IfOk, IsOkAnd, MatchResult, Ok, drop, length};
 ghost use Rattle.le.specs.Put.{put, Wrote};
 ghost use Rattle.hex.specs.Hex.{decode_of};
 ghost use Rattle.entry.specs.Walk.{steps};
+ghost use Rattle.writing.specs.Owned.{NotWritten};
 ghost use Rattle.writing.specs.Writing.{Writes};
 ghost use Rattle.captures.specs.Meaning.{SplitMeant, JoinMeant, RoundTrips};
 ghost use Rattle.captures.specs.Captures.{line, lines, text_of, piece_bytes, splitting, spelt, told_length, joined, joining};
@@ -13,7 +14,9 @@ mod digits;
 
 use memchr::memchr;
 use refusal::{LIMIT, Mode, Refusal};
+use std::alloc::Allocator;
 use walk::{Unread, Walker};
+use writing::WriteError;
 
 // What ends a line.
 const END: u8 = b'\n';
@@ -47,6 +50,17 @@ fn put_lines(upload: &[u8], text: &mut [u8])
     }
 }
 
+// How many bytes the lines of an upload are.
+fn text_length(upload: &[u8]) -> Result<usize, Refusal>
+    ensures { result ≡ told_length (splitting upload.now) }
+{
+    let length = upload.len();
+    if length > LIMIT {
+        return Err(Refusal::TooLarge { length });
+    }
+    Ok(2 * length + count_pieces(upload))
+}
+
 /// Splits an upload into lines, and gives how many bytes they are. Where its pieces begin and end depends on claims
 /// alone, whatever the kind of its entries.
 ///
@@ -56,17 +70,27 @@ fn put_lines(upload: &[u8], text: &mut [u8])
 pub fn split(upload: &[u8], text: &mut [u8]) -> Result<usize, Refusal>
     ensures { Writes (splitting upload.now) text.old text.new result }
 {
-    let length = upload.len();
-    if length > LIMIT {
-        return Err(Refusal::TooLarge { length });
-    }
-    let needed = 2 * length + count_pieces(upload);
+    let needed = text_length(upload)?;
     let lent = text.len();
     if lent < needed {
         return Err(Refusal::OutputTooSmall { needed, lent });
     }
     put_lines(upload, text);
     Ok(needed)
+}
+
+/// The lines of an upload, in memory of their own.
+///
+/// # Errors
+///
+/// 5 above the limit, and that there is no memory for them.
+pub fn split_to_vec<A: Allocator>(alloc: A, upload: &[u8]) -> Result<Vec<u8, A>, WriteError>
+    ensures { MatchResult result (λ v. splitting upload.now ≡ Ok v.items) (NotWritten (splitting upload.now)) }
+{
+    let length = text_length(upload)?;
+    let mut text = vec![in alloc; 0; length]?;
+    split(upload, &mut text)?;
+    Ok(text)
 }
 
 // What stands behind a line that ends at a place.
@@ -88,7 +112,7 @@ fn line_length(digits: &[u8]) -> Result<usize, Refusal>
 }
 
 // How many bytes the lines of a text spell.
-fn upload_length(text: &[u8]) -> Result<usize, Refusal>
+fn spelt_length(text: &[u8]) -> Result<usize, Refusal>
     ensures { result ≡ told_length (joined (lines text.now)) }
 {
     let mut length = 0;
@@ -98,6 +122,15 @@ fn upload_length(text: &[u8]) -> Result<usize, Refusal>
         rest = behind(rest, end);
     }
     Ok(length + line_length(rest)?)
+}
+
+// The same, within the limit.
+fn upload_length(text: &[u8]) -> Result<usize, Refusal>
+    ensures { result ≡ told_length (joining text.now) }
+{
+    let length = spelt_length(text)?;
+    writing::check_size(length)?;
+    Ok(length)
 }
 
 // The text is known to be lines of digits, and the upload to have room for their bytes.
@@ -123,9 +156,26 @@ pub fn join(text: &[u8], upload: &mut [u8]) -> Result<usize, Refusal>
     ensures { Writes (joining text.now) upload.old upload.new result }
 {
     let needed = upload_length(text)?;
-    writing::check_room(needed, upload.len())?;
+    let lent = upload.len();
+    if lent < needed {
+        return Err(Refusal::OutputTooSmall { needed, lent });
+    }
     put_upload(text, upload);
     Ok(needed)
+}
+
+/// The upload of some lines, in memory of its own.
+///
+/// # Errors
+///
+/// 12 for a line that is not pairs of digits, 5 above the limit, and that there is no memory for it.
+pub fn join_to_vec<A: Allocator>(alloc: A, text: &[u8]) -> Result<Vec<u8, A>, WriteError>
+    ensures { MatchResult result (λ v. joining text.now ≡ Ok v.items) (NotWritten (joining text.now)) }
+{
+    let length = upload_length(text)?;
+    let mut upload = vec![in alloc; 0; length]?;
+    join(text, &mut upload)?;
+    Ok(upload)
 }
 
 // The theorems. Each is the contract of a function that does nothing, so that none goes unnoticed if its proof does.

@@ -1,6 +1,7 @@
 // The interface for the studio's own software, which is not Rattle: numbers and byte slices, and a status.
 #![tactic(auto)]
 
+mod lines;
 mod modes;
 mod names;
 mod reasons;

@@ -1,7 +1,7 @@
 use Rattle.std.proofs.Common.{◌≡◌, ◌+◌, ◌≤◌, length}
 use Rattle.captures.specs.Captures.{lines, told_length, joined}
 use Rattle.captures.proofs.Lines.{with_length}
-use Rattle.captures.proofs.upload_length.Given as goal
+use Rattle.captures.proofs.spelt_length.Given as goal
 
 abbrev pub invariant-loop-end : goal.invariant-loop-end
 invariant-loop-end l = record {
