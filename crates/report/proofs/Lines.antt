@@ -1,19 +1,16 @@
 -- The lines of JSON have their members.
-use Rattle.std.proofs.Common.{◌≡◌, ℕ, ◌+◌, List, [], ◌∷◌, ◌++◌, codes, decimal, length, map, refl, sym, ap, subst, ◌∙◌, arith, append_assoc, append-nil}
-use Rattle.std.specs.Prelude.{take, drop, Option, None, Some, Result, Ok, Err}
+use Rattle.std.proofs.Common.{◌≡◌, ℕ, ◌+◌, List, [], ◌∷◌, ◌++◌, codes, decimal, length, map, refl, sym, ap, ◌∙◌, append_assoc, append-nil}
+use Rattle.std.specs.Prelude.{take, drop, Option, None, Some, Result}
 use Rattle.std.specs.List.{flat_map, join_with_byte}
 use Rattle.std.specs.Borrow.{Bor}
-use Rattle.le.specs.Le.{le2, le4}
+use Rattle.le.specs.Le.{le2}
 use Rattle.refusal.specs.Refusal.{figures_of}
-use Rattle.refusal.specs.declared.Mode.{Mode}
 use Rattle.refusal.specs.declared.Refusal.{Refusal}
 use Rattle.attribute.specs.Attribute as attribute
 use Rattle.refactor.specs.Refactor as refactor
-use Rattle.symbol.specs.Symbol.{symbol_of}
 use Rattle.symbol.specs.Inside.{IsInside}
 use Rattle.symbol.proofs.Lies.{symbols_inside}
 use Rattle.symbol.specs.declared.AdsSymbolInfo.{AdsSymbolInfo}
-use Rattle.walk.specs.declared.Piece.{Piece}
 use Rattle.report.specs.Json.{symbol_text, strings_text, numbers_text, sections_text, attributes_text, more_attributes, formers_text, more_formers, refused_text, figures_text, guid_text, attribute_text, extended_text, guid_or_null}
 use Rattle.part.specs.End.{IsString}
 use Rattle.attribute.specs.declared.AdsAttribute.{AdsAttribute}
@@ -23,7 +20,6 @@ use Rattle.wording.specs.Text.{quoted}
 use Rattle.wording.specs.Wording.{refusal_text}
 use Rattle.report.specs.Report.{json_line, json_by}
 use Rattle.report.specs.Meant.{member, object, array, symbol_members, refused_members, number_or_null, string_or_null, LinesMeant}
-use Rattle.report.specs.Meant as meant
 
 -- members with commas between them, before some text
 written : List (List ℕ) → List ℕ → List ℕ
@@ -108,12 +104,12 @@ sections_are s =
     let names : List ℕ = join_with_byte 44 (map (λ r. quoted r.name.now) (refactor.left s.refactor_infos)) in
     let own : List ℕ = join_with_byte 44 (map attribute_object (attribute.left s.attributes)) in
     let e : formers_text (refactor.left s.refactor_infos) ++ rest ≡ (names ++ codes "]") ++ (codes ",\"unread\":" ++ unread)
-        = ap (λ (t : List ℕ). t ++ rest) (formers_are (refactor.left s.refactor_infos)) ∙ sym (append_assoc names (codes "]") (codes ",\"unread\":" ++ unread)) in
+    = ap (λ (t : List ℕ). t ++ rest) (formers_are (refactor.left s.refactor_infos)) ∙ sym (append_assoc names (codes "]") (codes ",\"unread\":" ++ unread)) in
     let f : attributes_text (attribute.left s.attributes) ++ (codes "],\"former_names\":[" ++ (formers_text (refactor.left s.refactor_infos) ++ rest))
-        ≡ (own ++ codes "]") ++ (codes ",\"former_names\":[" ++ ((names ++ codes "]") ++ (codes ",\"unread\":" ++ unread)))
-        = ap (λ (t : List ℕ). t ++ (codes "],\"former_names\":[" ++ (formers_text (refactor.left s.refactor_infos) ++ rest))) (attributes_are (attribute.left s.attributes))
-        ∙ ap (λ (t : List ℕ). own ++ (codes "],\"former_names\":[" ++ t)) e
-        ∙ sym (append_assoc own (codes "]") (codes ",\"former_names\":[" ++ ((names ++ codes "]") ++ (codes ",\"unread\":" ++ unread)))) in
+    ≡ (own ++ codes "]") ++ (codes ",\"former_names\":[" ++ ((names ++ codes "]") ++ (codes ",\"unread\":" ++ unread)))
+    = ap (λ (t : List ℕ). t ++ (codes "],\"former_names\":[" ++ (formers_text (refactor.left s.refactor_infos) ++ rest))) (attributes_are (attribute.left s.attributes))
+    ∙ ap (λ (t : List ℕ). own ++ (codes "],\"former_names\":[" ++ t)) e
+    ∙ sym (append_assoc own (codes "]") (codes ",\"former_names\":[" ++ ((names ++ codes "]") ++ (codes ",\"unread\":" ++ unread)))) in
     ap (λ (t : List ℕ). codes "\"extended_flags\":" ++ (t ++ (codes ",\"guid\":" ++ (guid_or_null s.guid ++ (codes ",\"attributes\":[" ++ (attributes_text (attribute.left s.attributes) ++ (codes "],\"former_names\":[" ++ (formers_text (refactor.left s.refactor_infos) ++ rest)))))))) (extended_is s.extended_flags)
     ∙ ap (λ (t : List ℕ). codes "\"extended_flags\":" ++ (number_or_null s.extended_flags ++ (codes ",\"guid\":" ++ (t ++ (codes ",\"attributes\":[" ++ (attributes_text (attribute.left s.attributes) ++ (codes "],\"former_names\":[" ++ (formers_text (refactor.left s.refactor_infos) ++ rest)))))))) (guid_is s.guid)
     ∙ ap (λ (t : List ℕ). codes "\"extended_flags\":" ++ (number_or_null s.extended_flags ++ (codes ",\"guid\":" ++ (string_or_null s.guid ++ (codes ",\"attributes\":[" ++ t))))) f
@@ -125,11 +121,11 @@ symbol_is : (place : ℕ) (s : AdsSymbolInfo) → symbol_text place s ≡ object
 unfolding symbol_text strings_text numbers_text written
 symbol_is place s =
     let c : sections_text s ++ codes "}" ≡ written (sections s) (codes "}")
-        = ap (λ (t : List ℕ). t ++ codes "}") (sections_are s) ∙ closed (sections s) (codes "}") in
+    = ap (λ (t : List ℕ). t ++ codes "}") (sections_are s) ∙ closed (sections s) (codes "}") in
     let n : numbers_text s ++ (codes "," ++ (sections_text s ++ codes "}")) ≡ written (numbers s) (codes "," ++ written (sections s) (codes "}"))
-        = ap (λ (t : List ℕ). numbers_text s ++ (codes "," ++ t)) c ∙ closed (numbers s) (codes "," ++ written (sections s) (codes "}")) in
+    = ap (λ (t : List ℕ). numbers_text s ++ (codes "," ++ t)) c ∙ closed (numbers s) (codes "," ++ written (sections s) (codes "}")) in
     let m : strings_text s ++ (codes "," ++ (numbers_text s ++ (codes "," ++ (sections_text s ++ codes "}")))) ≡ written (strings s) (codes "," ++ written (numbers s) (codes "," ++ written (sections s) (codes "}")))
-        = ap (λ (t : List ℕ). strings_text s ++ (codes "," ++ t)) n ∙ closed (strings s) (codes "," ++ written (numbers s) (codes "," ++ written (sections s) (codes "}"))) in
+    = ap (λ (t : List ℕ). strings_text s ++ (codes "," ++ t)) n ∙ closed (strings s) (codes "," ++ written (numbers s) (codes "," ++ written (sections s) (codes "}"))) in
     ap (λ (t : List ℕ). codes "{\"place\":" ++ (decimal place ++ (codes "," ++ t))) m
     ∙ ap (λ (t : List ℕ). codes "{" ++ t) (sym (closed (record_members place s) (codes "}")))
 
@@ -139,7 +135,7 @@ refused_is place why =
     let three : List (List ℕ) = member (codes "refused") (decimal (figures_of why).number) ∷ member (codes "expected") (decimal (figures_of why).expected) ∷ member (codes "got") (decimal (figures_of why).got) ∷ [] in
     let r : List ℕ = codes ",\"reason\":\"" ++ (refusal_text why ++ codes "\"}") in
     let q : codes "\"" ++ (refusal_text why ++ (codes "\"" ++ codes "}")) ≡ (codes "\"" ++ (refusal_text why ++ codes "\"")) ++ codes "}"
-        = ap (λ (t : List ℕ). codes "\"" ++ t) (sym (append_assoc (refusal_text why) (codes "\"") (codes "}"))) in
+    = ap (λ (t : List ℕ). codes "\"" ++ t) (sym (append_assoc (refusal_text why) (codes "\"") (codes "}"))) in
     ap (λ (t : List ℕ). codes "{\"place\":" ++ (decimal place ++ (codes "," ++ t))) (closed three r)
     ∙ ap (λ (t : List ℕ). codes "{\"place\":" ++ (decimal place ++ (codes "," ++ written three (codes ",\"reason\":" ++ t)))) q
     ∙ ap (λ (t : List ℕ). codes "{" ++ t) (sym (closed (refused_members place why) (codes "}")))
@@ -151,17 +147,17 @@ by_bytes : (place : ℕ) (e : Bor (List ℕ)) (s : AdsSymbolInfo) → IsInside e
 by_bytes place e s i =
     let name = string_is e s.name 30 (le2 e.now 24) i.name i.name_length in
     let kind = string_is e s.type_name (31 + length s.name.now) (le2 e.now 26) i.type_name i.type_name_length
-        ∙ ap (λ (k : ℕ). quoted (take (le2 e.now 26) (drop (31 + k) e.now))) i.name_length in
+    ∙ ap (λ (k : ℕ). quoted (take (le2 e.now 26) (drop (31 + k) e.now))) i.name_length in
     let comment = string_is e s.comment (32 + length s.name.now + length s.type_name.now) (le2 e.now 28) i.comment i.comment_length
-        ∙ ap (λ (k : ℕ). quoted (take (le2 e.now 28) (drop (32 + k + length s.type_name.now) e.now))) i.name_length
-        ∙ ap (λ (k : ℕ). quoted (take (le2 e.now 28) (drop (32 + le2 e.now 24 + k) e.now))) i.type_name_length in
+    ∙ ap (λ (k : ℕ). quoted (take (le2 e.now 28) (drop (32 + k + length s.type_name.now) e.now))) i.name_length
+    ∙ ap (λ (k : ℕ). quoted (take (le2 e.now 28) (drop (32 + le2 e.now 24 + k) e.now))) i.type_name_length in
     rw (i.long, name, kind, comment, i.size, i.index_group, i.index_offset, i.data_type_id, i.flags, i.high) refl
 
 pub lines_meant : LinesMeant
 unfolding guid_text json_line
 lines_meant = record {
   accepted = λ mode e s p h a. ap (λ (r : Result AdsSymbolInfo Refusal). json_by p.start r ++ codes "\n") a
-    ∙ ap (λ (t : List ℕ). t ++ codes "\n") (symbol_is p.start s ∙ by_bytes p.start e s (symbols_inside mode e s h));
+      ∙ ap (λ (t : List ℕ). t ++ codes "\n") (symbol_is p.start s ∙ by_bytes p.start e s (symbols_inside mode e s h));
   refused = λ p why a. ap (λ (r : Result AdsSymbolInfo Refusal). json_by p.start r ++ codes "\n") a ∙ ap (λ (t : List ℕ). t ++ codes "\n") (refused_is p.start why);
   guid = refl;
 }

@@ -1,5 +1,5 @@
 -- docs/FORMAT.md, "The command's text": what stands in the lines of JSON of an upload, and what an upload's entries are counted as.
-use Rattle.std.specs.Prelude.{ℕ, ◌+◌, ◌*◌, ◌^◌, ◌<◌, ◌≡◌, Bool, List, [], ◌∷◌, ◌++◌, codes, count_by, decimal, length, map, sum_by, take, drop, Option, None, Some, Result, Ok, Err, is_ok}
+use Rattle.std.specs.Prelude.{ℕ, ◌+◌, ◌≡◌, List, [], ◌∷◌, ◌++◌, codes, decimal, length, map, take, drop, Option, None, Some, Ok, Err}
 use Rattle.std.specs.List.{join_with_byte}
 use Rattle.std.specs.Borrow.{Bor}
 use Rattle.le.specs.Le.{le2, le4}
@@ -14,9 +14,11 @@ use Rattle.symbol.specs.declared.AdsSymbolInfo.{AdsSymbolInfo}
 use Rattle.walk.specs.declared.Piece.{Piece}
 use Rattle.wording.specs.Text.{quoted}
 use Rattle.wording.specs.Wording.{refusal_text}
-use Rattle.report.specs.declared.Tally.{Tally}
+use Rattle.report.specs.declared.Upload.{Upload}
+use Rattle.upload.specs.declared.Form.TheVariants.{Binary, Hexadecimal}
+use Rattle.refusal.specs.declared.Mode.TheVariants.{Present, Checked}
 use Rattle.report.specs.Json.{guid_text}
-use Rattle.report.specs.Report.{json_line, summary_text, tally_of}
+use Rattle.report.specs.Report.{json_line, refused_line, summary_text, upload_text}
 
 -- a member of an object, and an object and an array with commas and no space
 abbrev pub member : List ℕ → List ℕ → List ℕ
@@ -78,6 +80,13 @@ pub record LinesMeant : Type 0 where
   pub guid : guid_text (0x33 ∷ 0x22 ∷ 0x11 ∷ 0x00 ∷ 0x55 ∷ 0x44 ∷ 0x77 ∷ 0x66 ∷ 0x88 ∷ 0x99 ∷ 0xAA ∷ 0xBB ∷ 0xCC ∷ 0xDD ∷ 0xEE ∷ 0xFF ∷ [])
       ≡ codes "{00112233-4455-6677-8899-AABBCCDDEEFF}"
 
--- an answer that is a symbol, a refusal, a symbol with bytes left unread, and how many
-abbrev pub is_accepted : Piece AdsSymbolInfo → Bool
-is_accepted p = is_ok p.answer
+-- the texts of `check`, by some uploads and tallies, and the line of each refused entry
+pub record TextsMeant : Type 0 where
+  pub checked : (u : Upload) → u.path.now ≡ codes "rig.bin" → length u.bytes.now ≡ 1455 → u.form ≡ Binary → u.mode ≡ Checked
+      → upload_text u ≡ codes "rig.bin (binary, 1,455 bytes, checked)"
+  pub present : (u : Upload) → u.path.now ≡ codes "-" → length u.bytes.now ≡ 1 → u.form ≡ Hexadecimal → u.mode ≡ Present
+      → upload_text u ≡ codes "- (hexadecimal text, 1 byte)"
+  pub many : summary_text (record { accepted = 1200; refused = 34; grown = 1; unread = 56 }) ≡ codes "1,234 entries: 1,200 accepted, 34 refused\nleft unread: 56 bytes, in 1 entry\n"
+  pub one : summary_text (record { accepted = 1; refused = 0; grown = 0; unread = 0 }) ≡ codes "1 entry: 1 accepted, 0 refused\n"
+  pub refused : (p : Piece AdsSymbolInfo) (why : Refusal) → p.answer ≡ Err why
+      → refused_line p ≡ codes "at " ++ (decimal p.start ++ (codes ": " ++ (refusal_text why ++ codes "\n")))

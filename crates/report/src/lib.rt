@@ -2,7 +2,7 @@
 #![tactic(auto, unfolding(crate::specs::Report::upload_text, crate::specs::Report::counted, crate::specs::Report::counts_text, crate::specs::Report::unread_text, crate::specs::Report::refused_line, crate::specs::Json::refused_text, crate::specs::Json::figures_text, crate::specs::Json::strings_text, crate::specs::Json::numbers_text, crate::specs::Json::sections_text, crate::specs::Json::symbol_text, crate::specs::Json::guid_text))]
 
 ghost use Rattle.std.specs.Prelude.{◌≡◌, Some};
-ghost use Rattle.report.specs.Meant.{LinesMeant};
+ghost use Rattle.report.specs.Meant.{LinesMeant, TextsMeant};
 ghost use Rattle.report.specs.Report.{form_text, mode_text, upload_text, nothing_counted, counted, all_of};
 
 pub mod check;
@@ -117,4 +117,9 @@ impl Tally {
 /// that was refused by the refusal's number and figures.
 pub fn lines_meant()
     ensures { LinesMeant }
+{}
+
+/// What `check` says of an upload, of its refused entries and of how many there are, stands where it should.
+pub fn texts_meant()
+    ensures { TextsMeant }
 {}
