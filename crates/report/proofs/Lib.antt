@@ -1,2 +1,4 @@
 pub mod Going
 pub mod Tallies
+pub mod Lines
+pub mod Texts

@@ -1,5 +1,5 @@
 -- docs/FORMAT.md, "The command's text". What stands in JSON of an entry, a line each.
-use Rattle.std.specs.Prelude.{ℕ, ◌/◌, ◌%◌, List, [], ◌∷◌, ◌++◌, length, get_or, codes, decimal, Option, Some, None}
+use Rattle.std.specs.Prelude.{ℕ, List, [], ◌∷◌, ◌++◌, length, get_or, codes, decimal, Option, Some, None}
 use Rattle.std.specs.List.{flat_map}
 use Rattle.wording.specs.Text.{pair, quoted}
 use Rattle.wording.specs.Wording.{refusal_text}

@@ -1,2 +1,3 @@
 pub mod Json
 pub mod Report
+pub mod Meant

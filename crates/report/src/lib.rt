@@ -2,6 +2,7 @@
 #![tactic(auto, unfolding(crate::specs::Report::upload_text, crate::specs::Report::counted, crate::specs::Report::counts_text, crate::specs::Report::unread_text, crate::specs::Report::refused_line, crate::specs::Json::refused_text, crate::specs::Json::figures_text, crate::specs::Json::strings_text, crate::specs::Json::numbers_text, crate::specs::Json::sections_text, crate::specs::Json::symbol_text, crate::specs::Json::guid_text))]
 
 ghost use Rattle.std.specs.Prelude.{◌≡◌, Some};
+ghost use Rattle.report.specs.Meant.{LinesMeant, TextsMeant};
 ghost use Rattle.report.specs.Report.{form_text, mode_text, upload_text, nothing_counted, counted, all_of};
 
 pub mod check;
@@ -109,3 +110,16 @@ impl Tally {
         }
     }
 }
+
+// The theorems. Each is the contract of a function that does nothing, so that none goes unnoticed if its proof does.
+
+/// A line of JSON is an object with the members of docs/FORMAT.md in their order: of a symbol by the bytes of its entry, of an entry
+/// that was refused by the refusal's number and figures.
+pub fn lines_meant()
+    ensures { LinesMeant }
+{}
+
+/// What `check` says of an upload, of its refused entries and of how many there are, stands where it should.
+pub fn texts_meant()
+    ensures { TextsMeant }
+{}

@@ -1,10 +1,15 @@
 //! `list`: a table of the entries.
-ghost use Rattle.std.specs.Prelude.{◌≤◌};
+ghost use Rattle.std.specs.Prelude.{◌≡◌, ◌≤◌, IfOk};
+ghost use Rattle.symbol.specs.Symbol.{symbol_of};
+ghost use Rattle.walk.specs.Pieces.{pieces};
+ghost use Rattle.report.specs.Report.{tally_of};
 
 use crate::{Tally, Upload};
+use refusal::Refusal;
 use std::io;
 use std::io::Write;
 use symbol::{AdsSymbolInfo, Symbols};
+use walk::Piece;
 use wording::InWords;
 use wording::strings::{Shown, Spaces, shown_width};
 
@@ -120,25 +125,40 @@ fn write_symbol<W: Write>(
     )
 }
 
-/// Refused entries stand in their place, so a table that has one is still whole.
-pub fn list<W: Write>(upload: &Upload<'_>, out: &mut W) -> io::Result<Tally> {
+fn write_refused<W: Write>(
+    at: usize,
+    why: &Refusal,
+    widest: &Widths,
+    out: &mut W,
+) -> io::Result<()> {
+    let place = Spaces(widest[0].saturating_sub(digits(at, 10)));
+    let why = InWords(why);
+    writeln!(out, "{place}{at}  {why}")
+}
+
+fn write_line<W: Write>(
+    piece: &Piece<AdsSymbolInfo<'_>>,
+    widest: &Widths,
+    out: &mut W,
+) -> io::Result<()> {
+    match &piece.answer {
+        Ok(symbol) => write_symbol(piece.start, symbol, widest, out),
+        Err(why) => write_refused(piece.start, why, widest, out),
+    }
+}
+
+/// Writes a table with a line for each entry; how many there are, and how many were refused. Refused entries stand in their place,
+/// so a table that has one is still whole.
+pub fn list<W: Write>(upload: &Upload<'_>, out: &mut W) -> io::Result<Tally>
+    ensures { IfOk result (λ tally. tally ≡ tally_of (pieces (symbol_of upload.now.mode) upload.now.bytes)) }
+{
     let widest = widest(upload);
     writeln!(out, "{upload}")?;
     write_headings(&widest, out)?;
     let mut tally = Tally::new();
     for piece in Symbols::new(upload.bytes, upload.mode) {
-        let at = piece.start;
         tally.count(&piece.answer);
-        match piece.answer {
-            Ok(symbol) => {
-                write_symbol(at, &symbol, &widest, out)?;
-            }
-            Err(why) => {
-                let place = Spaces(widest[0].saturating_sub(digits(at, 10)));
-                let why = InWords(&why);
-                writeln!(out, "{place}{at}  {why}")?;
-            }
-        }
+        write_line(&piece, &widest, out)?;
     }
     Ok(tally)
 }

@@ -1,4 +1,4 @@
-use Rattle.std.proofs.Common.{◌≡◌, List, ℕ, ◌++◌, codes, ap}
+use Rattle.std.proofs.Common.{◌++◌, codes, ap}
 use Rattle.std.specs.List.{flat_map}
 use Rattle.symbol.specs.Symbol.{symbol_of}
 use Rattle.walk.specs.Pieces.{pieces}

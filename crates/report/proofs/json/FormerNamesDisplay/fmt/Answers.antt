@@ -1,4 +1,4 @@
-use Rattle.std.proofs.Common.{[], ◌++◌, sym, ap, rules}
+use Rattle.std.proofs.Common.{sym, ap, rules}
 use Rattle.std.proofs.Output.{has_written_of_eq}
 use Rattle.report.specs.Json.{formers_text}
 use Rattle.report.proofs.json.FormerNamesDisplay.fmt.Goals as goal
