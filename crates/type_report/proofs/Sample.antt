@@ -1,5 +1,5 @@
 -- The line of the data type in which every number is another: antt computes what the definitions say of its bytes.
-use Rattle.std.proofs.Common.{ℕ, ◌≡◌, List, refl, subst, sym, Bor}
+use Rattle.std.proofs.Common.{ℕ, ◌≡◌, List, refl, subst, sym}
 use Rattle.std.specs.List.{flat_map}
 use Rattle.std.specs.Fmt.{digits}
 use Rattle.le.specs.Le.{le2, le4}

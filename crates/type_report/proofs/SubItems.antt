@@ -1,7 +1,7 @@
 -- The objects that stand in that of an entry are its sub-items.
-use Rattle.std.proofs.Common.{ℕ, zero, suc, ◌+◌, ◌-◌, ◌*◌, ◌<◌, ◌≤◌, ◌≡◌, refl, sym, ap, ap₂, subst, ◌∙◌, Bool, true, false, List, [], ◌∷◌, length, drop, eqb, arith, Bor, length-drop}
+use Rattle.std.proofs.Common.{ℕ, zero, suc, ◌+◌, ◌-◌, ◌≤◌, ◌≡◌, refl, sym, ap, ap₂, subst, ◌∙◌, false, List, ◌∷◌, length, drop, eqb, arith, Bor, length-drop}
 use native.Mathlib.Nat.{add-zero}
-use Rattle.std.specs.Prelude.{Some, Result, Ok}
+use Rattle.std.specs.Prelude.{Result, Ok}
 use borrow.Author.Tests.{le-ltb, lt-leb}
 use Rattle.std.proofs.lemmas.Bool.{ne_eqb}
 use Rattle.le.specs.Le.{le2, le4}
@@ -10,7 +10,6 @@ use Rattle.part.proofs.Slice.{part_after, after_after, after_zero, length_part}
 use Rattle.refusal.specs.Refusal.{limit}
 use Rattle.refusal.specs.declared.Mode.{Mode}
 use Rattle.refusal.specs.declared.Refusal.{Refusal}
-use Rattle.entry.specs.declared.Claimed.{Claimed}
 use Rattle.entry.specs.Entry.{claim_at}
 use Rattle.walk.specs.declared.Piece.{Piece}
 use Rattle.walk.specs.Pieces.{piece_at, pieces_from}
@@ -30,7 +29,7 @@ use Rattle.data_type.proofs.Fronts.{front_was, record_is}
 use Rattle.data_type.proofs.Stands.{took}
 use Rattle.type_report.specs.declared.node.Node.{Node}
 use Rattle.type_report.specs.Node.{items_start, member_at, members_from, members_of}
-use Rattle.type_report.specs.Meaning.{IsMember, AreMembers, none, one, StandsIn, first_place, MembersMeant}
+use Rattle.type_report.specs.Meaning.{IsMember, AreMembers, none, one, first_place, MembersMeant}
 
 -- what a record tells of its entry's bytes
 record Tells (e : Bor (List ℕ)) (r : AdsDataTypeInfo) : Type 0 where
@@ -88,7 +87,7 @@ module _ (mode : Mode) (u : Bor (List ℕ)) (small : length u.now ≤ limit) (n 
       let p : part s at (le4 s.now at) ≡ part u (base + at) (le4 u.now (base + at)) = part_there at (le4 s.now at) room ∙ ap (part u (base + at)) c in
       let t = tells mode 15 (part s at (le4 s.now at)) info read in
       let there : (k : ℕ) → k + 4 ≤ le4 s.now at → le4 (part s at (le4 s.now at)).now k ≡ le4 u.now (base + at + k) =
-          λ k h. ap (λ (x : Bor (List ℕ)). le4 x.now k) (part_there at (le4 s.now at) room) ∙ le4_part u.now (base + at) (le4 s.now at) k h in
+      λ k h. ap (λ (x : Bor (List ℕ)). le4 x.now k) (part_there at (le4 s.now at) room) ∙ le4_part u.now (base + at) (le4 s.now at) k h in
       let offset : info.field.offset ≡ le4 u.now (base + at + 20) = ap (λ (r : AdsDataTypeInfo). r.field.offset) t.is ∙ there 20 (omega (arith, least)) in
       let flags : info.field.flags.0 ≡ le4 u.now (base + at + 28) = ap (λ (r : AdsDataTypeInfo). r.field.flags.0) t.is ∙ there 28 (omega (arith, least)) in
       record {
@@ -120,11 +119,11 @@ module _ (mode : Mode) (u : Bor (List ℕ)) (small : length u.now ≤ limit) (n 
       let as_root : type_of mode t.own ≡ Ok t.info = subst (λ (x : ℕ). type_at mode x t.own ≡ Ok t.info) levels (deeper mode (15 - t.deeper) t.deeper t.own t.info t.entry) in
       let read : type_of mode (part s at size) ≡ Ok t.info = ap (type_of mode) (sym own_is) ∙ as_root in
       let piece : piece_at (type_of mode) s at ≡ record { start = at; end = at + size; answer = Ok t.info } =
-          piece_is (type_of mode) s at (omega (arith, inside, small)) (omega (arith, least)) room
-          ∙ ap (λ (r : Result AdsDataTypeInfo Refusal). record { start = at; end = at + size; answer = r }) read in
+      piece_is (type_of mode) s at (omega (arith, inside, small)) (omega (arith, least)) room
+      ∙ ap (λ (r : Result AdsDataTypeInfo Refusal). record { start = at; end = at + size; answer = r }) read in
       let pieces : pieces_from (type_of mode) s at (length s.now - at) ≡ record { start = at; end = at + size; answer = Ok t.info } ∷ pieces_from (type_of mode) s (at + size) (length s.now - (at + size)) =
-          one_left (type_of mode) s at (omega (arith, least, room))
-          ∙ ap (λ (p : Piece AdsDataTypeInfo). p ∷ pieces_from (type_of mode) s p.end (length s.now - p.end)) piece in
+      one_left (type_of mode) s at (omega (arith, least, room))
+      ∙ ap (λ (p : Piece AdsDataTypeInfo). p ∷ pieces_from (type_of mode) s p.end (length s.now - p.end)) piece in
       let next : base + (at + size) ≡ base + at + le4 u.now (base + at) = omega (arith, le4_there at (omega (arith, least, room))) in
       let more = all left few count (at + size) t.more rest in
       subst (λ (ps : List (Piece AdsDataTypeInfo)). AreMembers mode u n (base + at) (suc count) (members_from n (suc count) ps)) (sym pieces)
@@ -143,18 +142,18 @@ members_meant mode u n size st =
     let bytes : s ≡ after e from = ap (λ (r : AdsDataTypeInfo). r.sub_items.bytes) t.is in
     let left : length s.now ≡ size - from = ap (λ (x : Bor (List ℕ)). length x.now) bytes ∙ length-drop from e.now ∙ ap (λ (x : ℕ). x - from) long in
     let is : s ≡ part u (n.place + from) (length s.now) =
-        bytes ∙ after_is e from ∙ ap (λ (x : ℕ). part e from (x - from)) long ∙ part_in u n.place size from (size - from) (omega (arith, room)) ∙ ap (part u (n.place + from)) (sym left) in
+    bytes ∙ after_is e from ∙ ap (λ (x : ℕ). part e from (x - from)) long ∙ part_in u n.place size from (size - from) (omega (arith, room)) ∙ ap (part u (n.place + from)) (sym left) in
     let whole : n.info.field.length ≡ size = ap (λ (r : AdsDataTypeInfo). r.field.length) t.is ∙ long in
     let starts : items_start n ≡ n.place + from = omega (arith, whole, left, room, st.room, st.small) in
     let count : n.info.sub_items.count ≡ le2 u.now (n.place + 40) = ap (λ (r : AdsDataTypeInfo). r.sub_items.count) t.is ∙ le2_part u.now n.place size 40 (omega (arith, strings)) in
     let place : n.place + from + 0 ≡ first_place u.now n.place =
-        omega (
-          arith,
-          le2_part u.now n.place size 32 (omega (arith, strings)),
-          le2_part u.now n.place size 34 (omega (arith, strings)),
-          le2_part u.now n.place size 36 (omega (arith, strings)),
-          le2_part u.now n.place size 38 (omega (arith, strings)),
-        ) in
+    omega (
+      arith,
+      le2_part u.now n.place size 32 (omega (arith, strings)),
+      le2_part u.now n.place size 34 (omega (arith, strings)),
+      le2_part u.now n.place size 36 (omega (arith, strings)),
+      le2_part u.now n.place size 38 (omega (arith, strings)),
+    ) in
     let none_before : length s.now - 0 ≡ length s.now = omega arith in
     let o = holds mode 15 e n.info st.read in
     let read = ap (λ (x : Bor (List ℕ)). items_from (item_at mode 15) x n.info.sub_items.count) (sym (after_zero s)) ∙ o.read in
