@@ -44,6 +44,10 @@ pub enum Asked<'a> {
     Show {
         name: &'a str,
     },
+    /// Why sections of a symbol are there or not.
+    Why {
+        name: &'a str,
+    },
     List {
         json: bool,
     },
@@ -69,6 +73,7 @@ pub enum Asked<'a> {
 enum Command {
     Find,
     Show,
+    Why,
     List,
     Type,
     Check,
@@ -82,6 +87,7 @@ impl Command {
         match word {
             "find" => Some(Command::Find),
             "show" => Some(Command::Show),
+            "why" => Some(Command::Why),
             "list" => Some(Command::List),
             "type" => Some(Command::Type),
             "check" => Some(Command::Check),
@@ -256,6 +262,9 @@ impl<'a> Words<'a> {
                 attribute: self.next(),
             },
             Command::Show => Asked::Show {
+                name: self.need("the name of a symbol")?,
+            },
+            Command::Why => Asked::Why {
                 name: self.need("the name of a symbol")?,
             },
             Command::List => Asked::List { json },
