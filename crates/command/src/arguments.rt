@@ -44,6 +44,10 @@ pub enum Asked<'a> {
     Show {
         name: &'a str,
     },
+    /// Why sections of a symbol are there or not.
+    Why {
+        name: &'a str,
+    },
     List {
         json: bool,
     },
@@ -76,6 +80,7 @@ enum Command {
 enum Task {
     Find,
     Show,
+    Why,
     List,
     Type,
     Check,
@@ -89,6 +94,7 @@ impl Command {
             "room" => Some(Command::Room),
             "find" => Some(Command::OfFile(Task::Find)),
             "show" => Some(Command::OfFile(Task::Show)),
+            "why" => Some(Command::OfFile(Task::Why)),
             "list" => Some(Command::OfFile(Task::List)),
             "type" => Some(Command::OfFile(Task::Type)),
             "check" => Some(Command::OfFile(Task::Check)),
@@ -269,6 +275,9 @@ impl<'a> Words<'a> {
                 attribute: self.next(),
             },
             Task::Show => Asked::Show {
+                name: self.need("the name of a symbol")?,
+            },
+            Task::Why => Asked::Why {
                 name: self.need("the name of a symbol")?,
             },
             Task::List => Asked::List { json },

@@ -5,6 +5,7 @@ pub const HELP: &str = r#"vindaskot: any TwinCAT symbol upload, in words
   vindaskot find FILE NAME              where the symbol starts in the upload, and its type
   vindaskot find FILE NAME ATTRIBUTE    the value of its attribute, and nothing else
   vindaskot show FILE NAME              everything of one symbol, and a picture of its bytes
+  vindaskot why FILE NAME               why its GUID, attributes, extended flags and former names are there or not
   vindaskot list FILE [--json]          a table of the entries, or a line of JSON for each
   vindaskot type FILE [NAME] [--json]   data types with their members as trees, all or the first of a name
   vindaskot check FILE                  how many entries there are, what was refused, and where
@@ -14,9 +15,15 @@ pub const HELP: &str = r#"vindaskot: any TwinCAT symbol upload, in words
 
 FILE is a path, or - for standard input: up to 16,777,216 bytes, binary or hexadecimal text. Digits are of either case,
 with white space and line ends of any kind between them. Which it is, the first four bytes tell: four characters of text
-would be the length of an entry above that limit, so they are hexadecimal. show, list, type, check, compare and salvage
-say which, and so does every refusal of what was read. It is an upload of symbols, for type one of data types.
+would be the length of an entry above that limit, so they are hexadecimal. show, why, list, type, check, compare and
+salvage say which, and so does every refusal of what was read. It is an upload of symbols, for type one of data types.
 Words of the command line are UTF-8; a file of another name is read from standard input.
+
+why says of each section of a symbol whether it is not flagged, has too few bytes left, or is there, and of attributes and
+former names which record was refused, with the number of the refusal, or how many are owed where the entry ends. Below
+that stand the bytes at the place that is told, 16 at most. Places are in the entry. Where nothing that is flagged or
+announced is missing, a last line says so. A section that has no room moves nothing, and a refused attribute ends its
+list: the next section is looked for at that same place.
 
 type prints a tree: members stand below what they are members of, two columns further to the right. Of each, the offset
 within what it is a member of is told, and the offset from the start of the whole data type, the sum of the offsets on the
@@ -70,6 +77,7 @@ Accented letters, and an attribute's name, must be typed as the upload has them.
 Examples:
   vindaskot find rig.bin MAIN.stLens ZoomCurveEnd
   vindaskot show rig.bin MAIN.stLens
+  vindaskot why rig.bin MAIN.stLens
   vindaskot list rig.hex | less -S
   vindaskot type types.bin ST_LensTable
   xxd -p rig.bin | vindaskot check -

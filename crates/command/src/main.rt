@@ -3,6 +3,7 @@
 
 mod arguments;
 mod compare;
+mod explain;
 mod failure;
 mod find;
 mod help;
@@ -89,6 +90,7 @@ fn answer_of_a_file<W: Write>(
     match &run.asked {
         Asked::Find { name, attribute } => find::find(alloc, &upload, name, *attribute, out)?,
         Asked::Show { name } => show::show(alloc, &upload, name, is_coloured(rt), out)?,
+        Asked::Why { name } => explain::explain(alloc, &upload, name, out)?,
         Asked::List { json: true } => {
             let tally = report::list::list(&upload, out)?;
             return unless_refused(rt, &upload, tally);
