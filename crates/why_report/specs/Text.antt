@@ -1,5 +1,5 @@
 -- docs/FORMAT.md, "The command's text" and "Why": what `why` prints of a symbol's sections.
-use Rattle.std.specs.Prelude.{ℕ, min, Bool, true, false, ◌&&◌, not, List, [], ◌++◌, length, take, drop, codes, decimal, Option, Some, None, if◌then◌else◌}
+use Rattle.std.specs.Prelude.{ℕ, min, Bool, true, false, not, List, [], ◌++◌, length, take, drop, codes, decimal, Option, Some, None, if◌then◌else◌}
 use Rattle.std.specs.List.{flat_map}
 use Rattle.wording.specs.Wording.{bytes, refusal_text}
 use Rattle.wording.specs.Text.{pair}

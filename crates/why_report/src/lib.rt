@@ -5,6 +5,8 @@ ghost use Rattle.std.specs.Prelude.{◌≡◌, Some, OnOk};
 ghost use Rattle.std.specs.Io.KnownBytes.{Appends};
 ghost use Rattle.why_report.specs.Text.{heading, flag, least, counted, missing, refused, sentence_text, bytes_at, place_of, row_text, section_text, is_missing, nothing_missing, sections_text, ending_text, reasons_text};
 
+pub mod theorems;
+
 use std::io::Write;
 use std::{fmt, io};
 use why::{Reason, Reasons};
