@@ -366,6 +366,16 @@ uint32_t vindaskot_field_write(uint32_t version, uint32_t hash_value, uint32_t t
                                const uint8_t *block, size_t block_len, uint8_t *out, size_t out_len,
                                uint64_t answer[VINDASKOT_AT_LEAST 2]);
 
+/* ---- Plain form ---- */
+
+/* Whether an upload of symbols is in plain form (docs/FORMAT.md): each entry is accepted, without a look at end bytes, and
+ * its bytes are those that vindaskot_symbol_write_2 gives for what was read of it, whose blocks are the bytes of the
+ * attributes and the refactor records shown. Nothing is lent for it. VINDASKOT_DONE: it is. Else, at the first entry that
+ * is not, the refusal of its step, or 10 for a zero claim, or 19: answer[0] is the place in the upload of the first byte
+ * that is not what would be written, or the entry's start where the writer refuses what was read. Refusals: 5, 2, 3, 10,
+ * 19. */
+uint32_t vindaskot_plain(const uint8_t *bytes, size_t bytes_len, uint64_t answer[VINDASKOT_AT_LEAST 2]);
+
 /* ---- Index and finding ---- */
 
 /* How many slots, each a uint32_t, the index of an upload of that length can need, so that they can be set aside before

@@ -15,6 +15,7 @@ pub mod flags;
 pub mod index;
 pub mod mode;
 pub mod name_index;
+pub mod plain;
 pub mod refactor_info;
 pub mod refusal;
 pub mod salvage;
@@ -35,6 +36,7 @@ pub use flags::{AdsSymbol2Flags, AdsSymbolFlags, AdsTypeFlags, IndexGroup, Index
 pub use index::{Index, ROOM_MOST, find, find_in, room};
 pub use mode::Mode;
 pub use name_index::{NameIndex, Named, branch_of};
+pub use plain::check_plain;
 pub use refactor_info::{AdsRefactorInfo, AdsRefactorInfos, RefactorWriter};
 pub use refusal::{LIMIT, Refusal, RefusalKind};
 pub use salvage::{Run, Runs, Salvage, salvage, salvage_in};

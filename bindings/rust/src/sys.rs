@@ -349,6 +349,7 @@ unsafe extern "C" {
         out_len: usize,
         answer: &mut [u64; 2],
     ) -> u32;
+    pub fn vindaskot_plain(bytes: *const u8, bytes_len: usize, answer: &mut [u64; 2]) -> u32;
     pub fn vindaskot_room(length: usize, answer: &mut [u64; 2]) -> u32;
     pub fn vindaskot_index_build(
         bytes: *const u8,
