@@ -1,14 +1,12 @@
 -- What splitting writes are the lines of the upload, and no others.
 use Rattle.std.proofs.Common.{ℕ, zero, suc, ◌+◌, ◌-◌, ◌<◌, ◌≤◌, ◌≡◌, inl, inr, refl, sym, ap, ap₂, subst, ◌∙◌, Bool, true, false, List, [], ◌∷◌, ◌++◌, length, drop, append_assoc, length-drop, arith}
-use Rattle.std.specs.Prelude.{leb, ltb, map, Result, Ok, Err, if◌then◌else◌}
+use Rattle.std.specs.Prelude.{leb, map, Ok, if◌then◌else◌}
 use Rattle.std.specs.List.{flat_map, slice_range}
 use Rattle.std.proofs.lemmas.List.{take_all}
-use borrow.Author.Tests.{leb-true, leb-false, le-leb, eqb-true, eqb-false, ltb-true, ltb-false}
+use borrow.Author.Tests.{leb-true, leb-false, le-leb, eqb-true, eqb-false}
 use Rattle.le.specs.Le.{le4}
 use Rattle.hex.specs.Hex.{encode_upper}
 use Rattle.refusal.specs.Refusal.{limit}
-use Rattle.refusal.specs.declared.Refusal.{Refusal}
-use Rattle.refusal.specs.declared.Refusal.TheVariants.{TooLarge}
 use Rattle.entry.specs.declared.Claimed.{Claimed}
 use Rattle.entry.specs.Entry.{claim_at}
 use Rattle.entry.specs.Walk.{stands, steps_from, steps}

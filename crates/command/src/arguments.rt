@@ -19,6 +19,15 @@ pub enum Request<'a> {
     },
     /// Something of a file.
     Run(Run<'a>),
+    /// The lines of a file, or a file of lines.
+    Captures {
+        /// Its path, or `-` for standard input.
+        file: &'a str,
+        /// The form that was told of an upload that is split.
+        form: Option<Form>,
+        /// What is made of it.
+        make: Captures,
+    },
 }
 
 /// What is asked of a file.
@@ -68,10 +77,22 @@ pub enum Asked<'a> {
     },
 }
 
-// The word that says what to do: with a length, or with a file.
+/// What is made of a file: lines of an upload, or an upload of lines.
+#[derive(Clone, Copy, Debug, PartialEq, Eq)]
+pub enum Captures {
+    /// The upload is split into lines.
+    Split,
+    /// Each line is an upload, and is split.
+    Each,
+    /// The lines are joined.
+    Join,
+}
+
+// The word that says what to do: with a length, with lines, or with a file.
 #[derive(Clone, Copy, Debug)]
 enum Command {
     Room,
+    Captures,
     OfFile(Task),
 }
 
@@ -91,6 +112,7 @@ enum Task {
 impl Command {
     fn of(word: &str) -> Option<Command> {
         match word {
+            "captures" => Some(Command::Captures),
             "room" => Some(Command::Room),
             "find" => Some(Command::OfFile(Task::Find)),
             "show" => Some(Command::OfFile(Task::Show)),
@@ -256,6 +278,7 @@ impl<'a> Words<'a> {
             Command::Room => Request::Room {
                 length: self.length()?,
             },
+            Command::Captures => self.captures(options)?,
             Command::OfFile(task) => Request::Run(self.run(task, options)?),
         };
         match self.next() {
@@ -299,6 +322,36 @@ impl<'a> Words<'a> {
             form: options.form,
             mode: options.mode,
             asked,
+        })
+    }
+
+    // Of lines the form is known, and no entry is read.
+    fn captures(&mut self, options: Options) -> Result<Request<'a>, Failure> {
+        let alloc = self.alloc;
+        let make = match self.need("split, each or join")? {
+            "split" => Captures::Split,
+            "each" => Captures::Each,
+            "join" => Captures::Join,
+            word => {
+                return Err(Failure::Usage(format!(in alloc;
+                    "captures needs split, each or join, not {word:?}"
+                )?));
+            }
+        };
+        if options.mode == Mode::Checked {
+            return usage(
+                alloc,
+                "--checked is for what is read, and captures reads no entry",
+            );
+        }
+        if options.form.is_some() && make != Captures::Split {
+            return usage(alloc, "--binary and --hex are for captures split");
+        }
+        let file = self.need("a file, or - for standard input")?;
+        Ok(Request::Captures {
+            file,
+            form: options.form,
+            make,
         })
     }
 

@@ -11,6 +11,9 @@ pub const HELP: &str = r#"vindaskot: any TwinCAT symbol upload, in words
   vindaskot check FILE                  how many entries there are, what was refused, and where
   vindaskot compare A B [--json]        which entries of two uploads differ and in which parts, and what else moved
   vindaskot salvage FILE OUT            the accepted entries as a new upload in OUT, and a table of what was dropped
+  vindaskot captures split FILE         the upload as lines of digits, one for each entry
+  vindaskot captures each LINES         the same of each line of LINES, which is an upload
+  vindaskot captures join LINES         the upload that such lines are
   vindaskot room LENGTH                 how many slots the index of an upload of so many bytes can need
 
 FILE is a path, or - for standard input: up to 16,777,216 bytes, binary or hexadecimal text. Digits are of either case,
@@ -59,6 +62,11 @@ The accepted entries stand in OUT unchanged and in order; each refused one is a 
 length and the reason. From a length of 0 on, and from one that leaves the upload, all is dropped. Read as FILE was,
 with --checked or without, nothing in OUT is refused.
 
+LINES is a path, or -, of lines of hexadecimal digits, of either case and with nothing between them, which each end in a
+line feed; the last may lack it. What captures split and each write are such lines, in capitals: a line for each entry,
+accepted or not, and one for what is cut at the end, or all that an entry of length 0 begins. Editors can move them.
+captures join writes the bytes of all lines, one after another: of a file that split wrote just the upload, in binary.
+
 LENGTH is a number of bytes in decimal digits, with or without zeros before it. Nothing is read, and the number of slots
 is printed alone: whatever the upload will be, with --checked or without, its index needs no more, and some upload of
 that length needs all of them.
@@ -83,6 +91,7 @@ Examples:
   xxd -p rig.bin | vindaskot check -
   vindaskot compare yesterday.bin today.bin
   vindaskot salvage --checked capture.bin rehearsal.bin
+  vindaskot captures split rig.bin > rig.lines
   vindaskot room 1400000
 
 Status: 0 done, of compare that the two are alike; 1 refused, not found or different; 2 the arguments, a file or the

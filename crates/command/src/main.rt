@@ -2,6 +2,7 @@
 #![tactic(auto)]
 
 mod arguments;
+mod captured;
 mod compare;
 mod explain;
 mod failure;
@@ -72,6 +73,7 @@ fn answer<W: Write>(rt: &HostRuntime, request: &Request<'_>, out: &mut W) -> Res
         Request::Version => writeln!(out, "vindaskot 0.1.0")?,
         Request::Room { length } => slots::room(rt.alloc(), *length, out)?,
         Request::Run(run) => return answer_of_a_file(rt, run, out),
+        Request::Captures { file, form, make } => captured::make(rt, file, *form, *make, out)?,
     }
     Ok(true)
 }

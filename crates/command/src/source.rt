@@ -28,7 +28,8 @@ impl Source<'_> {
     }
 }
 
-fn shown(path: &str) -> &str {
+/// A path, or what it stands for.
+pub fn shown(path: &str) -> &str {
     if path == "-" { "standard input" } else { path }
 }
 

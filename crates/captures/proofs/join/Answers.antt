@@ -1,8 +1,8 @@
-use Rattle.std.proofs.Common.{◌≡◌, ◌≤◌, ◌∙◌, Err, length, rules, sym, ap, arith}
+use Rattle.std.proofs.Common.{◌≡◌, ◌≤◌, ◌∙◌, Err, length, rules, sym, arith}
 use Rattle.le.specs.Put.{put}
 use Rattle.le.proofs.Laws.{wrote}
 use Rattle.writing.proofs.Laws.{refuses, too_small, done}
-use Rattle.captures.specs.Captures.{joining, joined, lines}
+use Rattle.captures.specs.Captures.{joining}
 use Rattle.captures.proofs.Pairs.{from_if, to_and}
 use Rattle.captures.proofs.Lines.{told, told_refused, joined_is}
 use Rattle.captures.proofs.join.Goals as goal

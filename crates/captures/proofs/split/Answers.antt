@@ -1,7 +1,7 @@
 use Rattle.std.proofs.Common.{◌≡◌, ◌∙◌, Ok, Err, length, rules, sym, ap, arith}
 use Rattle.le.proofs.Laws.{wrote}
 use Rattle.writing.proofs.Laws.{refuses, too_small, done}
-use Rattle.captures.specs.Captures.{splitting, text_of, piece_bytes}
+use Rattle.captures.specs.Captures.{splitting}
 use Rattle.captures.proofs.Lines.{told, told_refused}
 use Rattle.captures.proofs.Pieces.{split_is}
 use Rattle.captures.proofs.split.Goals as goal
