@@ -169,7 +169,7 @@ impl Options {
                 "--json is for list, type and compare, not for {word}"
             )?));
         }
-        if let Command::OfFile(_) = command {
+        if !matches!(command, Command::Room) {
             return Ok(());
         }
         match (self.form, self.mode) {
