@@ -1,9 +1,8 @@
 -- Bytes that are the end of an entry, and the end bytes of attributes in them.
-use Rattle.std.proofs.Common.{ℕ, zero, suc, ◌+◌, ◌-◌, ◌≤◌, ◌≡◌, refl, sym, ap, ap₂, subst, ◌∙◌, Bool, List, [], ◌∷◌, ◌++◌, length, get_or, arith, Bor, length-drop, get_or-drop}
-use Rattle.std.specs.Prelude.{Result, Ok, Err}
+use Rattle.std.proofs.Common.{ℕ, zero, suc, ◌+◌, ◌-◌, ◌≡◌, ap, subst, ◌∙◌, Bool, List, length, Bor}
+use Rattle.std.specs.Prelude.{Ok}
 use Rattle.le.specs.Le.{has}
 use Rattle.part.specs.End.{IsEnd}
-use Rattle.attribute.specs.declared.AdsAttribute.{AdsAttribute}
 use Rattle.attribute.specs.Attribute.{listed, ends}
 use Rattle.attribute.specs.Behind.{bytes_behind}
 use Rattle.attribute.proofs.Behind.{ends_behind}

@@ -13,7 +13,6 @@ use Rattle.walk.specs.Step.{parse_of}
 use Rattle.part.specs.Slice.{part, after}
 use Rattle.layout.specs.Layout.{guid_of}
 use Rattle.field.specs.Tail.{sections_of}
-use Rattle.data_type.specs.declared.AdsDataTypeInfo.{AdsDataTypeInfo}
 use Rattle.data_type.specs.DataType.{ItemReader, taken, items_from, too_deep, item_by, type_at, type_of}
 use Rattle.field.specs.Modes.{strings_end, string_bytes}
 use Rattle.data_type.specs.Layout.{arrays_end, front}

@@ -1,7 +1,6 @@
 -- Why an entry's own bytes are refused as a field: proved.
 use Rattle.std.proofs.Common.{ℕ, ◌+◌, ◌≤◌, ◌≡◌, refl, sym, ap, ◌∙◌, subst, Bool, true, false, List, length, Ok, Err, Result, Bor}
 use Rattle.std.specs.Prelude.{Option, Some, None, ltb}
-use Rattle.std.specs.List.{All}
 use borrow.Author.Tests.{le-ltb, lt-ltb, ltb-true, ltb-false}
 use Rattle.le.specs.Le.{le2}
 use Rattle.part.specs.Slice.{after}

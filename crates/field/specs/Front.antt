@@ -1,5 +1,5 @@
 -- docs/FORMAT.md, "Field entries": a header of 42 bytes; name, type and comment, each with one end byte. Entries of data types begin so too.
-use Rattle.std.specs.Prelude.{ℕ, ◌+◌, ◌≤◌, List, [], ◌∷◌, Result, Ok, Err, ltb, length, get_or, if◌then◌else◌}
+use Rattle.std.specs.Prelude.{ℕ, ◌+◌, ◌≤◌, List, Result, Ok, Err, ltb, length, if◌then◌else◌}
 use Rattle.std.specs.Borrow.{Bor}
 use Rattle.le.specs.Le.{le2, le4}
 use Rattle.part.specs.Slice.{part, after}

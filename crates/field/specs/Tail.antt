@@ -1,5 +1,5 @@
 -- docs/FORMAT.md, "Field entries": what stands behind the sub-items. Entries of data types end so too.
-use Rattle.std.specs.Prelude.{ℕ, ◌-◌, Bool, List, Option, Some, None, Result, Ok, Err, leb, length, take, if◌then◌else◌}
+use Rattle.std.specs.Prelude.{ℕ, ◌-◌, Bool, List, Option, Some, None, Result, Ok, Err, leb, length, if◌then◌else◌}
 use Rattle.std.specs.Borrow.{Bor}
 use Rattle.le.specs.Le.{le2, has}
 use Rattle.part.specs.Slice.{after}

@@ -1,12 +1,10 @@
 -- Which strings are there, which bytes end them, and what a GUID is: proved.
-use Rattle.std.proofs.Common.{ℕ, suc, ◌+◌, ◌<◌, ◌≤◌, ◌≡◌, refl, ap, ap₂, ◌∙◌, true, List, [], ◌∷◌, ◌++◌, length, take, get_or, arith, Bor}
-use Rattle.std.specs.Prelude.{Some, None, Ok, Err}
+use Rattle.std.proofs.Common.{ℕ, suc, ◌+◌, ◌<◌, ◌≤◌, ◌≡◌, refl, ap, ◌∙◌, true, List, [], ◌∷◌, ◌++◌, length, take, get_or, arith, Bor}
+use Rattle.std.specs.Prelude.{Some, None}
 use Rattle.std.proofs.lemmas.List.{get_or-append-add}
-use native.Mathlib.Nat.{add-zero}
 use borrow.Author.Tests.{le-ltb, lt-ltb, le-leb, lt-leb}
 use Rattle.part.specs.Slice.{after}
-use Rattle.refusal.specs.declared.Refusal.TheVariants.{EntryLengthMismatch}
-use Rattle.layout.specs.Layout.{strings_there, string_ends, guid_of}
+use Rattle.layout.specs.Layout.{string_ends, guid_of}
 use Rattle.layout.specs.Meant.{strings_in, LayoutMeant}
 
 -- the byte behind some bytes

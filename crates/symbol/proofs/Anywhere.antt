@@ -1,11 +1,9 @@
 -- What a symbol tells does not depend on where it lies in memory.
 use Rattle.std.proofs.Common.{◌≡◌, ℕ, zero, suc, ◌+◌, ◌⊎◌, inl, inr, Bool, true, false, List, ◌∷◌, length, refl, sym, ap, ap₂, ◌∙◌, Bor}
-use Rattle.std.specs.Prelude.{Option, Result, Ok, Err, ltb, leb, get_or, bit_and, if◌then◌else◌}
+use Rattle.std.specs.Prelude.{Option, Result, Ok, Err, ltb, leb, bit_and, if◌then◌else◌}
 use Rattle.le.specs.Le.{le2, le4, has}
 use Rattle.part.specs.Slice.{part, after}
 use Rattle.part.specs.Outcome.{and_then}
-use Rattle.attribute.specs.Attribute as attribute
-use Rattle.attribute.specs.declared.Attributes.{Attributes}
 use Rattle.refactor.specs.Refactor as refactor
 use Rattle.refactor.specs.declared.AdsRefactorInfo.{AdsRefactorInfo}
 use Rattle.refactor.specs.declared.RefactorInfos.{RefactorInfos}
@@ -13,7 +11,7 @@ use Rattle.flags.specs.declared.symbol_flags.AdsSymbol2Flags.{AdsSymbol2Flags}
 use Rattle.refusal.specs.declared.Mode.{Mode}
 use Rattle.refusal.specs.declared.Mode.TheVariants.{Present, Checked}
 use Rattle.refusal.specs.declared.Refusal.{Refusal}
-use Rattle.refusal.specs.declared.Refusal.TheVariants.{TooShort, UnexpectedLength, EntryLengthMismatch}
+use Rattle.refusal.specs.declared.Refusal.TheVariants.{TooShort, EntryLengthMismatch}
 use Rattle.walk.specs.Mapped.{map_ok}
 use Rattle.symbol.specs.declared.AdsSymbolInfo.{AdsSymbolInfo}
 use Rattle.attribute.specs.Told as attributes

@@ -1,5 +1,5 @@
 -- docs/FORMAT.md, "Symbol entries": a header of 30 bytes; name, type and comment, each with one end byte; then the sections that its flags name.
-use Rattle.std.specs.Prelude.{ℕ, ◌+◌, ◌≤◌, Bool, List, [], ◌∷◌, Option, Some, None, Result, Ok, Err, ltb, leb, length, take, get_or, if◌then◌else◌}
+use Rattle.std.specs.Prelude.{ℕ, ◌+◌, ◌≤◌, Bool, List, [], Option, Some, None, Result, Ok, Err, ltb, leb, length, if◌then◌else◌}
 use Rattle.std.specs.Borrow.{Bor}
 use Rattle.le.specs.Le.{le2, le4, has}
 use Rattle.part.specs.Slice.{part, after}
@@ -8,7 +8,7 @@ use Rattle.part.specs.Outcome.{outcome, and_then}
 use Rattle.refusal.specs.EndBytes.{ended, in_mode}
 use Rattle.refusal.specs.declared.Mode.{Mode}
 use Rattle.refusal.specs.declared.Refusal.{Refusal}
-use Rattle.refusal.specs.declared.Refusal.TheVariants.{TooShort, EntryLengthMismatch}
+use Rattle.refusal.specs.declared.Refusal.TheVariants.{TooShort}
 use Rattle.layout.specs.Layout.{strings_there, string_ends, guid_of}
 use Rattle.attribute.specs.declared.Attributes.{Attributes}
 use Rattle.attribute.specs.Attribute as attribute
