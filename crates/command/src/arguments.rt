@@ -53,6 +53,8 @@ pub enum Asked<'a> {
         json: bool,
     },
     Check,
+    /// Whether each symbol is what would be written of it.
+    Plain,
     Compare {
         /// The file that the first is held against.
         with: &'a str,
@@ -72,6 +74,7 @@ enum Command {
     List,
     Type,
     Check,
+    Plain,
     Compare,
     Salvage,
     Room,
@@ -85,6 +88,7 @@ impl Command {
             "list" => Some(Command::List),
             "type" => Some(Command::Type),
             "check" => Some(Command::Check),
+            "plain" => Some(Command::Plain),
             "compare" => Some(Command::Compare),
             "salvage" => Some(Command::Salvage),
             "room" => Some(Command::Room),
@@ -127,6 +131,12 @@ impl Options {
             return Err(Failure::Usage(format!(in alloc;
                 "--json is for list, type and compare, not for {word}"
             )?));
+        }
+        if command == Command::Plain && self.mode == Mode::Checked {
+            return usage(
+                alloc,
+                "plain wants every end byte to be 0 as it is, without --checked",
+            );
         }
         if command != Command::Room {
             return Ok(());
@@ -270,6 +280,7 @@ impl<'a> Words<'a> {
             Command::Salvage => Asked::Salvage {
                 to: self.need("a path that what is kept is written to")?,
             },
+            Command::Plain => Asked::Plain,
             Command::Check | Command::Room => Asked::Check,
         };
         Ok(Run {
