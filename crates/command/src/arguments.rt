@@ -66,6 +66,8 @@ pub enum Asked<'a> {
         json: bool,
     },
     Check,
+    /// Whether each symbol is what would be written of it.
+    Plain,
     Compare {
         /// The file that the first is held against.
         with: &'a str,
@@ -105,6 +107,7 @@ enum Task {
     List,
     Type,
     Check,
+    Plain,
     Compare,
     Salvage,
 }
@@ -120,6 +123,7 @@ impl Command {
             "list" => Some(Command::OfFile(Task::List)),
             "type" => Some(Command::OfFile(Task::Type)),
             "check" => Some(Command::OfFile(Task::Check)),
+            "plain" => Some(Command::OfFile(Task::Plain)),
             "compare" => Some(Command::OfFile(Task::Compare)),
             "salvage" => Some(Command::OfFile(Task::Salvage)),
             _ => None,
@@ -168,6 +172,12 @@ impl Options {
             return Err(Failure::Usage(format!(in alloc;
                 "--json is for list, type and compare, not for {word}"
             )?));
+        }
+        if matches!(command, Command::OfFile(Task::Plain)) && self.mode == Mode::Checked {
+            return usage(
+                alloc,
+                "plain wants every end byte to be 0 as it is, without --checked",
+            );
         }
         if !matches!(command, Command::Room) {
             return Ok(());
@@ -315,6 +325,7 @@ impl<'a> Words<'a> {
             Task::Salvage => Asked::Salvage {
                 to: self.need("a path that what is kept is written to")?,
             },
+            Task::Plain => Asked::Plain,
             Task::Check => Asked::Check,
         };
         Ok(Run {

@@ -9,6 +9,7 @@ pub const HELP: &str = r#"vindaskot: any TwinCAT symbol upload, in words
   vindaskot list FILE [--json]          a table of the entries, or a line of JSON for each
   vindaskot type FILE [NAME] [--json]   data types with their members as trees, all or the first of a name
   vindaskot check FILE                  how many entries there are, what was refused, and where
+  vindaskot plain FILE                  whether each entry is what would be written of it, or where the first is not
   vindaskot compare A B [--json]        which entries of two uploads differ and in which parts, and what else moved
   vindaskot salvage FILE OUT            the accepted entries as a new upload in OUT, and a table of what was dropped
   vindaskot captures split FILE         the upload as lines of digits, one for each entry
@@ -18,8 +19,8 @@ pub const HELP: &str = r#"vindaskot: any TwinCAT symbol upload, in words
 
 FILE is a path, or - for standard input: up to 16,777,216 bytes, binary or hexadecimal text. Digits are of either case,
 with white space and line ends of any kind between them. Which it is, the first four bytes tell: four characters of text
-would be the length of an entry above that limit, so they are hexadecimal. show, why, list, type, check, compare and
-salvage say which, and so does every refusal of what was read. It is an upload of symbols, for type one of data types.
+would be the length of an entry above that limit, so they are hexadecimal. show, why, list, type, check, plain, compare
+and salvage say which, and so does every refusal of what was read. It is an upload of symbols, for type one of data types.
 Words of the command line are UTF-8; a file of another name is read from standard input.
 
 why says of each section of a symbol whether it is not flagged, has too few bytes left, or is there, and of attributes and
@@ -66,6 +67,9 @@ LINES is a path, or -, of lines of hexadecimal digits, of either case and with n
 line feed; the last may lack it. What captures split and each write are such lines, in capitals: a line for each entry,
 accepted or not, and one for what is cut at the end, or all that an entry of length 0 begins. Editors can move them.
 captures join writes the bytes of all lines, one after another: of a file that split wrote just the upload, in binary.
+plain reads each entry and holds its bytes against those that would be written of what it tells: as many, every end byte
+0, every flagged section there, all attributes shown, nothing unread. Of the first entry that is not so, the place is
+told, and the byte that is another or why nothing would be written. A plain upload is accepted with --checked too.
 
 LENGTH is a number of bytes in decimal digits, with or without zeros before it. Nothing is read, and the number of slots
 is printed alone: whatever the upload will be, with --checked or without, its index needs no more, and some upload of
@@ -89,14 +93,15 @@ Examples:
   vindaskot list rig.hex | less -S
   vindaskot type types.bin ST_LensTable
   xxd -p rig.bin | vindaskot check -
+  vindaskot plain rehearsal.bin
   vindaskot compare yesterday.bin today.bin
   vindaskot salvage --checked capture.bin rehearsal.bin
   vindaskot captures split rig.bin > rig.lines
   vindaskot room 1400000
 
-Status: 0 done, of compare that the two are alike; 1 refused, not found or different; 2 the arguments, a file or the
-output. Messages go to standard error, with the number of the refusal (docs/FORMAT.md has the table). Of salvage it is,
-whether or not anybody reads its table:
+Status: 0 done, of compare that the two are alike; 1 refused, not found, not plain or different; 2 the arguments, a file
+or the output. Messages go to standard error, with the number of the refusal (docs/FORMAT.md has the table). Of salvage
+it is, whether or not anybody reads its table:
   0    everything was kept, and OUT is there
   1    something was dropped, and OUT is there; or FILE was refused as a whole, and OUT is not there
   2    nothing was written, unless it was the table that could not be printed

@@ -8,6 +8,7 @@ mod explain;
 mod failure;
 mod find;
 mod help;
+mod plain_form;
 mod salvaged;
 mod show;
 mod slots;
@@ -102,6 +103,7 @@ fn answer_of_a_file<W: Write>(
             return unless_refused(rt, &upload, tally);
         }
         Asked::Check => return Ok(report::check::check(&upload, out)?.refused == 0),
+        Asked::Plain => return plain_form::plain(alloc, &upload, out),
         Asked::Compare { with, json } => {
             let other = source::read(rt, with, run.form, run.mode)?;
             return compare::compare(alloc, &upload, &other.upload(), *json, out);
