@@ -1,9 +1,9 @@
 //! The sections of a symbol's entry: the parts in which its bytes are told (docs/FORMAT.md, "Symbol entries").
 #![tactic(auto)]
 
-ghost use Rattle.std.specs.Prelude.{◌≡◌, ◌++◌, IfOk, OnOk};
+ghost use Rattle.std.specs.Prelude.{◌≡◌, ◌+◌, ◌-◌, ◌^◌, ◌++◌, IfOk, OnOk, length, min};
 ghost use Rattle.std.specs.List.{flat_map};
-ghost use Rattle.sections.specs.Sections.{own_bytes};
+ghost use Rattle.sections.specs.Sections.{own_bytes, kind, number, part_order};
 
 use std::alloc::{AllocError, Global};
 use std::cmp::Ordering;
@@ -34,7 +34,9 @@ pub enum Part {
 
 impl Part {
     // Its place among all parts: by its kind, and then by its number.
-    fn place(self) -> (u8, usize) {
+    fn place(self) -> (u8, usize)
+        ensures { result ≡ (kind self, number self) }
+    {
         match self {
             Part::Length => (0, 0),
             Part::Group => (1, 0),
@@ -57,7 +59,9 @@ impl Part {
     }
 
     /// The order in which two parts stand.
-    pub fn compare(self, other: Part) -> Ordering {
+    pub fn compare(self, other: Part) -> Ordering
+        ensures { result ≡ part_order self other }
+    {
         let (kind, number) = self.place();
         let (other_kind, other_number) = other.place();
         match kind.cmp(&other_kind) {
@@ -104,7 +108,9 @@ pub struct Section<'a> {
 
 impl Section<'_> {
     /// The place in the entry where they end.
-    pub fn end(&self) -> usize {
+    pub fn end(&self) -> usize
+        ensures { result ≡ min (self.now.at + length self.now.bytes.now) (2 ^ 64 - 1) }
+    {
         self.at.saturating_add(self.bytes.len())
     }
 }
