@@ -12,7 +12,10 @@ use vindaskot::{IndexGroup, IndexOffset, SymbolNumbers, SymbolParts};
 /// The program, which `tools/vindaskot --build` makes; or the one that VINDASKOT_PROGRAM names when the tests are compiled.
 pub const PROGRAM: &str = match option_env!("VINDASKOT_PROGRAM") {
     Some(named) => named,
-    None => concat!(env!("CARGO_MANIFEST_DIR"), "/../../target/command/vindaskot"),
+    None => concat!(
+        env!("CARGO_MANIFEST_DIR"),
+        "/../../target/command/vindaskot"
+    ),
 };
 
 pub fn repository() -> PathBuf {
