@@ -49,6 +49,13 @@ pub enum Asked<'a> {
         name: &'a str,
     },
     List {
+        /// In the order of the names.
+        sorted: bool,
+        json: bool,
+    },
+    /// The symbols whose names begin with a text.
+    Branch {
+        text: &'a str,
         json: bool,
     },
     /// Data types, all or the first of a name.
@@ -82,6 +89,7 @@ enum Task {
     Show,
     Why,
     List,
+    Branch,
     Type,
     Check,
     Compare,
@@ -96,6 +104,7 @@ impl Command {
             "show" => Some(Command::OfFile(Task::Show)),
             "why" => Some(Command::OfFile(Task::Why)),
             "list" => Some(Command::OfFile(Task::List)),
+            "branch" => Some(Command::OfFile(Task::Branch)),
             "type" => Some(Command::OfFile(Task::Type)),
             "check" => Some(Command::OfFile(Task::Check)),
             "compare" => Some(Command::OfFile(Task::Compare)),
@@ -107,7 +116,7 @@ impl Command {
     fn has_json(self) -> bool {
         matches!(
             self,
-            Command::OfFile(Task::List | Task::Type | Task::Compare)
+            Command::OfFile(Task::List | Task::Branch | Task::Type | Task::Compare)
         )
     }
 }
@@ -117,6 +126,7 @@ struct Options {
     form: Option<Form>,
     mode: Mode,
     json: bool,
+    sorted: bool,
 }
 
 fn usage<T>(alloc: Global, why: &str) -> Result<T, Failure> {
@@ -129,6 +139,7 @@ impl Options {
             form: None,
             mode: Mode::Present,
             json: false,
+            sorted: false,
         }
     }
 
@@ -144,8 +155,11 @@ impl Options {
     fn suit(&self, alloc: Global, command: Command, word: &str) -> Result<(), Failure> {
         if self.json && !command.has_json() {
             return Err(Failure::Usage(format!(in alloc;
-                "--json is for list, type and compare, not for {word}"
+                "--json is for list, branch, type and compare, not for {word}"
             )?));
+        }
+        if self.sorted && !matches!(command, Command::OfFile(Task::List)) {
+            return Err(Failure::Usage(format!(in alloc; "--sorted is for list, not for {word}")?));
         }
         if let Command::OfFile(_) = command {
             return Ok(());
@@ -171,6 +185,7 @@ impl Options {
             "--hex" => self.tell(alloc, Form::Hexadecimal)?,
             "--checked" => self.mode = Mode::Checked,
             "--json" => self.json = true,
+            "--sorted" => self.sorted = true,
             _ => return Err(Failure::Usage(format!(in alloc; "invalid option '{name}'")?)),
         }
         match value {
@@ -280,7 +295,14 @@ impl<'a> Words<'a> {
             Task::Why => Asked::Why {
                 name: self.need("the name of a symbol")?,
             },
-            Task::List => Asked::List { json },
+            Task::List => Asked::List {
+                sorted: options.sorted,
+                json,
+            },
+            Task::Branch => Asked::Branch {
+                text: self.need("the text that names begin with")?,
+                json,
+            },
             Task::Type => Asked::Type {
                 name: self.next(),
                 json,
