@@ -2,6 +2,7 @@
 //! compared.
 mod ads;
 mod c;
+mod captures;
 mod clock;
 mod dice;
 mod find;
@@ -91,6 +92,7 @@ fn main() {
     let what = "index and finding, names that end alike";
     find::rows(&mut report, seed, what, &ends_alike);
     salvage::rows(&mut report, &rig);
+    captures::rows(&mut report, &rig);
     text::rows(&mut report, seed);
     write::rows(&mut report, &rig);
     types::rows(&mut report, &rig);
