@@ -22,8 +22,14 @@ const VALUES: [u8; 256] = {
 /// Where the entry ends that begins at a place; what is cut ends with the upload.
 fn end(upload: &[u8], at: usize) -> usize {
     let left = &upload[at..];
-    let claim = left.first_chunk().map_or(0, |claim| u32::from_le_bytes(*claim) as usize);
-    if (1..=left.len()).contains(&claim) { at + claim } else { upload.len() }
+    let claim = left
+        .first_chunk()
+        .map_or(0, |claim| u32::from_le_bytes(*claim) as usize);
+    if (1..=left.len()).contains(&claim) {
+        at + claim
+    } else {
+        upload.len()
+    }
 }
 
 /// As the archive does, it measures before it writes.
@@ -37,7 +43,10 @@ fn split(upload: &[u8], text: &mut [u8]) -> Option<usize> {
         let piece = &upload[at..end(upload, at)];
         let (line, behind) = rest.split_at_mut(2 * piece.len() + 1);
         for (pair, byte) in line.chunks_exact_mut(2).zip(piece) {
-            pair.copy_from_slice(&[DIGITS[usize::from(byte >> 4)], DIGITS[usize::from(byte & 15)]]);
+            pair.copy_from_slice(&[
+                DIGITS[usize::from(byte >> 4)],
+                DIGITS[usize::from(byte & 15)],
+            ]);
         }
         line[2 * piece.len()] = b'\n';
         (rest, at) = (behind, at + piece.len());
@@ -49,7 +58,9 @@ fn join(text: &[u8], out: &mut [u8]) -> Option<usize> {
     let lines = || text.split(|c| *c == b'\n');
     let mut needed = 0;
     for line in lines() {
-        let worst = line.iter().fold(0, |worst, c| worst | VALUES[usize::from(*c)]);
+        let worst = line
+            .iter()
+            .fold(0, |worst, c| worst | VALUES[usize::from(*c)]);
         if line.len() % 2 == 1 || worst > 15 {
             return None;
         }
@@ -78,7 +89,10 @@ pub fn rows(report: &mut Report, rig: &Rig) {
     if join(&text, &mut back) != Some(upload.len()) || back != upload {
         wrong("the plain loop joins another upload");
     }
-    report.heading("captures, a line an entry (the Rust: plain loops)", "ns a byte of the upload");
+    report.heading(
+        "captures, a line an entry (the Rust: plain loops)",
+        "ns a byte of the upload",
+    );
     let (mut ours, mut theirs) = (vec![0; length], vec![0; length]);
     let times = race(
         report.allowed,
