@@ -166,4 +166,5 @@ def main():
             (folder / name).write_bytes(content)
 
 
-main()
+if __name__ == "__main__":
+    main()

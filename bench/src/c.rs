@@ -318,6 +318,23 @@ pub fn salvage(
     answer.map(|figure| figure as usize)
 }
 
+/// An upload split into lines, or lines joined: how many bytes were written.
+pub fn split_lines(bytes: &[u8], text: &mut [u8]) -> usize {
+    let mut answer = [0; 2];
+    let (start, room) = (bytes.as_ptr(), text.as_mut_ptr());
+    let status =
+        unsafe { sys::vindaskot_split_lines(start, bytes.len(), room, text.len(), &mut answer) };
+    done("split_lines", status, answer)
+}
+
+pub fn join_lines(text: &[u8], out: &mut [u8]) -> usize {
+    let mut answer = [0; 2];
+    let (start, room) = (text.as_ptr(), out.as_mut_ptr());
+    let status =
+        unsafe { sys::vindaskot_join_lines(start, text.len(), room, out.len(), &mut answer) };
+    done("join_lines", status, answer)
+}
+
 /// `vindaskot_find` of this archive, or of an earlier one.
 pub type Find =
     unsafe extern "C" fn(*const u8, usize, *const u8, usize, answer: &mut [u64; 2]) -> u32;

@@ -2,6 +2,7 @@
 //! compared.
 mod ads;
 mod c;
+mod captures;
 mod clock;
 mod dice;
 mod find;
@@ -94,6 +95,7 @@ fn main() {
     names::rows(&mut report, seed, "name index", &rig);
     names::rows(&mut report, seed, "name index, names alike", &alike);
     salvage::rows(&mut report, &rig);
+    captures::rows(&mut report, &rig);
     text::rows(&mut report, seed);
     write::rows(&mut report, &rig);
     types::rows(&mut report, &rig);

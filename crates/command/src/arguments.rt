@@ -58,6 +58,13 @@ pub enum Asked<'a> {
         name: &'a str,
     },
     List {
+        /// In the order of the names.
+        sorted: bool,
+        json: bool,
+    },
+    /// The symbols whose names begin with a text.
+    Branch {
+        text: &'a str,
         json: bool,
     },
     /// Data types, all or the first of a name.
@@ -105,6 +112,7 @@ enum Task {
     Show,
     Why,
     List,
+    Branch,
     Type,
     Check,
     Plain,
@@ -121,6 +129,7 @@ impl Command {
             "show" => Some(Command::OfFile(Task::Show)),
             "why" => Some(Command::OfFile(Task::Why)),
             "list" => Some(Command::OfFile(Task::List)),
+            "branch" => Some(Command::OfFile(Task::Branch)),
             "type" => Some(Command::OfFile(Task::Type)),
             "check" => Some(Command::OfFile(Task::Check)),
             "plain" => Some(Command::OfFile(Task::Plain)),
@@ -133,7 +142,7 @@ impl Command {
     fn has_json(self) -> bool {
         matches!(
             self,
-            Command::OfFile(Task::List | Task::Type | Task::Compare)
+            Command::OfFile(Task::List | Task::Branch | Task::Type | Task::Compare)
         )
     }
 }
@@ -143,6 +152,7 @@ struct Options {
     form: Option<Form>,
     mode: Mode,
     json: bool,
+    sorted: bool,
 }
 
 fn usage<T>(alloc: Global, why: &str) -> Result<T, Failure> {
@@ -155,6 +165,7 @@ impl Options {
             form: None,
             mode: Mode::Present,
             json: false,
+            sorted: false,
         }
     }
 
@@ -170,8 +181,11 @@ impl Options {
     fn suit(&self, alloc: Global, command: Command, word: &str) -> Result<(), Failure> {
         if self.json && !command.has_json() {
             return Err(Failure::Usage(format!(in alloc;
-                "--json is for list, type and compare, not for {word}"
+                "--json is for list, branch, type and compare, not for {word}"
             )?));
+        }
+        if self.sorted && !matches!(command, Command::OfFile(Task::List)) {
+            return Err(Failure::Usage(format!(in alloc; "--sorted is for list, not for {word}")?));
         }
         if matches!(command, Command::OfFile(Task::Plain)) && self.mode == Mode::Checked {
             return usage(
@@ -203,6 +217,7 @@ impl Options {
             "--hex" => self.tell(alloc, Form::Hexadecimal)?,
             "--checked" => self.mode = Mode::Checked,
             "--json" => self.json = true,
+            "--sorted" => self.sorted = true,
             _ => return Err(Failure::Usage(format!(in alloc; "invalid option '{name}'")?)),
         }
         match value {
@@ -313,7 +328,14 @@ impl<'a> Words<'a> {
             Task::Why => Asked::Why {
                 name: self.need("the name of a symbol")?,
             },
-            Task::List => Asked::List { json },
+            Task::List => Asked::List {
+                sorted: options.sorted,
+                json,
+            },
+            Task::Branch => Asked::Branch {
+                text: self.need("the text that names begin with")?,
+                json,
+            },
             Task::Type => Asked::Type {
                 name: self.next(),
                 json,

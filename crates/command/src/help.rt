@@ -6,7 +6,8 @@ pub const HELP: &str = r#"vindaskot: any TwinCAT symbol upload, in words
   vindaskot find FILE NAME ATTRIBUTE    the value of its attribute, and nothing else
   vindaskot show FILE NAME              everything of one symbol, and a picture of its bytes
   vindaskot why FILE NAME               why its GUID, attributes, extended flags and former names are there or not
-  vindaskot list FILE [--json]          a table of the entries, or a line of JSON for each
+  vindaskot list FILE [--json]          a table of the entries, or a line of JSON for each; --sorted by their names
+  vindaskot branch FILE TEXT [--json]   the same of the symbols whose names begin with TEXT, in the order of the names
   vindaskot type FILE [NAME] [--json]   data types with their members as trees, all or the first of a name
   vindaskot check FILE                  how many entries there are, what was refused, and where
   vindaskot plain FILE                  whether each entry is what would be written of it, or where the first is not
@@ -19,8 +20,9 @@ pub const HELP: &str = r#"vindaskot: any TwinCAT symbol upload, in words
 
 FILE is a path, or - for standard input: up to 16,777,216 bytes, binary or hexadecimal text. Digits are of either case,
 with white space and line ends of any kind between them. Which it is, the first four bytes tell: four characters of text
-would be the length of an entry above that limit, so they are hexadecimal. show, why, list, type, check, plain, compare
-and salvage say which, and so does every refusal of what was read. It is an upload of symbols, for type one of data types.
+would be the length of an entry above that limit, so they are hexadecimal. show, why, list, branch, type, check, plain,
+compare and salvage say which, and so does every refusal of what was read. It is an upload of symbols, for type one of
+data types.
 Words of the command line are UTF-8; a file of another name is read from standard input.
 
 why says of each section of a symbol whether it is not flagged, has too few bytes left, or is there, and of attributes and
@@ -78,7 +80,8 @@ that length needs all of them.
   --binary, --hex    the file is binary, or hexadecimal, whatever it looks like
   --checked          an entry is refused where a name, a value or another string does not end in a byte of 0: it may have
                      been cut there. Without this, such an entry is shown as it is
-  --json             list and type: a line of JSON an entry; compare: one for each that differs, and one where the
+  --sorted           list: accepted entries in the order of their names, A to Z as a to z, refused ones behind them
+  --json             list, branch and type: a line of JSON an entry; compare: one for each that differs, and one where the
                      distance to B's places changes
   --help, -h         this text
   --version, -V      the version
@@ -91,6 +94,7 @@ Examples:
   vindaskot show rig.bin MAIN.stLens
   vindaskot why rig.bin MAIN.stLens
   vindaskot list rig.hex | less -S
+  vindaskot branch rig.bin MAIN.stLens.
   vindaskot type types.bin ST_LensTable
   xxd -p rig.bin | vindaskot check -
   vindaskot plain rehearsal.bin

@@ -2,6 +2,7 @@
 #![tactic(auto)]
 
 mod arguments;
+mod branch;
 mod captured;
 mod compare;
 mod explain;
@@ -19,6 +20,7 @@ mod written;
 use arguments::{Asked, Request, Run};
 use failure::Failure;
 use report::{Tally, Upload};
+use std::alloc::Global;
 use std::env;
 use std::env::VarError;
 use std::io::{BufWriter, ErrorKind, IsTerminal, Write};
@@ -94,12 +96,9 @@ fn answer_of_a_file<W: Write>(
         Asked::Find { name, attribute } => find::find(alloc, &upload, name, *attribute, out)?,
         Asked::Show { name } => show::show(alloc, &upload, name, is_coloured(rt), out)?,
         Asked::Why { name } => explain::explain(alloc, &upload, name, out)?,
-        Asked::List { json: true } => {
-            let tally = report::list::list(&upload, out)?;
-            return unless_refused(rt, &upload, tally);
-        }
-        Asked::List { json: false } => {
-            let tally = report::table::list(&upload, out)?;
+        Asked::Branch { text, json } => branch::branch(alloc, &upload, text, *json, out)?,
+        Asked::List { sorted, json } => {
+            let tally = list(alloc, &upload, *sorted, *json, out)?;
             return unless_refused(rt, &upload, tally);
         }
         Asked::Check => return Ok(report::check::check(&upload, out)?.refused == 0),
@@ -112,6 +111,22 @@ fn answer_of_a_file<W: Write>(
         Asked::Type { name, json } => types::print(alloc, &upload, *name, *json, out)?,
     }
     Ok(true)
+}
+
+fn list<W: Write>(
+    alloc: Global,
+    upload: &Upload<'_>,
+    sorted: bool,
+    as_json: bool,
+    out: &mut W,
+) -> Result<Tally, Failure> {
+    if sorted {
+        return branch::sorted(alloc, upload, as_json, out);
+    }
+    if as_json {
+        return Ok(report::list::list(upload, out)?);
+    }
+    Ok(report::table::list(upload, out)?)
 }
 
 // How a list ends: entries that were refused stand in it, and one of many is easily overlooked.

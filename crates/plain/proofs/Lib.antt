@@ -8,3 +8,4 @@ pub mod Form
 pub mod Read
 pub mod Faithful
 pub mod Meaning
+pub mod Checked

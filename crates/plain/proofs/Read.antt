@@ -6,6 +6,7 @@ use lib.Seq.{drop-append_seam}
 use Rattle.le.specs.Le.{le2, le4, has, bytes2, bytes4}
 use Rattle.le.proofs.Laws.{le2_bytes2, le4_bytes4}
 use Rattle.refusal.specs.declared.Refusal.{Refusal}
+use Rattle.refusal.specs.declared.Mode.{Mode}
 use Rattle.refusal.specs.declared.Mode.TheVariants.{Present}
 use Rattle.flags.specs.declared.symbol_flags.AdsSymbol2Flags.{AdsSymbol2Flags}
 use Rattle.walk.specs.Mapped.{map_ok}
@@ -70,11 +71,14 @@ module _ (e : Bor (List ℕ)) (r : AdsSymbolInfo) (h : HoldsBytes e) (read : sym
   l : laid.Laid (entry_bytes (body_of n ++ [])) (bytes4 (length (body_of n ++ []) + 4) ++ header_bytes n) n.name.now n.type_name.now n.comment.now (sections_bytes n ++ []) 30
   l = header.laid n (typed e r h read) a [] fits
 
-  pub told : told_of r ≡ meant n []
-  told =
+  -- in either mode it is read as what is written of it
+  pub read_again : (mode : Mode) → map_ok told_of (symbol_of mode e) ≡ Ok (meant n [])
+  read_again mode =
       let again : symbol_written n ≡ Ok (symbol_bytes n) = w ∙ ap Ok (accepted_is n e.now w).1 in
-      let b = sym (ap (map_ok told_of) read) ∙ symbols_read_back Present n [] e (typed e r h read) again (is ∙ sym (dropped n)) small in
-      cc
+      symbols_read_back mode n [] e (typed e r h read) again (is ∙ sym (dropped n)) small
+
+  pub told : told_of r ≡ meant n []
+  told = let b = sym (ap (map_ok told_of) read) ∙ read_again Present in cc
 
   abbrev front : List ℕ
   front = (bytes4 (length (body_of n ++ []) + 4) ++ header_bytes n) ++ strings_bytes n.name.now n.type_name.now n.comment.now

@@ -3,7 +3,7 @@ use Rattle.std.specs.Prelude.{ℕ, ◌+◌, ◌-◌, ◌<◌, ◌≡◌, ◌↔�
 use Rattle.std.specs.List.{All}
 use Rattle.std.specs.Borrow.{Bor}
 use Rattle.part.specs.Slice.{part}
-use Rattle.refusal.specs.declared.Mode.TheVariants.{Present}
+use Rattle.refusal.specs.declared.Mode.TheVariants.{Present, Checked}
 use Rattle.refusal.specs.declared.Refusal.{Refusal}
 use Rattle.refusal.specs.declared.Refusal.TheVariants.{NotPlain}
 use Rattle.walk.specs.declared.Piece.{Piece}
@@ -50,3 +50,7 @@ abbrev pub PlainFaithful : Type 0
 PlainFaithful =
     (e f : Bor (List ℕ)) (r q : AdsSymbolInfo) → HoldsBytes e → HoldsBytes f → symbol_of Present e ≡ Ok r → symbol_of Present f ≡ Ok q → IsWrittenSo e r → IsWrittenSo f q
     → ((told_of r ≡ told_of q) ↔ (e.now ≡ f.now))
+
+-- a plain entry is accepted in the checked mode too, and read alike
+abbrev pub PlainChecked : Type 0
+PlainChecked = (e : Bor (List ℕ)) (r : AdsSymbolInfo) → HoldsBytes e → symbol_of Present e ≡ Ok r → IsWrittenSo e r → symbol_of Checked e ≡ Ok r

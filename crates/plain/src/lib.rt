@@ -8,7 +8,7 @@ ghost use Rattle.writing.specs.Layout.{lengths_bytes, string_bytes, strings_byte
 ghost use Rattle.symbol.specs.Writing.{numbers_bytes, header_bytes, guid_bytes, extended_bytes, sections_bytes, symbol_bytes};
 ghost use Rattle.plain.specs.Plain.{along, IsInside, departing, plain_of};
 ghost use Rattle.plain.specs.Form.{PlainInForm};
-ghost use Rattle.plain.specs.Meaning.{PlainMeant, PlainFaithful};
+ghost use Rattle.plain.specs.Meaning.{PlainMeant, PlainFaithful, PlainChecked};
 
 use refusal::{Mode, Refusal};
 use symbol::{AdsSymbolInfo, NewSymbol};
@@ -243,4 +243,9 @@ pub fn plain_meant()
 /// Two plain entries tell the same exactly where they are the same bytes.
 pub fn plain_faithful()
     ensures { PlainFaithful }
+{}
+
+/// A plain entry is accepted in both modes, and read alike.
+pub fn plain_checked()
+    ensures { PlainChecked }
 {}

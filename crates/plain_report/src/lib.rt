@@ -10,7 +10,7 @@ use std::alloc::{AllocError, Allocator};
 use std::fmt;
 use symbol::{AdsSymbolInfo, NewSymbol, Symbols};
 use walk::Piece;
-use wording::text::Shown;
+use wording::strings::Shown;
 use wording::{Grouped, InWords, Pair};
 use writing::WriteError;
 

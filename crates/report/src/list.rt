@@ -13,8 +13,9 @@ use std::io::Write;
 use symbol::{AdsSymbolInfo, Symbols};
 use walk::Piece;
 
+/// Writes the line of an entry.
 #[tactic(auto, unfolding(crate::specs::Report::json_line))]
-fn write_line<W: Write>(piece: &Piece<AdsSymbolInfo<'_>>, out: &mut W) -> io::Result<()>
+pub fn write_line<W: Write>(piece: &Piece<AdsSymbolInfo<'_>>, out: &mut W) -> io::Result<()>
     ensures { OnOk result (Appends (W.contents out.old) (W.contents out.new) (json_line piece.now)) }
 {
     let place = piece.start;

@@ -46,19 +46,59 @@ fn widths_of(place: usize, symbol: &AdsSymbolInfo<'_>) -> Widths {
     ]
 }
 
-fn widest(upload: &Upload<'_>) -> Widths {
-    let mut widest = HEADINGS;
-    for piece in Symbols::new(upload.bytes, upload.mode) {
-        match piece.answer {
+/// How wide the columns of a table are: as the widest of their headings and of the cells that are to stand in them.
+#[derive(Clone, Copy, Debug)]
+pub struct Columns(Widths);
+
+impl Columns {
+    /// For the headings alone.
+    pub fn new() -> Self {
+        Columns(HEADINGS)
+    }
+
+    /// Wide enough for one more line.
+    pub fn fit(&mut self, piece: &Piece<AdsSymbolInfo<'_>>) {
+        let widest = &mut self.0;
+        match &piece.answer {
             Ok(symbol) => {
-                for (most, width) in widest.iter_mut().zip(widths_of(piece.start, &symbol)) {
+                for (most, width) in widest.iter_mut().zip(widths_of(piece.start, symbol)) {
                     *most = width.max(*most);
                 }
             }
             Err(_) => widest[0] = digits(piece.start, 10).max(widest[0]),
         }
     }
-    widest
+
+    /// Writes the line of headings. Numbers stand at the right of their columns.
+    pub fn write_headings<W: Write>(&self, out: &mut W) -> io::Result<()> {
+        let [
+            place,
+            name,
+            type_name,
+            size,
+            group,
+            offset,
+            attributes,
+            unread,
+            high,
+        ] = left(&self.0, HEADINGS);
+        writeln!(
+            out,
+            "{place}place  name{name}  type{type_name}  {size}size  {group}group  {offset}offset  {attributes}attrs  {unread}unread  {high}high"
+        )
+    }
+
+    /// Writes the line of an entry: its cells, or why it was refused.
+    pub fn write_line<W: Write>(
+        &self,
+        piece: &Piece<AdsSymbolInfo<'_>>,
+        out: &mut W,
+    ) -> io::Result<()> {
+        match &piece.answer {
+            Ok(symbol) => write_symbol(piece.start, symbol, &self.0, out),
+            Err(why) => write_refused(piece.start, why, &self.0, out),
+        }
+    }
 }
 
 // What a line's cells leave of the columns.
@@ -68,25 +108,6 @@ fn left(widest: &Widths, widths: Widths) -> [Spaces; 9] {
         *spaces = Spaces(widest[column].saturating_sub(widths[column]));
     }
     left
-}
-
-// Numbers stand at the right of their columns.
-fn write_headings<W: Write>(widest: &Widths, out: &mut W) -> io::Result<()> {
-    let [
-        place,
-        name,
-        type_name,
-        size,
-        group,
-        offset,
-        attributes,
-        unread,
-        high,
-    ] = left(widest, HEADINGS);
-    writeln!(
-        out,
-        "{place}place  name{name}  type{type_name}  {size}size  {group}group  {offset}offset  {attributes}attrs  {unread}unread  {high}high"
-    )
 }
 
 fn write_symbol<W: Write>(
@@ -136,29 +157,21 @@ fn write_refused<W: Write>(
     writeln!(out, "{place}{at}  {why}")
 }
 
-fn write_line<W: Write>(
-    piece: &Piece<AdsSymbolInfo<'_>>,
-    widest: &Widths,
-    out: &mut W,
-) -> io::Result<()> {
-    match &piece.answer {
-        Ok(symbol) => write_symbol(piece.start, symbol, widest, out),
-        Err(why) => write_refused(piece.start, why, widest, out),
-    }
-}
-
 /// Writes a table with a line for each entry; how many there are, and how many were refused. Refused entries stand in their place,
 /// so a table that has one is still whole.
 pub fn list<W: Write>(upload: &Upload<'_>, out: &mut W) -> io::Result<Tally>
     ensures { IfOk result (λ tally. tally ≡ tally_of (pieces (symbol_of upload.now.mode) upload.now.bytes)) }
 {
-    let widest = widest(upload);
+    let mut columns = Columns::new();
+    for piece in Symbols::new(upload.bytes, upload.mode) {
+        columns.fit(&piece);
+    }
     writeln!(out, "{upload}")?;
-    write_headings(&widest, out)?;
+    columns.write_headings(out)?;
     let mut tally = Tally::new();
     for piece in Symbols::new(upload.bytes, upload.mode) {
         tally.count(&piece.answer);
-        write_line(&piece, &widest, out)?;
+        columns.write_line(&piece, out)?;
     }
     Ok(tally)
 }

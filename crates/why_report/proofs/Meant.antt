@@ -1,12 +1,12 @@
 -- Sentences word for word: computed.
 use Rattle.std.proofs.Common.{refl}
 use Rattle.std.specs.Fmt.{digits}
-use Rattle.wording.specs.Wording.{grouped, grouped_by, many, bytes, refusal_text}
+use Rattle.wording.specs.Wording.{grouped, grouped_by, many, bytes, figure, refusal_text}
 use Rattle.why_report.specs.Text.{sentence_text, section_text, row_text}
 use Rattle.why_report.specs.Sentences.{SentencesMeant}
 
 pub sentences_meant : SentencesMeant
-unfolding digits sentence_text section_text row_text grouped grouped_by many bytes refusal_text
+unfolding digits sentence_text section_text row_text grouped grouped_by many bytes figure refusal_text
 sentences_meant = record {
   guid_unflagged = refl;
   attributes_unflagged = refl;

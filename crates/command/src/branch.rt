@@ -1,0 +1,66 @@
+//! `branch`: the symbols whose names begin with a text; and `list --sorted`, all in the order of their names.
+
+use crate::failure::Failure;
+use crate::find::{refused, windows_1252};
+use branching::NoOrder;
+use report::{Tally, Upload};
+use std::alloc::Global;
+use std::io::Write;
+use wording::InWords;
+use wording::strings::Shown;
+
+fn unordered(alloc: Global, upload: &Upload<'_>, why: &NoOrder) -> Failure {
+    match why {
+        NoOrder::Refused(why) => refused(alloc, upload, &InWords(why)),
+        NoOrder::Memory => Failure::Memory,
+    }
+}
+
+fn write<W: Write>(
+    upload: &Upload<'_>,
+    starts: &[u32],
+    as_json: bool,
+    out: &mut W,
+) -> Result<Tally, Failure> {
+    if as_json {
+        return Ok(branching::write_lines(upload, starts, out)?);
+    }
+    Ok(branching::write_table(upload, starts, out)?)
+}
+
+/// A table of the symbols whose names begin with a text, or a line of JSON for each, in the order of their names.
+pub fn branch<W: Write>(
+    alloc: Global,
+    upload: &Upload<'_>,
+    text: &str,
+    as_json: bool,
+    out: &mut W,
+) -> Result<(), Failure> {
+    let asked = windows_1252(alloc, text)?;
+    let asked = asked.as_slice();
+    let starts = match branching::branch(alloc, upload, asked) {
+        Ok(starts) => starts,
+        Err(why) => return Err(unordered(alloc, upload, &why)),
+    };
+    if starts.as_slice().is_empty() {
+        let shown = Shown(asked);
+        return Err(Failure::Refused(format!(in alloc;
+            "{upload}: refusal 13, name not found: no symbol's name begins with {shown}"
+        )?));
+    }
+    write(upload, starts.as_slice(), as_json, out)?;
+    Ok(())
+}
+
+/// All entries: the accepted ones in the order of their names, and the refused ones behind them in the upload's.
+pub fn sorted<W: Write>(
+    alloc: Global,
+    upload: &Upload<'_>,
+    as_json: bool,
+    out: &mut W,
+) -> Result<Tally, Failure> {
+    match branching::sorted(alloc, upload) {
+        Ok(starts) => write(upload, starts.as_slice(), as_json, out),
+        Err(why) => Err(unordered(alloc, upload, &why)),
+    }
+}
