@@ -35,8 +35,11 @@ impl From<Refusal> for NoOrder {
 pub fn by_name(alloc: Global, upload: &Upload<'_>) -> Result<Vec<u32>, NoOrder> {
     let room = room::room(upload.bytes.len())?;
     let mut slots = vec![in alloc; 0u32; room]?;
-    let count =
-        name_index::build::<AdsSymbolInfo>(upload.bytes, upload.mode, slots.as_mut_slice())?;
+    let count = name_index::build::<AdsSymbolInfo>(
+        upload.bytes,
+        upload.mode,
+        slots.as_mut_slice(),
+    )?;
     slots.truncate(count);
     Ok(slots)
 }
@@ -61,8 +64,10 @@ pub fn branch(alloc: Global, upload: &Upload<'_>, text: &[u8]) -> Result<Vec<u32
 pub fn sorted(alloc: Global, upload: &Upload<'_>) -> Result<Vec<u32>, NoOrder> {
     let mut starts = by_name(alloc, upload)?;
     for piece in Symbols::new(upload.bytes, upload.mode) {
-        if piece.answer.is_err() {
-            starts.push(piece.start as u32).map_err(AllocError::from)?;
+        if piece.answer.is_err()
+            && let Ok(start) = u32::try_from(piece.start)
+        {
+            starts.push(start).map_err(AllocError::from)?;
         }
     }
     Ok(starts)
@@ -71,9 +76,7 @@ pub fn sorted(alloc: Global, upload: &Upload<'_>) -> Result<Vec<u32>, NoOrder> {
 // What stands from a place on: nothing at the upload's end.
 fn piece_at<'a>(upload: &Upload<'a>, start: u32) -> Option<Piece<AdsSymbolInfo<'a>>> {
     let mut walker = Symbols::new(upload.bytes, upload.mode);
-    walker.cursor = Cursor {
-        at: start as usize,
-    };
+    walker.cursor = Cursor { at: start as usize };
     walker.next()
 }
 

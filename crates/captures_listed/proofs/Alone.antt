@@ -182,6 +182,7 @@ module _ (mode : Mode) (s : List ℕ) (small : length s ≤ 16384) (n : ℕ) whe
       there four (inl nought) b = zero_case at h four (omega arith)
       there four (inr some) (inl more) = beyond_case at h four more
       there four (inr some) (inr room) = entry_case at h four (omega arith) room
+
       few : ((length s - at < 4) ⊎ (4 ≤ length s - at)) → Alone at
       few (inl less) = few_case at h less
       few (inr four) = there four (cases_lt (le4 s at) 1) (cases_lt (length s - at) (le4 s at))

@@ -1,21 +1,24 @@
-//! What a symbol tells, a line a fact.
+//! What a symbol tells, a line a fact, and of a section that it has not, why.
+use crate::reasons::{Because, falls_short};
 use report::json::Guid;
 use std::io;
 use std::io::Write;
 use symbol::AdsSymbolInfo;
 use values::{ExtendedNames, FlagNames, FormerName, NameAndValue, OrNone};
+use why::{Reason, Reasons};
 use wording::Bytes;
 
 pub(crate) fn write<W: Write>(
     at: usize,
     symbol: &AdsSymbolInfo<'_>,
+    reasons: &Reasons,
     out: &mut W,
 ) -> io::Result<()> {
     write_strings(symbol, out)?;
     write_numbers(at, symbol, out)?;
-    write_optional(symbol, out)?;
-    write_attributes(symbol, out)?;
-    write_former_names(symbol, out)?;
+    write_optional(symbol, reasons, out)?;
+    write_attributes(symbol, &reasons.attributes, out)?;
+    write_former_names(symbol, &reasons.refactor_infos, out)?;
     let unread = Bytes(symbol.unread.len());
     writeln!(out, "unread        {unread}")
 }
@@ -45,29 +48,44 @@ fn write_numbers<W: Write>(at: usize, symbol: &AdsSymbolInfo<'_>, out: &mut W) -
     writeln!(out, "high          0x{high:04X}")
 }
 
-fn write_optional<W: Write>(symbol: &AdsSymbolInfo<'_>, out: &mut W) -> io::Result<()> {
+fn write_optional<W: Write>(
+    symbol: &AdsSymbolInfo<'_>,
+    reasons: &Reasons,
+    out: &mut W,
+) -> io::Result<()> {
     match symbol.extended_flags {
         Some(flags) => {
             let flags = ExtendedNames(flags);
             writeln!(out, "extended      {flags}")?;
         }
-        None => writeln!(out, "extended      none")?,
+        None => {
+            let because = Because(&reasons.extended_flags);
+            writeln!(out, "extended      none: {because}")?;
+        }
     }
     match symbol.guid {
         Some(id) => {
             let id = Guid(&id);
             writeln!(out, "GUID          {id}")
         }
-        None => writeln!(out, "GUID          none"),
+        None => {
+            let because = Because(&reasons.guid);
+            writeln!(out, "GUID          none: {because}")
+        }
     }
 }
 
 // Stands before the lines of a list behind its first.
 const BELOW: &str = "              ";
 
-fn write_attributes<W: Write>(symbol: &AdsSymbolInfo<'_>, out: &mut W) -> io::Result<()> {
+fn write_attributes<W: Write>(
+    symbol: &AdsSymbolInfo<'_>,
+    reason: &Reason,
+    out: &mut W,
+) -> io::Result<()> {
+    let because = Because(reason);
     if symbol.attributes.count == 0 {
-        return writeln!(out, "attributes    none");
+        return writeln!(out, "attributes    none: {because}");
     }
     let mut is_first = true;
     for one in symbol.attributes {
@@ -76,12 +94,20 @@ fn write_attributes<W: Write>(symbol: &AdsSymbolInfo<'_>, out: &mut W) -> io::Re
         writeln!(out, "{heading}{one}")?;
         is_first = false;
     }
+    if falls_short(reason) {
+        writeln!(out, "{BELOW}no more: {because}")?;
+    }
     Ok(())
 }
 
-fn write_former_names<W: Write>(symbol: &AdsSymbolInfo<'_>, out: &mut W) -> io::Result<()> {
+fn write_former_names<W: Write>(
+    symbol: &AdsSymbolInfo<'_>,
+    reason: &Reason,
+    out: &mut W,
+) -> io::Result<()> {
     if symbol.refactor_infos.count == 0 {
-        return writeln!(out, "former names  none");
+        let because = Because(reason);
+        return writeln!(out, "former names  none: {because}");
     }
     let mut is_first = true;
     for one in symbol.refactor_infos {

@@ -2,12 +2,13 @@
 #![tactic(auto)]
 
 mod facts;
+mod reasons;
 mod rows;
 
 use sections::sections;
 use std::alloc::Global;
 use std::io;
-use std::io::Write;
+use std::io::{ErrorKind, Write};
 use symbol::AdsSymbolInfo;
 
 /// A symbol that was found.
@@ -21,14 +22,21 @@ pub struct Found<'a> {
     pub symbol: AdsSymbolInfo<'a>,
 }
 
-/// Writes what a symbol tells, and the picture of its bytes.
+/// Writes what a symbol tells, of each section that is not there or not whole why, and the picture of its bytes.
+///
+/// # Errors
+///
+/// Those of the output, that there is no memory, and `InvalidData` where the own bytes are no symbol's entry.
 pub fn show<W: Write>(
     alloc: Global,
     found: &Found<'_>,
     coloured: bool,
     out: &mut W,
 ) -> io::Result<()> {
-    facts::write(found.at, &found.symbol, out)?;
+    let Ok(reasons) = why::explain(found.own) else {
+        return Err(io::Error::from(ErrorKind::InvalidData));
+    };
+    facts::write(found.at, &found.symbol, &reasons, out)?;
     writeln!(out, "")?;
     let sections = sections(alloc, found.own, &found.symbol)?;
     rows::draw(found.own, sections.as_slice(), coloured, out)

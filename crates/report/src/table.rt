@@ -157,15 +157,21 @@ fn write_refused<W: Write>(
     writeln!(out, "{place}{at}  {why}")
 }
 
+// As wide as the entries of an upload need them.
+fn columns_of(upload: &Upload<'_>) -> Columns {
+    let mut columns = Columns::new();
+    for piece in Symbols::new(upload.bytes, upload.mode) {
+        columns.fit(&piece);
+    }
+    columns
+}
+
 /// Writes a table with a line for each entry; how many there are, and how many were refused. Refused entries stand in their place,
 /// so a table that has one is still whole.
 pub fn list<W: Write>(upload: &Upload<'_>, out: &mut W) -> io::Result<Tally>
     ensures { IfOk result (λ tally. tally ≡ tally_of (pieces (symbol_of upload.now.mode) upload.now.bytes)) }
 {
-    let mut columns = Columns::new();
-    for piece in Symbols::new(upload.bytes, upload.mode) {
-        columns.fit(&piece);
-    }
+    let columns = columns_of(upload);
     writeln!(out, "{upload}")?;
     columns.write_headings(out)?;
     let mut tally = Tally::new();

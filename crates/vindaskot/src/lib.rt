@@ -4,8 +4,8 @@
 mod lines;
 mod modes;
 mod names;
-mod reasons;
 mod plain_form;
+mod reasons;
 mod types;
 
 ghost use Rattle.std.specs.Prelude.{◌≡◌, Ok};

@@ -79,11 +79,13 @@ impl fmt::Display for Counted {
     }
 }
 
-// Attributes of which some are owed.
+/// Attributes of which some are owed, as a part of a sentence.
 #[derive(Clone, Copy)]
-struct Missing {
-    announced: usize,
-    owed: usize,
+pub struct Missing {
+    /// How many the count announces.
+    pub announced: usize,
+    /// Before how many of them the entry ends.
+    pub owed: usize,
 }
 
 impl fmt::Display for Missing {

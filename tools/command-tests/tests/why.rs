@@ -2,7 +2,7 @@
 
 mod common;
 
-use common::{Session, grown, repository, symbol};
+use common::{Session, fed, grown, program, repository, symbol};
 
 /// A symbol of these flags, with these bytes where its sections begin.
 fn tailed(name: &[u8], flags: u16, tail: &[u8]) -> Vec<u8> {
@@ -61,6 +61,81 @@ fn each_reason() {
         session.run_on(&["why", "-", std::str::from_utf8(name).unwrap()], &upload);
     }
     session.hold("why-each.txt");
+}
+
+/// `show` says why behind `none`, and below attributes of which a later one is refused or some are owed.
+#[test]
+fn as_it_is_shown() {
+    const ATTRIBUTES: u16 = 0x1000;
+    const EXTENDED: u16 = 0x8000;
+    const UNFLAGGED: &str = "none: not flagged";
+    const NO_FLAGS: &str = "none: there are no extended flags";
+    const CHAIN: &str = "0x00000004, REFACTOR_INFO";
+    // The bytes from place 44 on, and what is told of them.
+    let attributes: [(&[u8], &str); 6] = [
+        (b"\x05", "none: flagged, but 1 byte is left at place 44"),
+        (b"\0\0", "none: their count is 0"),
+        (
+            b"\x05\0",
+            "none: record 0 is refused at place 46, refusal 2, too short: 4 bytes needed, 0 there",
+        ),
+        (
+            b"\x05\0\x01\x01u\0v\0\xFF\xFFlonger",
+            "u = v\n              no more: record 1 is refused at place 52, refusal 1, unexpected length: 514 bytes needed, 8 there",
+        ),
+        (
+            b"\xE8\x03\x01\x01u\0v\0",
+            "u = v\n              no more: 1000 announced, and the entry ends before 999 of them",
+        ),
+        (b"\x01\0\x01\x01u\0v\0", "u = v"),
+    ];
+    for (tail, told) in attributes {
+        shown(ATTRIBUTES, tail, [UNFLAGGED, UNFLAGGED, told, NO_FLAGS]);
+    }
+    let chains: [(&[u8], &str, &str); 4] = [
+        (
+            b"\x04\0\0",
+            "none: flagged, but 3 bytes are left at place 44",
+            NO_FLAGS,
+        ),
+        (b"\0\0\0\0", "0x00000000, none", UNFLAGGED),
+        (
+            b"\x04\0\0\0",
+            CHAIN,
+            "none: flagged, but 0 bytes are left at place 48",
+        ),
+        (
+            b"\x04\0\0\0\0\0\0\x01\0\0\0\0\0\0\0\x02\0n\0",
+            CHAIN,
+            "none: record 1 is refused at place 55, refusal 2, too short: 9 bytes needed, 8 there",
+        ),
+    ];
+    for (tail, flags, told) in chains {
+        shown(EXTENDED, tail, [flags, UNFLAGGED, UNFLAGGED, told]);
+    }
+    let short = "none: flagged, but 15 bytes are left at place 44";
+    shown(
+        8,
+        b"fifteen bytes..",
+        [UNFLAGGED, short, UNFLAGGED, NO_FLAGS],
+    );
+}
+
+/// Holds what `show` tells of extended flags, GUID, attributes and former names, in both modes. Sections begin at place 44.
+fn shown(flags: u16, tail: &[u8], told: [&str; 4]) {
+    let [extended, guid, attributes, former_names] = told;
+    let facts = format!(
+        "\nextended      {extended}\nGUID          {guid}\nattributes    {attributes}\nformer names  {former_names}\nunread  "
+    );
+    let entry = tailed(b"MAIN.a", flags, tail);
+    for mode in [
+        &["show", "-", "MAIN.a"][..],
+        &["show", "--checked", "-", "MAIN.a"],
+    ] {
+        let output = fed(program(&repository(), mode), &entry);
+        let text = String::from_utf8(output.stdout).expect("it prints UTF-8");
+        assert!(text.contains(&facts), "not there:{facts}\nbut:\n{text}");
+    }
 }
 
 /// Unread bytes are no section; what is refused, or not there, is not explained.
