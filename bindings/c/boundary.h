@@ -14,6 +14,8 @@
  *   boundary_salvage.c what is kept of a damaged upload, and what is dropped
  *   boundary_room.c    slots that are set aside by an upload's length
  *   boundary_names.c   name indexes, finding by halving, branches
+ *   boundary_lines.c   captures: uploads as lines, and back
+ *   boundary_plain.c   plain form
  *   boundary_text.c    text that is counted before it is written
  *   boundary_types.c   whole data types
  *   boundary_trees.c   data types at random, sound and damaged
@@ -113,6 +115,13 @@ enum group {
     BRANCHES_HALVED,
     BRANCHES_SHORT_OF,
     BRANCHES_ELSEWHERE,
+    LINES_SPLIT,
+    LINES_JOINED,
+    LINES_BAD,
+    LINES_SHORT_OF,
+    PLAIN,
+    PLAIN_DEPARTS,
+    PLAIN_REFUSED,
     TEXTS,
     COUNTED,
     TYPES_READ,
@@ -267,6 +276,9 @@ enum function {
     TYPE_FIND_ORDERED_IN,
     TYPE_BRANCH_IN,
     TYPE_BRANCH_ORDERED_IN,
+    PLAIN_FORM,
+    SPLIT_LINES,
+    JOIN_LINES,
     FUNCTIONS
 };
 
@@ -354,6 +366,9 @@ struct told call_type_name_index_build(struct bytes bytes, struct room slots);
 struct told call_type_find_ordered(struct bytes bytes, struct bytes slots, struct bytes name);
 struct told call_type_branch(struct bytes bytes, struct bytes slots, struct bytes text, struct room out);
 struct told call_type_branch_ordered(struct bytes bytes, struct bytes slots, struct bytes text, struct room out);
+struct told call_plain(struct bytes bytes);
+struct told call_split_lines(struct bytes bytes, struct room text);
+struct told call_join_lines(struct bytes text, struct room out);
 struct told call_decode(struct bytes src, struct room out);
 struct told call_encode(struct bytes src, struct room out);
 
@@ -515,6 +530,7 @@ void make_wrong(struct buffer *to);
 void make_damaged(struct buffer *to);
 void make_narrow(struct buffer *to);
 void make_text(struct buffer *to);
+void make_plain(struct buffer *to);
 void make_types(struct buffer *to);
 void damage(struct buffer *to, size_t header);
 
@@ -540,6 +556,11 @@ void try_room_limit(size_t len);
 void try_symbol_names(struct bytes bytes);
 void try_type_names(struct bytes bytes);
 void try_name_limit(size_t len);
+void try_lines(struct bytes bytes);
+void try_line_limit(size_t len);
+void try_plain(struct bytes bytes);
+void try_plain_changed(struct bytes bytes);
+void try_plain_limit(size_t len);
 void try_types(void);
 void try_type(struct bytes bytes);
 void try_type_walk(struct bytes bytes);

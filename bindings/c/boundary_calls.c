@@ -112,6 +112,10 @@ static const struct {
     [TYPE_FIND_ORDERED_IN] = {"vindaskot_type_find_ordered_in", 0, false, false, false, DONE | NUMBER(5) | NUMBER(13)},
     [TYPE_BRANCH_IN] = {"vindaskot_type_branch_in", 0, false, false, false, DONE | NUMBER(5) | NUMBER(6)},
     [TYPE_BRANCH_ORDERED_IN] = {"vindaskot_type_branch_ordered_in", 0, false, false, false, DONE | NUMBER(5) | NUMBER(6)},
+    [PLAIN_FORM] = {"vindaskot_plain", 0, false, false, false,
+                    DONE | NUMBER(5) | NUMBER(2) | NUMBER(3) | NUMBER(10) | NUMBER(19)},
+    [SPLIT_LINES] = {"vindaskot_split_lines", 0, false, false, false, DONE | NUMBER(5) | NUMBER(6)},
+    [JOIN_LINES] = {"vindaskot_join_lines", 0, false, false, false, DONE | NUMBER(12) | NUMBER(5) | NUMBER(6)},
 };
 
 /* The one function that tells a path. */
@@ -624,6 +628,24 @@ struct told call_type_branch_ordered(struct bytes b, struct bytes slots, struct 
     uint32_t status = vindaskot_type_branch_ordered_in(b.at, b.len, mode == CHECKED, starts(slots), slots.len / 4, t.at,
                                                   t.len, at, out.len / 4, f->answer);
     return finish_out(TYPE_BRANCH_ORDERED_IN, status, out, 4);
+}
+
+struct told call_plain(struct bytes b)
+{
+    struct frame *f = begin(PLAIN_FORM, 0);
+    return finish(PLAIN_FORM, vindaskot_plain(b.at, b.len, f->answer));
+}
+
+struct told call_split_lines(struct bytes b, struct room text)
+{
+    struct frame *f = begin_out(SPLIT_LINES, text);
+    return finish_out(SPLIT_LINES, vindaskot_split_lines(b.at, b.len, text.at, text.len, f->answer), text, 1);
+}
+
+struct told call_join_lines(struct bytes text, struct room out)
+{
+    struct frame *f = begin_out(JOIN_LINES, out);
+    return finish_out(JOIN_LINES, vindaskot_join_lines(text.at, text.len, out.at, out.len, f->answer), out, 1);
 }
 
 struct told call_decode(struct bytes src, struct room out)

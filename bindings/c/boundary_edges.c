@@ -968,6 +968,8 @@ void try_limits(void)
                 try_name_limit(len);
             }
             mode = PRESENT;
+            try_line_limit(len);
+            try_plain_limit(len);
             limit_texts(len);
             limit_writes(len);
         }

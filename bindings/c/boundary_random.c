@@ -842,6 +842,8 @@ static void try_damaged(struct bytes b)
     try_salvage(b);
     try_room(b);
     try_symbol_names(b);
+    try_lines(b);
+    try_plain(b);
 }
 
 /* Data types have no call that takes no mode. */
@@ -878,6 +880,7 @@ static void try_case(uint64_t number)
     try_made(make_damaged, try_damaged);
     try_made(make_narrow, try_room);
     try_made(make_types, try_tree);
+    try_made(make_plain, try_plain_changed);
 }
 
 void try_random(uint64_t from, uint64_t cases, uint64_t seed_number)
