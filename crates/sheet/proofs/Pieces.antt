@@ -1,12 +1,13 @@
 -- The pieces of an upload, one after another.
-use Rattle.std.proofs.Common.{ℕ, zero, suc, ◌+◌, ◌-◌, ◌<◌, ◌≤◌, ◌≡◌, refl, sym, ap, ◌∙◌, Bool, true, false, List, [], ◌∷◌, ◌++◌, length, take, drop, length-append, length-drop, arith, Result, Ok, Err}
+use Rattle.std.proofs.Common.{ℕ, zero, suc, ◌+◌, ◌-◌, ◌<◌, ◌≤◌, ◌≡◌, refl, sym, ap, ap₂, ◌∙◌, Bool, true, false, List, [], ◌∷◌, ◌++◌, length, take, drop, length-append, length-drop, arith, Result, Ok, Err}
 use Rattle.std.specs.Prelude.{leb, All, Option, Some, None, if◌then◌else◌}
 use Rattle.std.specs.List.{flat_map}
 use Rattle.std.specs.Borrow.{Bor}
 use Rattle.std.proofs.lemmas.List.{length-take-le}
 use Rattle.std.proofs.lemmas.List.Elements.{All-nil, All-cons}
 use borrow.Author.Tests.{leb-false}
-use Rattle.le.specs.Le.{part}
+use Rattle.le.specs.Le.{le4, part}
+use Rattle.le.proofs.Laws.{length_part}
 use Rattle.part.specs.Slice as slice
 use Rattle.part.specs.Outcome.{and_then}
 use Rattle.refusal.specs.declared.Mode.TheVariants.{Present}
@@ -18,14 +19,14 @@ use Rattle.entry.specs.Walk.{stands}
 use Rattle.entry.specs.Claims as claims
 use Rattle.entry.proofs.Claims as met
 use Rattle.walk.specs.declared.Piece.{Piece}
-use Rattle.walk.specs.Pieces.{claim_there, piece_at, pieces_from}
+use Rattle.walk.specs.Pieces.{claim_there, piece_at, pieces_from, pieces}
 use Rattle.walk.proofs.Forward.{Forward, forward_at}
 use Rattle.symbol.specs.declared.AdsSymbolInfo.{AdsSymbolInfo}
 use Rattle.symbol.specs.Symbol.{symbol_of}
 use Rattle.symbol.specs.Laws.{IsWhole}
 use Rattle.symbol.proofs.Laws.{symbols_whole}
-use Rattle.sheet.specs.Cells.{Row, row_text}
-use Rattle.sheet.specs.Export.{row_of, admitted, piece_row, rows_from, accepted_text, pieces_text}
+use Rattle.sheet.specs.Cells.{Row, row_text, header, sheet_text}
+use Rattle.sheet.specs.Export.{row_of, rows_of, admitted, piece_row, rows_from, accepted_text, pieces_text}
 
 -- the strings of a symbol, with its header and end bytes
 abbrev pub strings_size : AdsSymbolInfo → ℕ
@@ -38,13 +39,14 @@ pub record Lies (s : List ℕ) (p : Piece AdsSymbolInfo) : Type 0 where
 
 module _ (s : Bor (List ℕ)) where
   strings_by : (at : ℕ) (c : Claimed) → claims.Claims s.now at c → (r : AdsSymbolInfo) → and_then (claim_there c.size) (λ size. symbol_of Present (slice.part s at size)) ≡ Ok r → strings_size r ≤ c.next - at
+  unfolding part
   strings_by at c (claims.ended a) r e = cc
   strings_by at c (claims.large a b) r e = cc
   strings_by at c (claims.short a b d) r e = cc
   strings_by at c (claims.beyond a b d g) r e = cc
   strings_by at c (claims.entry a b d g) r e =
-      let w = symbols_whole Present (slice.part s at _) r e in
-      omega (arith, w.within.strings, length-take-le c.next (drop at s.now))
+      let w = symbols_whole Present (slice.part s at (le4 s.now at)) r e in
+      omega (arith, w.within.strings, length_part s.now at (le4 s.now at) (omega arith))
 
   zero_by : (p : Piece AdsSymbolInfo) → p.answer ≡ Err ZeroEntryLength → (r : AdsSymbolInfo) → p.answer ≡ Ok r → strings_size r ≤ p.end - p.start
   zero_by p z r e = cc
@@ -52,7 +54,7 @@ module _ (s : Bor (List ℕ)) where
   lies_by : (at : ℕ) → at < length s.now → (b : Bool) → stands s.now at ≡ b → (r : AdsSymbolInfo) → (piece_at (symbol_of Present) s at).answer ≡ Ok r → strings_size r ≤ (piece_at (symbol_of Present) s at).end - (piece_at (symbol_of Present) s at).start
   unfolding piece_at
   lies_by at h true f r e = zero_by (piece_at (symbol_of Present) s at) (simp f) r e
-  lies_by at h false f r e = ?
+  lies_by at h false f r e = simp f (strings_by at (claim_at s.now at) (met.claims s.now at) r (simp f at e))
 
   pub all_lie : (n at : ℕ) → All (Lies s.now) (pieces_from (symbol_of Present) s at n)
   unfolding pieces_from
@@ -90,7 +92,7 @@ module _ (s : List ℕ) (k n : ℕ) {left rest : List (Piece AdsSymbolInfo)} {p 
 
 pub rows_none : (s : List ℕ) (k n : ℕ) {left : List (Piece AdsSymbolInfo)} → left ≡ [] → sized n (rows_from s k left) ≡ Ok n
 unfolding rows_from
-rows_none s k n e = simp e
+rows_none s k n e = simp e (ap Ok (omega arith))
 
 -- the text of those that are accepted
 pub text_then : {left rest : List (Piece AdsSymbolInfo)} {p : Piece AdsSymbolInfo} → left ≡ p ∷ rest → pieces_text left ≡ accepted_text p.answer ++ pieces_text rest
@@ -102,5 +104,40 @@ unfolding pieces_text
 no_text turn = simp turn
 
 -- it is that of the rows where no entry is refused
+unit_by : (r : AdsSymbolInfo) (u : Result Unit Refusal) (row : Row) → and_then u (λ _. Ok (row_of r)) ≡ Ok row → row_of r ≡ row
+unit_by r (Ok u) row e = cc
+unit_by r (Err why) row e = cc
+
+row_is : (w : Result AdsSymbolInfo Refusal) (t : AdsSymbolInfo → Result Unit Refusal) (row : Row) → and_then w (λ r. and_then (t r) (λ _. Ok (row_of r))) ≡ Ok row → row_text row ≡ accepted_text w
+row_is (Ok r) t row e = ap row_text (sym (unit_by r (t r) row e))
+row_is (Err why) t row e = cc
+
+pub joined_by : (w : Result Row Refusal) (m : Result (List Row) Refusal) (rows : List Row) → and_then w (λ row. and_then m (λ more. Ok (row ∷ more))) ≡ Ok rows
+    → (row : Row) × (more : List Row) × (w ≡ Ok row) × (m ≡ Ok more) × (row ∷ more ≡ rows)
+joined_by (Ok row) (Ok more) rows e = (row, more, refl, refl, cc)
+joined_by (Ok row) (Err why) rows e = cc
+joined_by (Err why) m rows e = cc
+
+no_rows : (rows : List Row) → ◌≡◌ {A = Result (List Row) Refusal} (Ok []) (Ok rows) → [] ≡ rows
+no_rows rows e = cc
+
 pub rows_text : (s : List ℕ) (k : ℕ) (ps : List (Piece AdsSymbolInfo)) (rows : List Row) → rows_from s k ps ≡ Ok rows → flat_map row_text rows ≡ pieces_text ps
-rows_text s k ps rows e = ?
+unfolding rows_from pieces_text piece_row
+rows_text s k [] rows e = ap (flat_map row_text) (sym (no_rows rows e))
+rows_text s k (p ∷ ps) rows e =
+    let j = joined_by (piece_row s k p) (rows_from s (k + 1) ps) rows e in
+    ap (flat_map row_text) (sym j.4)
+    ∙ ap₂ (λ (x y : List ℕ). x ++ y) (row_is p.answer (admitted k (part s p.start (p.end - p.start))) j.0 j.2) (rows_text s (k + 1) ps j.1 j.3)
+
+-- the sheet of rows is the header and theirs
+pub sheet_long : (rows : List Row) → length (sheet_text rows) ≡ 56 + length (flat_map row_text rows)
+unfolding sheet_text
+sheet_long rows = length-append header (flat_map row_text rows)
+
+sized_by : (w : Result (List Row) Refusal) → sized 56 w ≡ and_then w (λ rows. Ok (length (sheet_text rows)))
+sized_by (Ok rows) = ap Ok (sym (sheet_long rows))
+sized_by (Err why) = refl
+
+pub sized_all : (s : Bor (List ℕ)) → sized 56 (rows_from s.now 0 (pieces (symbol_of Present) s)) ≡ and_then (rows_of s) (λ rows. Ok (length (sheet_text rows)))
+unfolding rows_of
+sized_all s = sized_by (rows_of s)

@@ -8,6 +8,7 @@ ghost use Rattle.refusal.specs.Refusal.{limit};
 ghost use Rattle.sheet.specs.Cells.{is_special, escaped, escaped_all, cell, number, numbers_text, strings_text, row_text};
 ghost use Rattle.sheet.specs.Export.{HasShortStrings, row_of};
 
+use layout::size_if;
 use symbol::AdsSymbolInfo;
 
 // How many digits a number has.
@@ -82,7 +83,7 @@ fn cell_size(bytes: &[u8]) -> usize
     ensures value { result ≡ length (cell bytes.now) }
     ensures small { result ≤ 3 * limit + 2 }
 {
-    let mut size = if needs_quotes(bytes) { 2 } else { 0 };
+    let mut size = size_if(needs_quotes(bytes), 2);
     for byte in bytes {
         size += escaped_size(*byte);
     }

@@ -77,7 +77,7 @@ fn sheet_size(upload: &[u8]) -> Result<usize, Refusal>
 
 // The buffer is known to have room.
 fn put_sheet(upload: &[u8], out: &mut [u8])
-    requires { length (header ++ pieces_text (pieces (symbol_of Present) upload.entry)) ≤ length out.old }
+    requires { length (header ++ pieces_text (pieces (symbol_of Present) upload)) ≤ length out.old }
     ensures { out.new ≡ put out.old 0 (header ++ pieces_text (pieces (symbol_of Present) upload.entry)) }
 {
     let mut at = le::put_bytes(out, 0, HEADER);
