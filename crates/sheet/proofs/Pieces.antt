@@ -1,18 +1,19 @@
 -- The pieces of an upload, one after another.
-use Rattle.std.proofs.Common.{ℕ, zero, suc, ◌+◌, ◌-◌, ◌<◌, ◌≤◌, ◌≡◌, refl, sym, ap, ap₂, ◌∙◌, Bool, true, false, List, [], ◌∷◌, ◌++◌, length, take, drop, length-append, length-drop, arith, Result, Ok, Err}
+use Rattle.std.proofs.Common.{ℕ, zero, suc, ◌+◌, ◌-◌, ◌<◌, ◌≤◌, ◌≡◌, refl, sym, ap, ap₂, subst, ◌∙◌, Bool, true, false, List, [], ◌∷◌, ◌++◌, length, take, drop, length-append, length-drop, arith, Result, Ok, Err}
 use Rattle.std.specs.Prelude.{leb, All, Option, Some, None, if◌then◌else◌}
 use Rattle.std.specs.List.{flat_map}
 use Rattle.std.specs.Borrow.{Bor}
 use Rattle.std.proofs.lemmas.List.{length-take-le}
-use Rattle.std.proofs.lemmas.List.Elements.{All-nil, All-cons}
-use borrow.Author.Tests.{leb-false}
+use Rattle.std.proofs.lemmas.List.Elements.{All-nil, All-cons, All-head}
+use borrow.Author.Tests.{leb-false, lt-ltb, le-ltb}
 use Rattle.le.specs.Le.{le4, part}
 use Rattle.le.proofs.Laws.{length_part}
 use Rattle.part.specs.Slice as slice
 use Rattle.part.specs.Outcome.{and_then}
+use Rattle.refusal.specs.Refusal.{limit}
 use Rattle.refusal.specs.declared.Mode.TheVariants.{Present}
 use Rattle.refusal.specs.declared.Refusal.{Refusal}
-use Rattle.refusal.specs.declared.Refusal.TheVariants.{ZeroEntryLength}
+use Rattle.refusal.specs.declared.Refusal.TheVariants.{TooLarge, ZeroEntryLength}
 use Rattle.entry.specs.declared.Claimed.{Claimed}
 use Rattle.entry.specs.Entry.{claim_at}
 use Rattle.entry.specs.Walk.{stands}
@@ -26,7 +27,7 @@ use Rattle.symbol.specs.Symbol.{symbol_of}
 use Rattle.symbol.specs.Laws.{IsWhole}
 use Rattle.symbol.proofs.Laws.{symbols_whole}
 use Rattle.sheet.specs.Cells.{Row, row_text, header, sheet_text}
-use Rattle.sheet.specs.Export.{row_of, rows_of, admitted, piece_row, rows_from, accepted_text, pieces_text}
+use Rattle.sheet.specs.Export.{row_of, rows_of, admitted, piece_row, rows_from, accepted_text, pieces_text, exporting}
 
 -- the strings of a symbol, with its header and end bytes
 abbrev pub strings_size : AdsSymbolInfo → ℕ
@@ -68,6 +69,9 @@ module _ (s : Bor (List ℕ)) where
           let l = leb-false (length s.now) at e in
           All-cons (Lies s.now) _ _ (record { forward = forward_at (symbol_of Present) s at l; strings = lies_by at l (stands s.now at) refl }) h
 
+pub first_lies : {s : List ℕ} {left rest : List (Piece AdsSymbolInfo)} {p : Piece AdsSymbolInfo} → left ≡ p ∷ rest → All (Lies s) left → Lies s p
+first_lies {s} {left} {rest} {p} turn h = All-head (Lies s) p rest (subst (All (Lies s)) turn h)
+
 -- how many bytes there are behind so many, of rows or their refusal
 abbrev pub sized : ℕ → Result (List Row) Refusal → Result ℕ Refusal
 sized n w = and_then w (λ rows. Ok (n + length (flat_map row_text rows)))
@@ -98,6 +102,12 @@ rows_none s k n e = simp e (ap Ok (omega arith))
 pub text_then : {left rest : List (Piece AdsSymbolInfo)} {p : Piece AdsSymbolInfo} → left ≡ p ∷ rest → pieces_text left ≡ accepted_text p.answer ++ pieces_text rest
 unfolding pieces_text
 text_then turn = simp turn
+
+pub row_then : {left rest : List (Piece AdsSymbolInfo)} {p : Piece AdsSymbolInfo} → left ≡ p ∷ rest → (r : AdsSymbolInfo) → p.answer ≡ Ok r → pieces_text left ≡ row_text (row_of r) ++ pieces_text rest
+row_then {rest = rest} turn r e = text_then turn ∙ ap (λ (a : Result AdsSymbolInfo Refusal). accepted_text a ++ pieces_text rest) e
+
+pub none_then : {left rest : List (Piece AdsSymbolInfo)} {p : Piece AdsSymbolInfo} → left ≡ p ∷ rest → (why : Refusal) → p.answer ≡ Err why → pieces_text left ≡ pieces_text rest
+none_then {rest = rest} turn why e = text_then turn ∙ ap (λ (a : Result AdsSymbolInfo Refusal). accepted_text a ++ pieces_text rest) e
 
 pub no_text : {left : List (Piece AdsSymbolInfo)} → left ≡ [] → pieces_text left ≡ []
 unfolding pieces_text
@@ -131,7 +141,7 @@ rows_text s k (p ∷ ps) rows e =
 
 -- the sheet of rows is the header and theirs
 pub sheet_long : (rows : List Row) → length (sheet_text rows) ≡ 56 + length (flat_map row_text rows)
-unfolding sheet_text
+unfolding sheet_text header
 sheet_long rows = length-append header (flat_map row_text rows)
 
 sized_by : (w : Result (List Row) Refusal) → sized 56 w ≡ and_then w (λ rows. Ok (length (sheet_text rows)))
@@ -141,3 +151,34 @@ sized_by (Err why) = refl
 pub sized_all : (s : Bor (List ℕ)) → sized 56 (rows_from s.now 0 (pieces (symbol_of Present) s)) ≡ and_then (rows_of s) (λ rows. Ok (length (sheet_text rows)))
 unfolding rows_of
 sized_all s = sized_by (rows_of s)
+
+-- what exporting writes
+pub export_large : (s : Bor (List ℕ)) → limit < length s.now → exporting s ≡ Err (TooLarge (length s.now))
+unfolding exporting
+export_large s h = simp (lt-ltb limit (length s.now) h)
+
+export_is : (s : Bor (List ℕ)) → length s.now ≤ limit → exporting s ≡ and_then (rows_of s) (λ rows. Ok (sheet_text rows))
+unfolding exporting
+export_is s h = simp (le-ltb limit (length s.now) h)
+
+refused_by : (w : Result (List Row) Refusal) (why : Refusal) → and_then w (λ rows. Ok (length (sheet_text rows))) ≡ Err why → and_then w (λ rows. Ok (sheet_text rows)) ≡ Err why
+refused_by (Ok rows) why e = cc
+refused_by (Err w) why e = cc
+
+pub export_refused : (s : Bor (List ℕ)) (why : Refusal) → length s.now ≤ limit → and_then (rows_of s) (λ rows. Ok (length (sheet_text rows))) ≡ Err why → exporting s ≡ Err why
+export_refused s why h e = export_is s h ∙ refused_by (rows_of s) why e
+
+pub record Exported (s : Bor (List ℕ)) (n : ℕ) : Type 0 where
+  pub written : exporting s ≡ Ok (header ++ pieces_text (pieces (symbol_of Present) s))
+  pub long : length (header ++ pieces_text (pieces (symbol_of Present) s)) ≡ n
+
+exported_by : (s : Bor (List ℕ)) (n : ℕ) (w : Result (List Row) Refusal) → rows_of s ≡ w → exporting s ≡ and_then w (λ rows. Ok (sheet_text rows)) → and_then w (λ rows. Ok (length (sheet_text rows))) ≡ Ok n → Exported s n
+unfolding rows_of sheet_text
+exported_by s n (Ok rows) e f g =
+    let t = ap (λ (x : List ℕ). header ++ x) (rows_text s.now 0 (pieces (symbol_of Present) s) rows e) in
+    let l : length (sheet_text rows) ≡ n = cc in
+    record { written = f ∙ ap Ok t; long = ap length (sym t) ∙ l }
+exported_by s n (Err why) e f g = cc
+
+pub exported : (s : Bor (List ℕ)) (n : ℕ) → length s.now ≤ limit → and_then (rows_of s) (λ rows. Ok (length (sheet_text rows))) ≡ Ok n → Exported s n
+exported s n h e = exported_by s n (rows_of s) refl (export_is s h) e

@@ -47,7 +47,7 @@ strings_text r = cell r.name ++ ((44 ∷ []) ++ (cell r.type_name ++ ((44 ∷ []
 unfoldable pub row_text : Row → List ℕ
 row_text r = numbers_text r ++ strings_text r
 
-abbrev pub header : List ℕ
+unfoldable pub header : List ℕ
 header = codes "group,offset,size,type id,flags,high,name,type,comment\r\n"
 
 unfoldable pub sheet_text : List Row → List ℕ

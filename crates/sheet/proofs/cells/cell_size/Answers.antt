@@ -9,7 +9,7 @@ use Rattle.sheet.proofs.cells.cell_size.Goals as goal
 pub loop-byte-init : goal.loop-byte-init
 unfolding escaped_all
 loop-byte-init c = record {
-  counted = omega (arith, c.size_if-size.ensures.value, ap (λ b. if b then 2 else 0) c.needs_quotes.ensures);
+  counted = omega (arith, c.size_if-size.ensures.value, ap {B = ℕ} (λ b. if b then 2 else 0) c.needs_quotes.ensures);
   small = omega (arith, c.size_if-size.ensures.small);
 }
 

@@ -1,12 +1,12 @@
 use Rattle.std.proofs.Common.{ℕ, ◌≡◌, ◌+◌, ◌-◌, ◌≤◌, ◌∙◌, refl, sym, ap, length, List, Err, rules, arith}
-use Rattle.std.proofs.lemmas.List.Elements.{All-rest, All-head}
+use Rattle.std.proofs.lemmas.List.Elements.{All-rest}
 use Rattle.le.specs.Le.{part}
 use Rattle.le.proofs.Laws.{length_part}
 use Rattle.refusal.specs.declared.Mode.TheVariants.{Present}
 use Rattle.symbol.specs.Symbol.{symbol_of}
 use Rattle.walk.specs.Pieces.{pieces, walker_left}
 use Rattle.sheet.specs.Export.{rows_of, rows_from}
-use Rattle.sheet.proofs.Pieces.{Lies, all_lie, sized, rows_on, rows_stop, rows_barred, rows_none, sized_all}
+use Rattle.sheet.proofs.Pieces.{Lies, first_lies, all_lie, sized, rows_on, rows_stop, rows_barred, rows_none, sized_all}
 use Rattle.sheet.proofs.exporter.sheet_size.Goals as goal
 
 pub loop-piece-init : goal.loop-piece-init
@@ -32,13 +32,13 @@ returns-in_err-symbol c =
 pub check_symbol-requires : goal.check_symbol-requires
 unfolding part
 check_symbol-requires c =
-    let lies = All-head (Lies c.args.upload.now) _ _ _ c.in-Some.ensures.steps.0 c.loop-piece.invariant.lie in
+    let lies = first_lies c.in-Some.ensures.steps.0 c.loop-piece.invariant.lie in
     let l = length_part c.args.upload.now c.in-Some.piece.start (c.in-Some.piece.end - c.in-Some.piece.start) (omega (arith, lies.forward.0, lies.forward.1)) in
     omega (arith, lies.strings c.in_ok-symbol.symbol c.in_ok-symbol.was, l)
 
 pub row_size-size-requires : goal.row_size-size-requires
 row_size-size-requires c =
-    let lies = All-head (Lies c.args.upload.now) _ _ _ c.in-Some.ensures.steps.0 c.loop-piece.invariant.lie in
+    let lies = first_lies c.in-Some.ensures.steps.0 c.loop-piece.invariant.lie in
     let strings = lies.strings c.in_ok-symbol.symbol c.in_ok-symbol.was in
     record { name = omega (arith, strings, lies.forward.1, c.requires); type_name = omega (arith, strings, lies.forward.1, c.requires); comment = omega (arith, strings, lies.forward.1, c.requires) }
 
