@@ -14,6 +14,7 @@
  *   boundary_salvage.c what is kept of a damaged upload, and what is dropped
  *   boundary_room.c    slots that are set aside by an upload's length
  *   boundary_names.c   name indexes, finding by halving, branches
+ *   boundary_sheets.c  sheets of uploads
  *   boundary_text.c    text that is counted before it is written
  *   boundary_types.c   whole data types
  *   boundary_trees.c   data types at random, sound and damaged
@@ -113,6 +114,10 @@ enum group {
     BRANCHES_HALVED,
     BRANCHES_SHORT_OF,
     BRANCHES_ELSEWHERE,
+    SHEETS,
+    SHEETS_SHORT_OF,
+    SHEETS_QUOTED,
+    SHEETS_REFUSED,
     TEXTS,
     COUNTED,
     TYPES_READ,
@@ -267,6 +272,7 @@ enum function {
     TYPE_FIND_ORDERED_IN,
     TYPE_BRANCH_IN,
     TYPE_BRANCH_ORDERED_IN,
+    SHEET_EXPORT,
     FUNCTIONS
 };
 
@@ -354,6 +360,7 @@ struct told call_type_name_index_build(struct bytes bytes, struct room slots);
 struct told call_type_find_ordered(struct bytes bytes, struct bytes slots, struct bytes name);
 struct told call_type_branch(struct bytes bytes, struct bytes slots, struct bytes text, struct room out);
 struct told call_type_branch_ordered(struct bytes bytes, struct bytes slots, struct bytes text, struct room out);
+struct told call_sheet_export(struct bytes bytes, struct room out);
 struct told call_decode(struct bytes src, struct room out);
 struct told call_encode(struct bytes src, struct room out);
 
@@ -540,6 +547,9 @@ void try_room_limit(size_t len);
 void try_symbol_names(struct bytes bytes);
 void try_type_names(struct bytes bytes);
 void try_name_limit(size_t len);
+void try_sheet(struct bytes bytes);
+void try_sheets(void);
+void try_sheet_limit(size_t len);
 void try_types(void);
 void try_type(struct bytes bytes);
 void try_type_walk(struct bytes bytes);

@@ -842,6 +842,7 @@ static void try_damaged(struct bytes b)
     try_salvage(b);
     try_room(b);
     try_symbol_names(b);
+    try_sheet(b);
 }
 
 /* Data types have no call that takes no mode. */

@@ -1,2 +1,3 @@
 pub mod Escapes
 pub mod Pieces
+pub mod Meant

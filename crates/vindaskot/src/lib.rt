@@ -4,6 +4,7 @@
 mod modes;
 mod names;
 mod reasons;
+mod sheets;
 mod types;
 
 ghost use Rattle.std.specs.Prelude.{◌≡◌, Ok};
