@@ -97,6 +97,9 @@ row_with e = record {
   is = refl;
 }
 
+pub row_is : (e : Bor (List ℕ)) (r : AdsSymbolInfo) → symbol_of Present e ≡ Ok r → IsRow e.now (row_text (row_of r))
+row_is e r h = subst (λ q. IsRow e.now (row_text (row_of q))) (accepted_is Present e r h) (row_with e)
+
 sheet_more : (rows : List Row) (row : Row) → sheet_text (rows ++ (row ∷ [])) ≡ sheet_text rows ++ row_text row
 unfolding sheet_text
 sheet_more rows row = ap (λ (l : List ℕ). header ++ l) (flat_map-append row_text rows (row ∷ []) ∙ ap (λ (l : List ℕ). flat_map row_text rows ++ l) (append-nil (row_text row))) ∙ sym (append_assoc header (flat_map row_text rows) (row_text row))
@@ -108,7 +111,7 @@ sheet_none = refl
 pub cells_meant : CellsMeant
 cells_meant = record {
   cells = λ s text. (λ e. subst (IsCell s) e (cell_is s), cell_one s text);
-  rows = λ e r h. subst (λ q. IsRow e.now (row_text (row_of q))) (accepted_is Present e r h) (row_with e);
+  rows = row_is;
   header = sheet_none;
   more = sheet_more;
 }

@@ -157,7 +157,7 @@ pub export_large : (s : Bor (List ℕ)) → limit < length s.now → exporting s
 unfolding exporting
 export_large s h = simp (lt-ltb limit (length s.now) h)
 
-export_is : (s : Bor (List ℕ)) → length s.now ≤ limit → exporting s ≡ and_then (rows_of s) (λ rows. Ok (sheet_text rows))
+pub export_is : (s : Bor (List ℕ)) → length s.now ≤ limit → exporting s ≡ and_then (rows_of s) (λ rows. Ok (sheet_text rows))
 unfolding exporting
 export_is s h = simp (le-ltb limit (length s.now) h)
 

@@ -19,6 +19,12 @@ use symbol::{AdsSymbolInfo, Symbols};
 // The first row, with its CRLF.
 const HEADER: &[u8; 56] = b"group,offset,size,type id,flags,high,name,type,comment\r\n";
 
+// Why a symbol is not in a sheet, as refusal 17 tells it.
+const GUID: usize = 1;
+const ATTRIBUTES: usize = 2;
+const EXTENDED_FLAGS: usize = 3;
+const NOT_WHOLE: usize = 5;
+
 // Whether the end bytes of a symbol's strings are 0, and none of its bytes is unread.
 fn is_whole(own: &[u8], symbol: &AdsSymbolInfo<'_>) -> bool
     requires { 33 + length symbol.now.name.now + length symbol.now.type_name.now + length symbol.now.comment.now ≤ length own.now }
@@ -46,15 +52,15 @@ fn check_symbol(own: &[u8], entry: usize, symbol: &AdsSymbolInfo<'_>) -> Result<
 {
     let flags = symbol.flags;
     let reason = if flags.has_type_guid() {
-        1
+        GUID
     } else if flags.has_attributes() {
-        2
+        ATTRIBUTES
     } else if flags.has_extended_flags() {
-        3
+        EXTENDED_FLAGS
     } else if is_whole(own, symbol) {
         return Ok(());
     } else {
-        5
+        NOT_WHOLE
     };
     Err(Refusal::NotInSheet { entry, reason })
 }

@@ -2,7 +2,7 @@
 #![tactic(auto)]
 
 ghost use Rattle.sheet.specs.CellsMeant.{CellsMeant};
-ghost use Rattle.sheet.specs.ExportMeant.{AdmittedMeant};
+ghost use Rattle.sheet.specs.ExportMeant.{AdmittedMeant, ExportsMeant};
 
 mod cells;
 mod exporter;
@@ -21,4 +21,10 @@ pub fn cells_meant()
 /// 0; else it is refused by the first of its reasons.
 pub fn admitted_meant()
     ensures { AdmittedMeant }
+{}
+
+/// An upload above the limit is refused with 5. Within it the header is written and a row for each entry, in order; or the first entry
+/// that is refused or not for a sheet decides.
+pub fn exports_meant()
+    ensures { ExportsMeant }
 {}
