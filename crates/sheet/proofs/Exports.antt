@@ -1,6 +1,6 @@
 -- What exporting writes, or why it refuses, entry by entry.
 use Rattle.std.proofs.Common.{ℕ, zero, suc, ◌+◌, ◌-◌, ◌<◌, ◌≤◌, ◌≡◌, refl, sym, ap, subst, ◌∙◌, Bool, true, false, List, [], ◌∷◌, ◌++◌, length, take, drop, arith, Result, Ok, Err, Bor}
-use Rattle.std.specs.Prelude.{leb, eqb, Option, Some, None, codes, if◌then◌else◌}
+use Rattle.std.specs.Prelude.{leb, ltb, eqb, Option, Some, None, codes, if◌then◌else◌}
 use Rattle.std.specs.List.{flat_map}
 use borrow.Author.Tests.{leb-true, leb-false, le-leb, eqb-true, eqb-false, ltb-true, ltb-false}
 use Rattle.le.specs.Le.{le4, part}
@@ -73,11 +73,39 @@ module _ (s : Bor (List ℕ)) where
       let a = accepted at next (Some (Ok r)) i r refl in
       admitted_then k at next r h i (row_is (slice.part s at (next - at)) r a.is) (admitted k (part s.now at (next - at)) r) (admitted_meant k (slice.part s at (next - at)) r a.is) w more
 
-  -- the piece at a place
-  piece_told : (k at : ℕ) (p : Piece AdsSymbolInfo) → at < length s.now → piece_at read s at ≡ p → (w : Result (List Row) Refusal) → Rows s (k + 1) p.end (rows_text w)
+  forward : (at next : ℕ) (answer : Option (Result AdsSymbolInfo Refusal)) → IsStep 30 read s at answer next → at ≤ next
+  forward at next a (ended h) = omega arith
+  forward at next a (large h b) = omega arith
+  forward at next a (short h b d) = omega arith
+  forward at next a (beyond h b d g) = omega arith
+  forward at next a (below h b d g i) = omega arith
+  forward at next a (own h b d g i) = omega arith
+
+  -- the piece at a place, by the step there
+  told_by : (k at next : ℕ) (answer : Option (Result AdsSymbolInfo Refusal)) (p : Piece AdsSymbolInfo) → at < length s.now → IsStep 30 read s at answer next → p.start ≡ at
+      → (at < next → (answer ≡ Some p.answer) × (p.end ≡ next)) → (next ≡ at → p.answer ≡ Err ZeroEntryLength) → (w : Result (List Row) Refusal) → Rows s (k + 1) p.end (rows_text w)
       → Rows s k at (rows_text (and_then (piece_row s.now k p) (λ q. and_then w (λ rows. Ok (q ∷ rows)))))
   unfolding piece_row
-  piece_told k at p h e w more = ?
+  told_by k at next a p h i starts moves stands w more = by (eqb next at) refl
+    where
+      by : (b : Bool) → eqb next at ≡ b
+          → Rows s k at (rows_text (and_then (and_then p.answer (λ r. and_then (admitted k (part s.now p.start (p.end - p.start)) r) (λ _. Ok (row_of r)))) (λ q. and_then w (λ rows. Ok (q ∷ rows)))))
+      by true f =
+          let same = eqb-true next at f in
+          let z = stands same in
+          simp z (stays h (subst (λ (n : ℕ). IsStep 30 read s at a n) same i))
+      by false f =
+          let lt : at < next = omega (arith, forward at next a i, eqb-false next at f) in
+          let m = moves lt in
+          let q : IsStep 30 read s at (Some p.answer) p.end = subst (λ (n : ℕ). IsStep 30 read s at (Some p.answer) n) (sym m.1) (subst (λ x. IsStep 30 read s at x next) m.0 i) in
+          let g = answered k at p.end (omega (arith, lt, m.1)) p.answer q w more in
+          subst (λ (x : ℕ). Rows s k at (rows_text (and_then (and_then p.answer (λ r. and_then (admitted k (part s.now x (p.end - x)) r) (λ _. Ok (row_of r)))) (λ q. and_then w (λ rows. Ok (q ∷ rows)))))) (sym starts) g
+
+  piece_told : (k at : ℕ) → at < length s.now → (w : Result (List Row) Refusal) → Rows s (k + 1) (piece_at read s at).end (rows_text w)
+      → Rows s k at (rows_text (and_then (piece_row s.now k (piece_at read s at)) (λ q. and_then w (λ rows. Ok (q ∷ rows)))))
+  piece_told k at h w more =
+      let t = pieces_tell read s at h in
+      told_by k at (step_at read s at).cursor.at (step_at read s at).answer (piece_at read s at) h (steps_meant 30 read (kind.short Present) s at) t.begins t.moves (λ f. (t.stays f).0) w more
 
   pub rows_met : (n k at : ℕ) → length s.now - at ≤ n → Rows s k at (rows_text (rows_from s.now k (pieces_from read s at n)))
   unfolding rows_from pieces_from
@@ -90,11 +118,35 @@ module _ (s : Bor (List ℕ)) where
       by true e more = done (leb-true (length s.now) at e)
       by false e more =
           let l = leb-false (length s.now) at e in
-          piece_told k at (piece_at read s at) l refl _ (more (omega (arith, piece_ends read s at l)))
+          piece_told k at l _ (more (omega (arith, piece_ends read s at l)))
+
+written_by : (s : Bor (List ℕ)) (text : List ℕ) (w : Result (List Row) Refusal) → and_then w (λ rows. Ok (sheet_text rows)) ≡ Ok text → Rows s 0 0 (rows_text w)
+    → (rows : List ℕ) × (text ≡ codes "group,offset,size,type id,flags,high,name,type,comment\r\n" ++ rows) × Rows s 0 0 (Ok rows)
+unfolding sheet_text header
+written_by s text (Ok rows) e m = let q : sheet_text rows ≡ text = cc in (flat_map row_text rows, sym q, m)
+written_by s text (Err why) e m = cc
+
+refusal_by : (s : Bor (List ℕ)) (why : Refusal) (w : Result (List Row) Refusal) → and_then w (λ rows. Ok (sheet_text rows)) ≡ Err why → Rows s 0 0 (rows_text w) → Rows s 0 0 (Err why)
+refusal_by s why (Ok rows) e m = cc
+refusal_by s why (Err x) e m = let q : x ≡ why = cc in subst (λ y. Rows s 0 0 (Err y)) q m
+
+all_met : (s : Bor (List ℕ)) → Rows s 0 0 (rows_text (rows_of s))
+unfolding rows_of
+all_met s = rows_met s (length s.now) 0 0 (omega arith)
+
+within : (s : Bor (List ℕ)) (text : List ℕ) → exporting s ≡ Ok text → length s.now ≤ limit
+within s text e = by (ltb limit (length s.now)) refl
+  where
+    by : (b : Bool) → ltb limit (length s.now) ≡ b → length s.now ≤ limit
+    by true f = absurd (never (sym (export_large s (ltb-true limit (length s.now) f)) ∙ e))
+      where
+        never : {why : Refusal} → ◌≡◌ {A = Result (List ℕ) Refusal} (Err why) (Ok text) → ⊥
+        never h = cc
+    by false f = ltb-false limit (length s.now) f
 
 pub exports_meant : ExportsMeant
 exports_meant s = record {
   large = export_large s;
-  written = ?;
-  refusal = ?;
+  written = λ text e. written_by s text (rows_of s) (sym (export_is s (within s text e)) ∙ e) (all_met s);
+  refusal = λ why h e. refusal_by s why (rows_of s) (sym (export_is s h) ∙ e) (all_met s);
 }
