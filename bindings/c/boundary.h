@@ -16,6 +16,7 @@
  *   boundary_names.c   name indexes, finding by halving, branches
  *   boundary_lines.c   captures: uploads as lines, and back
  *   boundary_plain.c   plain form
+ *   boundary_sheets.c  sheets of uploads
  *   boundary_text.c    text that is counted before it is written
  *   boundary_types.c   whole data types
  *   boundary_trees.c   data types at random, sound and damaged
@@ -122,6 +123,10 @@ enum group {
     PLAIN,
     PLAIN_DEPARTS,
     PLAIN_REFUSED,
+    SHEETS,
+    SHEETS_SHORT_OF,
+    SHEETS_QUOTED,
+    SHEETS_REFUSED,
     TEXTS,
     COUNTED,
     TYPES_READ,
@@ -279,6 +284,7 @@ enum function {
     PLAIN_FORM,
     SPLIT_LINES,
     JOIN_LINES,
+    SHEET_EXPORT,
     FUNCTIONS
 };
 
@@ -369,6 +375,7 @@ struct told call_type_branch_ordered(struct bytes bytes, struct bytes slots, str
 struct told call_plain(struct bytes bytes);
 struct told call_split_lines(struct bytes bytes, struct room text);
 struct told call_join_lines(struct bytes text, struct room out);
+struct told call_sheet_export(struct bytes bytes, struct room out);
 struct told call_decode(struct bytes src, struct room out);
 struct told call_encode(struct bytes src, struct room out);
 
@@ -561,6 +568,9 @@ void try_line_limit(size_t len);
 void try_plain(struct bytes bytes);
 void try_plain_changed(struct bytes bytes);
 void try_plain_limit(size_t len);
+void try_sheet(struct bytes bytes);
+void try_sheets(void);
+void try_sheet_limit(size_t len);
 void try_types(void);
 void try_type(struct bytes bytes);
 void try_type_walk(struct bytes bytes);

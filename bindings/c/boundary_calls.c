@@ -116,6 +116,8 @@ static const struct {
                     DONE | NUMBER(5) | NUMBER(2) | NUMBER(3) | NUMBER(10) | NUMBER(19)},
     [SPLIT_LINES] = {"vindaskot_split_lines", 0, false, false, false, DONE | NUMBER(5) | NUMBER(6)},
     [JOIN_LINES] = {"vindaskot_join_lines", 0, false, false, false, DONE | NUMBER(12) | NUMBER(5) | NUMBER(6)},
+    [SHEET_EXPORT] = {"vindaskot_sheet_export", 0, false, false, false,
+                      DONE | NUMBER(2) | NUMBER(3) | NUMBER(5) | NUMBER(6) | NUMBER(10) | NUMBER(17)},
 };
 
 /* The one function that tells a path. */
@@ -593,6 +595,13 @@ struct told call_branch_ordered(struct bytes b, struct bytes slots, struct bytes
     uint32_t status = vindaskot_branch_ordered_in(b.at, b.len, mode == CHECKED, starts(slots), slots.len / 4, t.at,
                                                   t.len, at, out.len / 4, f->answer);
     return finish_out(BRANCH_ORDERED_IN, status, out, 4);
+}
+
+struct told call_sheet_export(struct bytes b, struct room out)
+{
+    struct frame *f = begin_out(SHEET_EXPORT, out);
+    uint32_t status = vindaskot_sheet_export(b.at, b.len, out.at, out.len, f->answer);
+    return finish_out(SHEET_EXPORT, status, out, 1);
 }
 
 struct told call_type_name_index_build(struct bytes b, struct room slots)

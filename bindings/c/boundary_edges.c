@@ -751,6 +751,7 @@ void try_edges(void)
         every_room_entries();
         every_room_texts();
         try_counted();
+        try_sheets();
         try_neighbours();
         long_records();
         long_strings();
@@ -971,6 +972,7 @@ void try_limits(void)
             try_line_limit(len);
             try_plain_limit(len);
             limit_texts(len);
+            try_sheet_limit(len);
             limit_writes(len);
         }
     try_type_depths();

@@ -844,6 +844,7 @@ static void try_damaged(struct bytes b)
     try_symbol_names(b);
     try_lines(b);
     try_plain(b);
+    try_sheet(b);
 }
 
 /* Data types have no call that takes no mode. */

@@ -18,6 +18,13 @@
 uint32_t __real_vindaskot_symbol_why(EXPLAINS);
 #endif
 
+#if FAULT > 359
+/* What the writer of a sheet takes, and the right one. */
+#define EXPORTS const uint8_t *bytes, size_t bytes_len, uint8_t *out, size_t out_len, uint64_t *answer
+#define EXPORTED __real_vindaskot_sheet_export(bytes, bytes_len, out, out_len, answer)
+uint32_t __real_vindaskot_sheet_export(EXPORTS);
+#endif
+
 #if FAULT > 15 && FAULT < 20 && FAULT != 18
 /* The attributes that these look at: each call reads the entry anew, and there can be 65,535. */
 enum { FEW = 99 };
@@ -3035,6 +3042,60 @@ uint32_t __wrap_vindaskot_symbol_why(EXPLAINS)
     if (status == VINDASKOT_DONE && extended_flags[VINDASKOT_WHY_REASON] == VINDASKOT_WHY_WHOLE)
         extended_flags[VINDASKOT_WHY_FIRST] += 4;
     return status;
+}
+
+#elif FAULT == 360 /* a sheet's entries count from 1 */
+uint32_t __wrap_vindaskot_sheet_export(EXPORTS)
+{
+    uint32_t status = EXPORTED;
+    answer[0] += status == 17;
+    return status;
+}
+
+#elif FAULT == 361 /* a sheet is written a byte longer than is told */
+uint32_t __wrap_vindaskot_sheet_export(EXPORTS)
+{
+    uint32_t status = EXPORTED;
+    answer[0] -= status == VINDASKOT_DONE;
+    return status;
+}
+
+#elif FAULT == 362 /* a sheet's header begins in capitals */
+uint32_t __wrap_vindaskot_sheet_export(EXPORTS)
+{
+    uint32_t status = EXPORTED;
+    if (status == VINDASKOT_DONE)
+        out[0] = 'G';
+    return status;
+}
+
+#elif FAULT == 363 /* a refused sheet has begun to be written */
+uint32_t __wrap_vindaskot_sheet_export(EXPORTS)
+{
+    uint32_t status = EXPORTED;
+    if (status == 6 && out_len > 0)
+        out[0] = 'g';
+    return status;
+}
+
+#elif FAULT == 364 /* a doubled quote in a sheet is two others */
+uint32_t __wrap_vindaskot_sheet_export(EXPORTS)
+{
+    uint32_t status = EXPORTED;
+    for (size_t i = 1; status == VINDASKOT_DONE && i < answer[0]; i++)
+        if (out[i - 1] == '"' && out[i] == '"')
+            out[i] = '\\';
+    return status;
+}
+
+#elif FAULT == 365 /* an upload above the limit is looked at before it is refused */
+uint32_t __wrap_vindaskot_sheet_export(EXPORTS)
+{
+    uint32_t status = EXPORTED;
+    if (status != 5)
+        return status;
+    answer[0] = 0, answer[1] = 5;
+    return 17;
 }
 
 #elif FAULT == 0

@@ -738,6 +738,14 @@ uint32_t vindaskot_split_lines(const uint8_t *bytes, size_t bytes_len, uint8_t *
                                uint64_t answer[VINDASKOT_AT_LEAST 2]);
 uint32_t vindaskot_join_lines(const uint8_t *text, size_t text_len, uint8_t *out, size_t out_len,
                               uint64_t answer[VINDASKOT_AT_LEAST 2]);
+/* ---- Sheet ---- */
+
+/* The sheet of an upload of symbols, for a spreadsheet: UTF-8 text in rows of cells as RFC 4180 has them, a header, then
+ * a row for each symbol; docs/FORMAT.md, "Sheet", has the columns. answer[0]: bytes written. The upload is read in the
+ * present mode. At the first entry that has one, the refusal of its reading, or 10, or 17: a sheet has no room for
+ * flagged sections, unread bytes and end bytes that are not 0. Refusals: 5, then 2, 3, 10 and 17, then 6. */
+uint32_t vindaskot_sheet_export(const uint8_t *bytes, size_t bytes_len, uint8_t *out, size_t out_len,
+                                uint64_t answer[VINDASKOT_AT_LEAST 2]);
 
 #ifdef __cplusplus
 }

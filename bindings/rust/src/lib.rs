@@ -19,6 +19,7 @@ pub mod plain;
 pub mod refactor_info;
 pub mod refusal;
 pub mod salvage;
+pub mod sheet;
 pub mod symbol;
 mod sys;
 pub mod text;
@@ -42,6 +43,9 @@ pub use refusal::{LIMIT, Refusal, RefusalKind};
 pub use salvage::{Run, Runs, Salvage, salvage, salvage_in};
 #[cfg(feature = "alloc")]
 pub use salvage::{Salvaged, salvage_to_vec, salvage_to_vec_in};
+pub use sheet::export_sheet;
+#[cfg(feature = "alloc")]
+pub use sheet::export_sheet_to_string;
 pub use symbol::{AdsSymbolInfo, AdsSymbolInfoIterator, SymbolNumbers, SymbolParts};
 pub use walk::{WalkEnd, Walked, walk};
 pub use why::{Reason, Reasons};

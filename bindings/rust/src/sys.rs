@@ -667,6 +667,13 @@ unsafe extern "C" {
         out_len: usize,
         answer: &mut [u64; 2],
     ) -> u32;
+    pub fn vindaskot_sheet_export(
+        bytes: *const u8,
+        bytes_len: usize,
+        out: *mut u8,
+        out_len: usize,
+        answer: &mut [u64; 2],
+    ) -> u32;
     pub fn vindaskot_decode(
         src: *const u8,
         src_len: usize,

@@ -17,10 +17,11 @@ fn one_like(b: u8, mask: u8, value: u8) -> u8
     if b & mask == value { 1 } else { 0 }
 }
 
-// How many bytes the text of a byte takes: one, one more from 80 on, and one more for the bytes whose code point is above 7FF, 84 to 87
+/// How many bytes the text of a byte takes.
+// One, one more from 80 on, and one more for the bytes whose code point is above 7FF, 84 to 87
 // and 94 to 97; 89, 8B, 99 and 9B; 80 and 82; 91 and 93; 92. By comparisons and not by a copy of the table, so that the
 // compiler takes many bytes at once and little stack is used.
-fn byte_width(b: u8) -> u8
+pub fn byte_width(b: u8) -> u8
     ensures { (result ≡ length (encode_utf8 (code_point b))) × (result ≤ 3) }
 {
     let most = one_like(b, 0xEC, 0x84) + one_like(b, 0xED, 0x89);
@@ -59,6 +60,15 @@ fn put_byte(out: &mut [u8], at: usize, table: &[u16; 32], b: u8) -> usize
     }
     let i = (b - 0x80) as usize;
     put_point(out, at, table[i])
+}
+
+/// Writes the text of a byte at a place that has room for it, and gives the place after it.
+#[tactic(auto, unfolding(crate::specs::Text::points))]
+pub fn put_text(out: &mut [u8], at: usize, byte: u8) -> usize
+    requires { at + length (encode_utf8 (code_point byte)) ≤ length out.old }
+    ensures { Wrote out.old at (encode_utf8 (code_point byte)) out.new result }
+{
+    put_byte(out, at, &POINTS, byte)
 }
 
 // How many bytes the text of so many bytes from a place on takes.

@@ -101,8 +101,8 @@ fn fault_at(s: &[u8], at: usize) -> usize
     }
 }
 
-// How many bytes a text takes, or its first fault.
-fn encoded_length(src: &[u8]) -> Result<usize, Refusal>
+/// How many bytes a text takes in Windows-1252, or its first fault (11). It has no limit.
+pub fn encoded_length(src: &[u8]) -> Result<usize, Refusal>
     ensures { result ≡ counted 0 (encoded_from 0 src.now) }
 {
     let mut n: usize = 0;

@@ -10,8 +10,8 @@ ghost use Rattle.text.specs.Text.{code_point};
 ghost use Rattle.text.specs.RoundTrip.{BytesComeBack, TextComesBack};
 ghost use Rattle.text.specs.Faults.{FaultsMeant, TableMeant};
 
-pub use decoder::decode;
-pub use encoder::encode;
+pub use decoder::{byte_width, decode, put_text};
+pub use encoder::{encode, encoded_length};
 use refusal::Refusal;
 
 // The code points of the bytes 80 to 9F.

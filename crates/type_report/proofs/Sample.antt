@@ -15,7 +15,8 @@ use Rattle.layout.specs.Layout.{guid_of}
 use Rattle.field.specs.Tail.{after_mask, after_methods, attributes_of, tail_of}
 use Rattle.data_type.specs.Array as array
 use Rattle.data_type.specs.DataType.{taken, items_from, arrays_of, type_with, type_at, type_of}
-use Rattle.wording.specs.Text.{code_point, quoted}
+use Rattle.text.specs.Text.{code_point}
+use Rattle.wording.specs.Text.{quoted}
 use Rattle.report.specs.Json.{guid_text, more_attributes, attributes_text}
 use Rattle.type_report.specs.Joined.{more, joined}
 use Rattle.type_report.specs.Marks.{words_of, marks_text}

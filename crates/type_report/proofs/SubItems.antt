@@ -18,7 +18,7 @@ use Rattle.field.specs.declared.tail.Tail.{Tail}
 use Rattle.field.specs.Field.{joined}
 use Rattle.data_type.specs.declared.AdsDataTypeInfo.{AdsDataTypeInfo}
 use Rattle.data_type.specs.declared.array.ArrayInfos.{ArrayInfos}
-use Rattle.data_type.specs.declared.reader.ReadSubItems.{ReadSubItems}
+use Rattle.data_type.specs.declared.reader.SubItemsRead.{SubItemsRead}
 use Rattle.data_type.specs.DataType.{items_from, item_at, sub_items_of, type_at, type_of}
 use Rattle.data_type.specs.Layout.{strings_end, arrays_end, record_of}
 use Rattle.data_type.proofs.Parts.{part_in, after_is}
@@ -100,7 +100,7 @@ module _ (mode : Mode) (u : Bor (List ℕ)) (small : length u.now ≤ limit) (n 
         around = refl;
       }
 
-  all : (left : ℕ) → left ≤ 15 → (count at : ℕ) (items : ReadSubItems) → items_from (item_at mode left) (after s at) count ≡ Ok items
+  all : (left : ℕ) → left ≤ 15 → (count at : ℕ) (items : SubItemsRead) → items_from (item_at mode left) (after s at) count ≡ Ok items
       → AreMembers mode u n (base + at) count (members_from n count (pieces_from (type_of mode) s at (length s.now - at)))
   unfolding members_from
   all left few zero at items h = none

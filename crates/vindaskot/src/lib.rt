@@ -6,6 +6,7 @@ mod modes;
 mod names;
 mod plain_form;
 mod reasons;
+mod sheets;
 mod types;
 
 ghost use Rattle.std.specs.Prelude.{◌≡◌, Ok};

@@ -1,0 +1,4 @@
+pub mod Cells
+pub mod Export
+pub mod CellsMeant
+pub mod ExportMeant
