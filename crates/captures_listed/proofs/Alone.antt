@@ -79,11 +79,11 @@ module _ {R : Type 0} (read : Bor (List ℕ) → Result R Refusal) (s : Bor (Lis
       by c e (claims.beyond a b d g) = absurd (omega arith)
       by c e (claims.entry a b d g) = let n = ne_eqb (at + le4 s.now at) at (omega arith) in simp (e, n) refl
 
--- the row of a piece in a line of its own
+-- the row of a piece in a line of its own, if it is a frame
 abbrev pub row_alone : ℕ → Piece AdsSymbolInfo → List ℕ
 row_alone line p = if ltb (p.end - p.start) 4 then refusal_row line 0 (record { number = 2; expected = 4; got = p.end - p.start }) ++ codes "\n" else answer_row line 0 p.answer ++ codes "\n"
 
-module _ (mode : Mode) (s : List ℕ) (small : length s ≤ 16384) (n : ℕ) where
+module _ (mode : Mode) (s : List ℕ) (small : length s ≤ limit) (n : ℕ) where
   abbrev pub whole : ℕ → Piece AdsSymbolInfo
   whole at = piece_at (symbol_of mode) (lying s) at
 

@@ -1,5 +1,5 @@
 -- docs/FORMAT.md, "Captures": what `list` makes of an upload that was split into lines.
-use Rattle.std.specs.Prelude.{ℕ, ◌-◌, ◌<◌, ◌≤◌, ◌≡◌, List, ◌++◌, length, codes, Ok}
+use Rattle.std.specs.Prelude.{ℕ, ◌-◌, ◌<◌, ◌≤◌, ◌≡◌, List, ◌++◌, length, codes, decimal, Ok}
 use Rattle.std.specs.List.{flat_map, enumerate_from}
 use Rattle.hex.specs.Hex.{IsBytes, decode_of}
 use Rattle.refusal.specs.declared.Mode.{Mode}
@@ -11,10 +11,11 @@ use Rattle.listing.specs.Row.{refusal_row}
 use Rattle.listing.specs.Listing.{answer_row, header, listing, lying}
 use Rattle.captures.specs.Captures.{splitting}
 
--- What is listed of a piece in a line of its own, as in the whole upload but for the line and the start. Of fewer than 4 bytes it is 2, which needs 4 and has these
+-- What is listed of a piece in a line of its own. Of 4 to 16,384 bytes it is what the walk of the whole upload tells of it, but for the line and the start. Of fewer it is 2, which needs 4 and has these; more are no frame, which is 12
 pub record IsListedAlone (alone : ℕ → Piece AdsSymbolInfo → List ℕ) : Type 0 where
-  pub same : (line : ℕ) (p : Piece AdsSymbolInfo) → 4 ≤ p.end - p.start → alone line p ≡ answer_row line 0 p.answer ++ codes "\n"
+  pub same : (line : ℕ) (p : Piece AdsSymbolInfo) → 4 ≤ p.end - p.start → p.end - p.start ≤ 16384 → alone line p ≡ answer_row line 0 p.answer ++ codes "\n"
   pub few : (line : ℕ) (p : Piece AdsSymbolInfo) → p.end - p.start < 4 → alone line p ≡ refusal_row line 0 (record { number = 2; expected = 4; got = p.end - p.start }) ++ codes "\n"
+  pub long : (line : ℕ) (p : Piece AdsSymbolInfo) → 16384 < p.end - p.start → alone line p ≡ decimal line ++ codes " 0 refused 12 0 0\n"
 
 -- the rows of an upload's pieces, each in a line of its own from 1 on
 abbrev pub rows_alone : (ℕ → Piece AdsSymbolInfo → List ℕ) → Mode → List ℕ → List ℕ
@@ -26,4 +27,4 @@ pub record Listed (mode : Mode) (s text : List ℕ) : Type 0 where
   pub lines : listing mode text ≡ header ++ rows_alone alone mode s
 
 abbrev pub LinesListed : Type 0
-LinesListed = (mode : Mode) (s text : List ℕ) → IsBytes s → length s ≤ 16384 → splitting s ≡ Ok text → Listed mode s text
+LinesListed = (mode : Mode) (s text : List ℕ) → IsBytes s → length s ≤ 16777216 → splitting s ≡ Ok text → Listed mode s text

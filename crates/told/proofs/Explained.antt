@@ -1,10 +1,10 @@
--- The slots of a reason tell which it is: proved.
+-- The slots of a reason tell which it is, and stand in their order: proved.
 use Rattle.std.proofs.Common.{◌≡◌, ℕ, List, refl, ap, ap₂, ◌∙◌, arith, get_or}
 use Rattle.refusal.specs.Refusal.{figures_of}
 use Rattle.refusal.specs.declared.Figures.{Figures}
 use Rattle.refusal.proofs.FiguresMeant.{figures_meant}
 use Rattle.why.specs.declared.Reason.TheVariants.{NotFlagged, NoExtendedFlags, NoRoom, Whole, Refused, Owed}
-use Rattle.told.specs.Reasons.{ReasonsTold}
+use Rattle.told.specs.Reasons.{ReasonsTold, SlotsInOrder}
 
 slot : (n : ℕ) {x y : List ℕ} → x ≡ y → get_or x n 0 ≡ get_or y n 0
 slot n h = ap (λ (l : List ℕ). get_or l n 0) h
@@ -49,3 +49,13 @@ reasons_told (Owed a b) (NoRoom c d) h = absurd (let n = slot 0 h in omega (arit
 reasons_told (Owed a b) (Whole c d) h = absurd (let n = slot 0 h in omega (arith, n))
 reasons_told (Owed a b) (Refused c d w) h = absurd (let n = slot 0 h in omega (arith, n))
 reasons_told (Owed a b) (Owed c d) h = ap₂ Owed (slot 1 h) (slot 2 h)
+
+pub slots_in_order : SlotsInOrder
+slots_in_order = record {
+  guid = refl;
+  attributes = refl;
+  extended_flags = refl;
+  chain = refl;
+  not_flagged = refl;
+  no_extended_flags = refl;
+}

@@ -2,6 +2,7 @@
 use Rattle.std.specs.Prelude.{ℕ, ◌≡◌, List, [], ◌∷◌}
 use Rattle.refusal.specs.Refusal.{figures_of}
 use Rattle.refusal.specs.declared.Figures.{Figures}
+use Rattle.refusal.specs.declared.Refusal.TheVariants.{TooShort}
 use Rattle.why.specs.declared.Reason.{Reason}
 use Rattle.why.specs.declared.Reason.TheVariants.{NotFlagged, NoExtendedFlags, NoRoom, Whole, Refused, Owed}
 use Rattle.why.specs.declared.Reasons.{Reasons}
@@ -36,3 +37,21 @@ chain_slots x = reason_slots x.refactor_infos
 -- the slots of a reason tell which it is, figures included
 abbrev pub ReasonsTold : Type 0
 ReasonsTold = (x y : Reason) → reason_slots x ≡ reason_slots y → x ≡ y
+
+-- four different reasons in one symbol, every figure of them different
+abbrev pub four_reasons : Reasons
+four_reasons = record {
+  guid = NoRoom 51 7;
+  attributes = Owed 20 12;
+  extended_flags = Whole 63 8;
+  refactor_infos = Refused 9 74 (TooShort 15 10);
+}
+
+-- slot by slot: of no room the place and the bytes left; of attributes those announced and those owed; of what is whole the place and how many; of a refused record its place, which of the list it is, and its number, E and G
+pub record SlotsInOrder : Type 0 where
+  pub guid : guid_slots four_reasons ≡ 3 ∷ 51 ∷ 7 ∷ 0 ∷ 0 ∷ 0 ∷ []
+  pub attributes : attributes_slots four_reasons ≡ 6 ∷ 20 ∷ 12 ∷ 0 ∷ 0 ∷ 0 ∷ []
+  pub extended_flags : extended_slots four_reasons ≡ 4 ∷ 63 ∷ 8 ∷ 0 ∷ 0 ∷ 0 ∷ []
+  pub chain : chain_slots four_reasons ≡ 5 ∷ 74 ∷ 9 ∷ 2 ∷ 15 ∷ 10 ∷ []
+  pub not_flagged : reason_slots NotFlagged ≡ 1 ∷ 0 ∷ 0 ∷ 0 ∷ 0 ∷ 0 ∷ []
+  pub no_extended_flags : reason_slots NoExtendedFlags ≡ 2 ∷ 0 ∷ 0 ∷ 0 ∷ 0 ∷ 0 ∷ []

@@ -2,7 +2,7 @@
 ghost use Rattle.std.specs.Prelude.{◌≡◌};
 ghost use Rattle.told.specs.Told.{Tells, record_told};
 ghost use Rattle.told.specs.Slots.{slots_after};
-ghost use Rattle.told.specs.Reasons.{reason_slots, guid_slots, attributes_slots, extended_slots, chain_slots, ReasonsTold};
+ghost use Rattle.told.specs.Reasons.{reason_slots, guid_slots, attributes_slots, extended_slots, chain_slots, ReasonsTold, SlotsInOrder};
 
 use crate::{DONE, refused, tell};
 use refusal::Refusal;
@@ -59,7 +59,14 @@ pub fn reasons(
     }
 }
 
-/// The theorem, as the contract of a function that does nothing: the slots of a reason tell which it is, figures included.
+// The theorems, as the contracts of functions that do nothing.
+
+/// The slots of a reason tell which it is, figures included.
 pub fn reasons_told()
     ensures { ReasonsTold }
+{}
+
+/// The slots stand in their order, by four different reasons of one symbol with every figure different, and the two without figures.
+pub fn slots_in_order()
+    ensures { SlotsInOrder }
 {}

@@ -8,6 +8,11 @@ use Rattle.part.specs.End.{rest_at}
 use Rattle.refusal.specs.declared.Mode.{Mode}
 use Rattle.refusal.specs.declared.Mode.TheVariants.{Present, Checked}
 use Rattle.flags.specs.declared.symbol_flags.AdsSymbol2Flags.{AdsSymbol2Flags}
+use Rattle.walk.specs.Step.{parse_of}
+use Rattle.walk.specs.Direct.{IsParsed, large, short, beyond, below, own}
+use Rattle.walk.specs.Theorems.{Begins as BeginsEntry, entry_of}
+use Rattle.walk.proofs.Direct.{parses_meant}
+use Rattle.walk.proofs.Theorems.{behind_unread}
 use Rattle.symbol.specs.declared.AdsSymbolInfo.{AdsSymbolInfo}
 use Rattle.symbol.specs.Symbol.{extended_word, symbol_of}
 use Rattle.symbol.specs.Inside.{behind_strings, behind_guid, behind_attributes, IsInside}
@@ -21,7 +26,8 @@ use Rattle.symbol.proofs.Modes.{symbols_modes}
 use Rattle.symbol.proofs.Lies.{symbols_inside}
 use Rattle.symbol.proofs.ReadOn.{symbols_read_on}
 use Rattle.why.specs.declared.Reason.{Reason}
-use Rattle.why.specs.Reasons.{extended_at, reasons_of, chain_reason_by, chain_reason, fixed_reason}
+use Rattle.why.specs.declared.Reasons.{Reasons}
+use Rattle.why.specs.Reasons.{explained_own, explained, extended_at, reasons_of, chain_reason_by, chain_reason, fixed_reason}
 use Rattle.why.specs.Meant.{strings_end, IsFixed, fixed_unflagged, fixed_short, fixed_there, AreTrue, ReasonsTrue}
 use Rattle.why.specs.Meant.{IsAttributes, attributes_unflagged, attributes_short, attributes_whole, attributes_refused, attributes_owed, BehindAttributes, list_there}
 use Rattle.why.specs.Meant.{IsChain, chain_no_flags, chain_short_flags, chain_unflagged, chain_no_byte, chain_refused, chain_whole}
@@ -80,11 +86,36 @@ present : (mode : Mode) (e : Bor (List ℕ)) (r : AdsSymbolInfo) → symbol_of m
 present Present e r h = h
 present Checked e r h = ((symbols_modes e).ended r h).0
 
+-- what a direct reading gives, where it accepts, is what the entry's own bytes give
+record FromOwn {R : Type 0} (read : Bor (List ℕ) → Result R Refusal) (s : Bor (List ℕ)) (r : R) : Type 0 where
+  begins : BeginsEntry 30 s.now
+  reads : read (entry_of s) ≡ Ok r
+
+from_own : {R : Type 0} (read : Bor (List ℕ) → Result R Refusal) (s : Bor (List ℕ)) (r : R) → parse_of 30 read s ≡ Ok r → FromOwn read s r
+from_own read s r h = by (parse_of 30 read s) (parses_meant 30 read s) h
+  where
+    by : (x : Result _ Refusal) → IsParsed 30 read s x → x ≡ Ok r → FromOwn read s r
+    by x (large a) e = absurd cc
+    by x (short a b) e = absurd cc
+    by x (beyond a b c) e = absurd cc
+    by x (below a b c d) e = absurd cc
+    by x (own a b c d) e = record { begins = record { within = a; long = d; there = c }; reads = e }
+
+-- of the entry at the start of some bytes the reasons that are answered are those of its own bytes
+answer : (mode : Mode) (s : Bor (List ℕ)) (r : AdsSymbolInfo) → FromOwn (symbol_of mode) s r → explained s ≡ Ok (reasons_of (entry_of s) r)
+answer mode s r f =
+    let b = f.begins in
+    (behind_unread explained_own 30 (omega arith) s b.within b.long b.there).reads ∙ ap (λ x. and_then x (λ t. Ok (reasons_of (entry_of s) t))) (present mode (entry_of s) r f.reads)
+
 pub reasons_true : ReasonsTrue
-reasons_true mode e r h = record {
-  answered = ap (λ x. and_then x (λ s. Ok (reasons_of e s))) (present mode e r h);
-  are_true = are_true e r (symbols_inside mode e r h) ((symbols_read_on e).only mode r h).1 (symbols_whole mode e r h);
-}
+reasons_true mode s r h =
+    let f = from_own (symbol_of mode) s r h in
+    let e = entry_of s in
+    record {
+      reasons = reasons_of e r;
+      answered = answer mode s r f;
+      are_true = are_true e r (symbols_inside mode e r f.reads) ((symbols_read_on e).only mode r f.reads).1 (symbols_whole mode e r f.reads);
+    }
 
 -- the place that a reason tells, by what it says
 begins_fixed : (e : List ℕ) (bit size at : ℕ) (x : Reason) → IsFixed e bit size at x → Begins x at
@@ -158,4 +189,9 @@ module _ (e : Bor (List ℕ)) (r : AdsSymbolInfo) (i : IsInside e r) (w : IsRead
       }
 
 pub reasons_shown : ReasonsShown
-reasons_shown mode e r h = are_shown e r (symbols_inside mode e r h) ((symbols_read_on e).only mode r h).1 (symbols_whole mode e r h)
+reasons_shown mode s r x h a =
+    let f = from_own (symbol_of mode) s r h in
+    let e = entry_of s in
+    let same : ◌≡◌ {A = Result Reasons Refusal} (Ok (reasons_of e r)) (Ok x) = sym (answer mode s r f) ∙ a in
+    let is : reasons_of e r ≡ x = cc in
+    subst (AreShown e r) is (are_shown e r (symbols_inside mode e r f.reads) ((symbols_read_on e).only mode r f.reads).1 (symbols_whole mode e r f.reads))

@@ -1,5 +1,5 @@
 -- docs/FORMAT.md, "Why": what each reason says of an entry's own bytes, and of a place in them; that the reasons of a symbol are true; and that no others are.
-use Rattle.std.specs.Prelude.{ℕ, suc, ◌+◌, ◌<◌, ◌≤◌, ◌≡◌, ◌⊎◌, true, false, List, Ok, Err, length, drop}
+use Rattle.std.specs.Prelude.{ℕ, suc, ◌+◌, ◌<◌, ◌≤◌, ◌≡◌, ◌⊎◌, true, false, List, Ok, Err, length, take, drop}
 use Rattle.std.specs.Borrow.{Bor}
 use Rattle.le.specs.Le.{le2, le4, has}
 use Rattle.refusal.specs.declared.Mode.{Mode}
@@ -14,7 +14,7 @@ use Rattle.symbol.specs.Symbol.{symbol_of}
 use Rattle.why.specs.declared.Reason.{Reason}
 use Rattle.why.specs.declared.Reason.TheVariants.{NotFlagged, NoExtendedFlags, NoRoom, Whole, Refused, Owed}
 use Rattle.why.specs.declared.Reasons.{Reasons}
-use Rattle.why.specs.Reasons.{reasons_of, explained_own, explained}
+use Rattle.why.specs.Reasons.{explained}
 
 -- an attribute that is refused at the start of some bytes, and a refactor record: less than its least, or than the whole
 pub data IsCutAttribute (s : List ℕ) : Refusal → Type 0 where
@@ -90,13 +90,14 @@ module _ (e : List ℕ) where
     pub extended_flags : IsFixed 0x8000 4 flags_at x.extended_flags
     pub chain : IsChain flags_at x.refactor_infos
 
--- a symbol that is accepted, in whatever mode, is explained, alike in both, and its reasons are true of its bytes
-pub record IsExplained (e : Bor (List ℕ)) (r : AdsSymbolInfo) : Type 0 where
-  pub answered : explained_own e ≡ Ok (reasons_of e r)
-  pub are_true : AreTrue e.now (reasons_of e r)
+-- the symbol at the start of some bytes that is accepted, in whatever mode, is explained, alike in both, and its reasons are true of the bytes of its claim, whatever stands behind them
+pub record IsExplained (s : Bor (List ℕ)) : Type 0 where
+  pub reasons : Reasons
+  pub answered : explained s ≡ Ok reasons
+  pub are_true : AreTrue (take (le4 s.now 0) s.now) reasons
 
 abbrev pub ReasonsTrue : Type 0
-ReasonsTrue = (mode : Mode) (e : Bor (List ℕ)) (r : AdsSymbolInfo) → symbol_of mode e ≡ Ok r → IsExplained e r
+ReasonsTrue = (mode : Mode) (s : Bor (List ℕ)) (r : AdsSymbolInfo) → parse_of 30 (symbol_of mode) s ≡ Ok r → IsExplained s
 
 -- of one entry the reasons that are true are the same, figures included
 abbrev pub ReasonsOne : Type 0

@@ -3,13 +3,15 @@ use Rattle.std.specs.Prelude.{ℕ, ◌-◌, ◌≡◌, List, is_some, Ok, if◌t
 use Rattle.std.specs.Borrow.{Bor}
 use Rattle.part.specs.End.{rest_at}
 use Rattle.refusal.specs.declared.Mode.{Mode}
+use Rattle.walk.specs.Step.{parse_of}
+use Rattle.walk.specs.Theorems.{entry_of}
 use Rattle.symbol.specs.declared.AdsSymbolInfo.{AdsSymbolInfo}
 use Rattle.symbol.specs.Symbol.{symbol_of}
 use Rattle.symbol.specs.Inside.{behind_strings, behind_guid, behind_attributes}
 use Rattle.why.specs.declared.Reason.{Reason}
 use Rattle.why.specs.declared.Reason.TheVariants.{NotFlagged, NoExtendedFlags, NoRoom, Whole, Refused, Owed}
 use Rattle.why.specs.declared.Reasons.{Reasons}
-use Rattle.why.specs.Reasons.{reasons_of}
+use Rattle.why.specs.Reasons.{explained}
 
 -- how many are shown of a list that a refused record ends, and of one that it drops
 abbrev pub shown_of : Reason → ℕ
@@ -46,5 +48,6 @@ pub record AreShown (e : Bor (List ℕ)) (r : AdsSymbolInfo) (x : Reasons) : Typ
   pub extended_at : Begins x.extended_flags (behind_attributes e r)
   pub chain_at : Begins x.refactor_infos (rest_at e r.refactor_infos.bytes)
 
+-- of the symbol at the start of some bytes that is accepted, in whatever mode, what is answered, by the entry alone
 abbrev pub ReasonsShown : Type 0
-ReasonsShown = (mode : Mode) (e : Bor (List ℕ)) (r : AdsSymbolInfo) → symbol_of mode e ≡ Ok r → AreShown e r (reasons_of e r)
+ReasonsShown = (mode : Mode) (s : Bor (List ℕ)) (r : AdsSymbolInfo) (x : Reasons) → parse_of 30 (symbol_of mode) s ≡ Ok r → explained s ≡ Ok x → AreShown (entry_of s) r x

@@ -2,7 +2,7 @@
 ghost use Rattle.why.specs.Meant.{ReasonsTrue, ReasonsOne, ReasonsRefused};
 ghost use Rattle.why.specs.Shown.{ReasonsShown};
 
-/// The reasons of an accepted symbol are true of its bytes, by what each says of them; they are the same where the checked mode accepts it.
+/// The reasons that are answered of an accepted symbol are true of the bytes of its claim, by what each says of them; they are the same where the checked mode accepts it.
 pub fn reasons_true()
     ensures { ReasonsTrue }
 {}
