@@ -3,7 +3,7 @@
 
 mod lines;
 mod modes;
-mod names;
+mod ordered;
 mod plain_form;
 mod reasons;
 mod sheets;
