@@ -20,7 +20,8 @@ use Rattle.data_type.specs.declared.AdsDataTypeInfo.{AdsDataTypeInfo}
 use Rattle.data_type.specs.declared.array.ArrayInfos.{ArrayInfos}
 use Rattle.data_type.specs.declared.reader.SubItemsRead.{SubItemsRead}
 use Rattle.data_type.specs.DataType.{items_from, item_at, sub_items_of, type_at, type_of}
-use Rattle.data_type.specs.Layout.{strings_end, arrays_end, record_of}
+use Rattle.field.specs.Modes.{strings_end}
+use Rattle.data_type.specs.Layout.{arrays_end, record_of}
 use Rattle.data_type.proofs.Parts.{part_in, after_is}
 use Rattle.data_type.proofs.Inside.{turn, accepted_at, holds}
 use Rattle.data_type.proofs.More.{deeper}
