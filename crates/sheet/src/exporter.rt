@@ -21,8 +21,11 @@ const HEADER: &[u8; 56] = b"group,offset,size,type id,flags,high,name,type,comme
 
 // Why a symbol is not in a sheet, as refusal 17 tells it.
 const GUID: usize = 1;
+
 const ATTRIBUTES: usize = 2;
+
 const EXTENDED_FLAGS: usize = 3;
+
 const NOT_WHOLE: usize = 5;
 
 // Whether the end bytes of a symbol's strings are 0, and none of its bytes is unread.
