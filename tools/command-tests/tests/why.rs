@@ -39,11 +39,19 @@ fn each_reason() {
         (b"ends.behind.count", ATTRIBUTES, b"\x05\0"),
         (b"owed", ATTRIBUTES, b"\xE8\x03\x01\x01u\0v\0"),
         (b"refused.2", ATTRIBUTES, b"\x05\0\x01\x01u\0v\0\0\0\0"),
-        (b"refused.1", ATTRIBUTES, b"\x05\0\x01\x01u\0v\0\xFF\xFFlonger"),
+        (
+            b"refused.1",
+            ATTRIBUTES,
+            b"\x05\0\x01\x01u\0v\0\xFF\xFFlonger",
+        ),
         (b"extended.short", EXTENDED, b"\x04\0\0"),
         (b"chain.unflagged", EXTENDED, b"\x02\0\0\0"),
         (b"chain.none", EXTENDED, b"\x04\0\0\0"),
-        (b"chain.refused", EXTENDED, b"\x04\0\0\0\0\0\0\x01\0\0\0\0\0\0\0\x02\0n\0"),
+        (
+            b"chain.refused",
+            EXTENDED,
+            b"\x04\0\0\0\0\0\0\x01\0\0\0\0\0\0\0\x02\0n\0",
+        ),
         (
             b"chain.two",
             EXTENDED,
