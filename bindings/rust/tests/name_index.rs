@@ -79,6 +79,7 @@ fn hold<E: Named>(upload: &[u8], mode: Mode, accepted: Vec<(usize, Vec<u8>)>, na
         for text in [name, &name[..name.len() / 2]] {
             let expected = plain_branch(&accepted, index.starts(), text);
             assert_eq!(index.branch_len(text), Ok(expected.len()));
+            #[cfg(feature = "alloc")]
             assert_eq!(index.branch_to_vec(text).unwrap(), expected);
             let mut out = vec![0xA5A5_A5A5; expected.len() + 1];
             assert_eq!(index.branch(text, &mut out).unwrap(), expected);

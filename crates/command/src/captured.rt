@@ -92,7 +92,7 @@ fn check_lines(alloc: Global, text: &[u8], path: &str) -> Result<(), Failure> {
         if let Err(Refusal::BadHexadecimal) = captures::join(line, &mut []) {
             let number = Grouped(number);
             return Err(Failure::Refused(format!(in alloc;
-                "{path}: refusal 12, bad hexadecimal line: line {number} is not pairs of digits and nothing else"
+                "{path}: refusal 12, bad hexadecimal text: line {number} is not pairs of digits and nothing else"
             )?));
         }
     }
