@@ -23,6 +23,13 @@ use Rattle.refusal.specs.declared.Refusal.TheVariants.{
   NotInSheet,
   BadSheet,
   NotPlain,
+  BadPath,
+  NoSuchMember,
+  NoSuchType,
+  WrongDimensions,
+  NoOffset,
+  OffsetTooLarge,
+  TooManyAliases,
 }
 use Rattle.refusal.specs.Refusal.{figures_of}
 use Rattle.refusal.specs.FiguresMeant.{FiguresMeant}
@@ -42,13 +49,19 @@ told f =
     else if eqb f.number 10 then ZeroEntryLength
     else if eqb f.number 11 then BadText f.expected f.got
     else if eqb f.number 12 then BadHexadecimal
-    else if eqb f.number 13 then NameNotFound
+    else if eqb f.number 13 then
+    (if eqb f.got 0 then NameNotFound else if eqb f.got 1 then NoSuchMember f.expected else NoSuchType f.expected)
     else if eqb f.number 14 then NoSuchNumber f.expected f.got
     else if eqb f.number 15 then TooDeep
     else if eqb f.number 16 then EndByte f.expected f.got
     else if eqb f.number 17 then NotInSheet f.expected f.got
     else if eqb f.number 18 then BadSheet f.expected f.got
-    else NotPlain f.expected
+    else if eqb f.number 19 then NotPlain f.expected
+    else if eqb f.number 20 then BadPath f.expected
+    else if eqb f.number 21 then WrongDimensions f.expected f.got
+    else if eqb f.number 22 then NoOffset f.expected f.got
+    else if eqb f.number 23 then OffsetTooLarge f.got
+    else TooManyAliases f.expected
 
 told_back : (r : Refusal) → told (figures_of r) ≡ r
 told_back (UnexpectedLength needed present) = refl
@@ -70,6 +83,13 @@ told_back (EndByte place byte) = refl
 told_back (NotInSheet entry reason) = refl
 told_back (BadSheet row column) = refl
 told_back (NotPlain place) = refl
+told_back (BadPath place) = refl
+told_back (NoSuchMember place) = refl
+told_back (NoSuchType place) = refl
+told_back (WrongDimensions place dimensions) = refl
+told_back (NoOffset place flag) = refl
+told_back (OffsetTooLarge offset) = refl
+told_back (TooManyAliases place) = refl
 
 from_1 : (r : Refusal) → 1 ≤ (figures_of r).number
 from_1 (UnexpectedLength needed present) = omega arith
@@ -91,34 +111,50 @@ from_1 (EndByte place byte) = omega arith
 from_1 (NotInSheet entry reason) = omega arith
 from_1 (BadSheet row column) = omega arith
 from_1 (NotPlain place) = omega arith
+from_1 (BadPath place) = omega arith
+from_1 (NoSuchMember place) = omega arith
+from_1 (NoSuchType place) = omega arith
+from_1 (WrongDimensions place dimensions) = omega arith
+from_1 (NoOffset place flag) = omega arith
+from_1 (OffsetTooLarge offset) = omega arith
+from_1 (TooManyAliases place) = omega arith
 
-to_19 : (r : Refusal) → (figures_of r).number ≤ 19
-to_19 (UnexpectedLength needed present) = omega arith
-to_19 (TooShort needed present) = omega arith
-to_19 (EntryLengthMismatch needed available) = omega arith
-to_19 (ClaimBelowHeader header claim) = omega arith
-to_19 (TooLarge length) = omega arith
-to_19 (OutputTooSmall needed lent) = omega arith
-to_19 (TooLong most actual) = omega arith
-to_19 (SectionsDisagree section) = omega arith
-to_19 (BadBlock count good) = omega arith
-to_19 ZeroEntryLength = omega arith
-to_19 (BadText place kind) = omega arith
-to_19 BadHexadecimal = omega arith
-to_19 NameNotFound = omega arith
-to_19 (NoSuchNumber count asked) = omega arith
-to_19 TooDeep = omega arith
-to_19 (EndByte place byte) = omega arith
-to_19 (NotInSheet entry reason) = omega arith
-to_19 (BadSheet row column) = omega arith
-to_19 (NotPlain place) = omega arith
+to_24 : (r : Refusal) → (figures_of r).number ≤ 24
+to_24 (UnexpectedLength needed present) = omega arith
+to_24 (TooShort needed present) = omega arith
+to_24 (EntryLengthMismatch needed available) = omega arith
+to_24 (ClaimBelowHeader header claim) = omega arith
+to_24 (TooLarge length) = omega arith
+to_24 (OutputTooSmall needed lent) = omega arith
+to_24 (TooLong most actual) = omega arith
+to_24 (SectionsDisagree section) = omega arith
+to_24 (BadBlock count good) = omega arith
+to_24 ZeroEntryLength = omega arith
+to_24 (BadText place kind) = omega arith
+to_24 BadHexadecimal = omega arith
+to_24 NameNotFound = omega arith
+to_24 (NoSuchNumber count asked) = omega arith
+to_24 TooDeep = omega arith
+to_24 (EndByte place byte) = omega arith
+to_24 (NotInSheet entry reason) = omega arith
+to_24 (BadSheet row column) = omega arith
+to_24 (NotPlain place) = omega arith
+to_24 (BadPath place) = omega arith
+to_24 (NoSuchMember place) = omega arith
+to_24 (NoSuchType place) = omega arith
+to_24 (WrongDimensions place dimensions) = omega arith
+to_24 (NoOffset place flag) = omega arith
+to_24 (OffsetTooLarge offset) = omega arith
+to_24 (TooManyAliases place) = omega arith
 
 pub figures_meant : FiguresMeant
 figures_meant = record {
   from = from_1;
-  to = to_19;
+  to = to_24;
   apart = λ r q e. sym (told_back r) ∙ ap told e ∙ told_back q;
   largest = refl;
   large = λ length. refl;
   deep = refl;
+  offset = λ offset. refl;
+  aliases = λ place. refl;
 }

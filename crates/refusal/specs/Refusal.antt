@@ -22,6 +22,13 @@ use Rattle.refusal.specs.declared.Refusal.TheVariants.{
   NotInSheet,
   BadSheet,
   NotPlain,
+  BadPath,
+  NoSuchMember,
+  NoSuchType,
+  WrongDimensions,
+  NoOffset,
+  OffsetTooLarge,
+  TooManyAliases,
 }
 
 -- the largest input, and the largest entry that is written, in bytes
@@ -31,6 +38,14 @@ limit = 16777216
 -- the levels of a data type entry, the root's among them
 abbrev pub deepest : ℕ
 deepest = 16
+
+-- the largest index offset, of 32 bits
+abbrev pub largest_offset : ℕ
+largest_offset = 4294967295
+
+-- the most data types, one behind another, of which each only names the next
+abbrev pub most_aliases : ℕ
+most_aliases = 16
 
 abbrev pub numbered : ℕ → ℕ → ℕ → Figures
 numbered number e g = record { number = number; expected = e; got = g }
@@ -55,3 +70,10 @@ figures_of (EndByte place byte) = numbered 16 place byte
 figures_of (NotInSheet entry reason) = numbered 17 entry reason
 figures_of (BadSheet row column) = numbered 18 row column
 figures_of (NotPlain place) = numbered 19 place 0
+figures_of (BadPath place) = numbered 20 place 0
+figures_of (NoSuchMember place) = numbered 13 place 1
+figures_of (NoSuchType place) = numbered 13 place 2
+figures_of (WrongDimensions place dimensions) = numbered 21 place dimensions
+figures_of (NoOffset place flag) = numbered 22 place flag
+figures_of (OffsetTooLarge offset) = numbered 23 largest_offset offset
+figures_of (TooManyAliases place) = numbered 24 place most_aliases

@@ -21,6 +21,13 @@ use Rattle.refusal.specs.declared.Refusal.TheVariants.{
   NotInSheet,
   BadSheet,
   NotPlain,
+  BadPath,
+  NoSuchMember,
+  NoSuchType,
+  WrongDimensions,
+  NoOffset,
+  OffsetTooLarge,
+  TooManyAliases,
 }
 
 -- a number between two texts, and two numbers
@@ -50,3 +57,11 @@ text_of (EndByte place byte) = codes "end byte is not 0: " ++ (decimal byte ++ (
 text_of (NotInSheet entry reason) = codes "not for a sheet: entry " ++ (decimal entry ++ (codes ", reason " ++ decimal reason))
 text_of (BadSheet row column) = codes "bad sheet: row " ++ (decimal row ++ (codes ", column " ++ decimal column))
 text_of (NotPlain place) = one (codes "not in plain form: byte ") place (codes " departs")
+text_of (BadPath place) = codes "no path of a variable: fault at byte " ++ decimal place
+text_of (NoSuchMember place) = one (codes "name not found: no member at byte ") place (codes " of the path")
+text_of (NoSuchType place) = one (codes "name not found: no data type at byte ") place (codes " of the path")
+text_of (WrongDimensions place dimensions) =
+    two (codes "wrong dimensions: subscripts at byte ") place (codes " of the path, ") dimensions (codes " dimensions there")
+text_of (NoOffset place flag) = two (codes "no offset: flag ") flag (codes " at byte ") place (codes " of the path")
+text_of (OffsetTooLarge offset) = one (codes "index offset too large: 4294967295 at most, ") offset (codes " here")
+text_of (TooManyAliases place) = one (codes "too many aliases: more than 16 at byte ") place (codes " of the path")

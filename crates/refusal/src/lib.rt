@@ -17,6 +17,12 @@ pub const LIMIT: usize = 16777216;
 /// The levels of a data type entry, the root's among them.
 pub const DEEPEST: usize = 16;
 
+/// The largest index offset, of 32 bits.
+pub const LARGEST_OFFSET: usize = 4294967295;
+
+/// The most data types, one behind another, of which each only names the next.
+pub const MOST_ALIASES: usize = 16;
+
 /// Whether an end byte that is not 0 refuses.
 #[derive(Clone, Copy, Debug, PartialEq, Eq)]
 pub enum Mode {
@@ -68,6 +74,21 @@ pub enum Refusal {
     BadSheet { row: usize, column: usize },
     /// 19: an upload that is not in plain form: the place in the upload of the first byte that departs.
     NotPlain { place: usize },
+    /// 20: a text that is no path of a variable: the place in it from where on it is none.
+    BadPath { place: usize },
+    /// 13, of a path: no member has the name of the part at that place.
+    NoSuchMember { place: usize },
+    /// 13, of a path: the type of the part at that place is not among the data types.
+    NoSuchType { place: usize },
+    /// 21: subscripts of a path, by their place there, that are not as many as there are dimensions.
+    WrongDimensions { place: usize, dimensions: usize },
+    /// 22: a part of a path, by its place there, that has no offset: flag 0x2 below a symbol of a bit, 4 a reference, 0x40 a property,
+    /// 0x20000 a static member.
+    NoOffset { place: usize, flag: usize },
+    /// 23: an index offset above 32 bits.
+    OffsetTooLarge { offset: usize },
+    /// 24: data types, one behind another, of which each only names the next, more than so many: the place in the path of the part below.
+    TooManyAliases { place: usize },
 }
 
 /// A refusal in numbers (docs/FORMAT.md, "Refusals").
@@ -106,6 +127,13 @@ impl Refusal {
             Refusal::NotInSheet { entry, reason } => numbered(17, entry, reason),
             Refusal::BadSheet { row, column } => numbered(18, row, column),
             Refusal::NotPlain { place } => numbered(19, place, 0),
+            Refusal::BadPath { place } => numbered(20, place, 0),
+            Refusal::NoSuchMember { place } => numbered(13, place, 1),
+            Refusal::NoSuchType { place } => numbered(13, place, 2),
+            Refusal::WrongDimensions { place, dimensions } => numbered(21, place, dimensions),
+            Refusal::NoOffset { place, flag } => numbered(22, place, flag),
+            Refusal::OffsetTooLarge { offset } => numbered(23, LARGEST_OFFSET, offset),
+            Refusal::TooManyAliases { place } => numbered(24, place, MOST_ALIASES),
         }
     }
 }
@@ -173,6 +201,32 @@ impl fmt::Display for Refusal {
             ),
             Refusal::BadSheet { row, column } => write!(f, "bad sheet: row {row}, column {column}"),
             Refusal::NotPlain { place } => write!(f, "not in plain form: byte {place} departs"),
+            Refusal::BadPath { place } => write!(f, "no path of a variable: fault at byte {place}"),
+            Refusal::NoSuchMember { place } => {
+                write!(f, "name not found: no member at byte {place} of the path")
+            }
+            Refusal::NoSuchType { place } => {
+                write!(
+                    f,
+                    "name not found: no data type at byte {place} of the path"
+                )
+            }
+            Refusal::WrongDimensions { place, dimensions } => write!(
+                f,
+                "wrong dimensions: subscripts at byte {place} of the path, {dimensions} dimensions there"
+            ),
+            Refusal::NoOffset { place, flag } => write!(
+                f,
+                "no offset: flag {flag} at byte {place} of the path"
+            ),
+            Refusal::OffsetTooLarge { offset } => write!(
+                f,
+                "index offset too large: 4294967295 at most, {offset} here"
+            ),
+            Refusal::TooManyAliases { place } => write!(
+                f,
+                "too many aliases: more than 16 at byte {place} of the path"
+            ),
         }
     }
 }
@@ -207,7 +261,7 @@ pub fn ends_meant()
     ensures { EndsMeant }
 {}
 
-/// A number from 1 to 19 and its two figures tell which refusal it is and what it is made of.
+/// A number from 1 to 25 and its two figures tell which refusal it is and what it is made of.
 pub fn figures_meant()
     ensures { FiguresMeant }
 {}

@@ -1,0 +1,2 @@
+mod Spoken
+mod Meant

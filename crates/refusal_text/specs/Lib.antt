@@ -1,0 +1,3 @@
+pub mod Told
+pub mod Phrases
+pub mod Meant
