@@ -17,7 +17,7 @@ use Rattle.writing.specs.Checks.{strings_checked}
 use Rattle.walk.specs.Step.{step_at}
 use Rattle.symbol.specs.Symbol.{symbol_of}
 use Rattle.symbol.specs.Writing.{sections_checked, symbol_checked, symbol_written}
-use Rattle.symbol_find.specs.Find.{is_named, find}
+use Rattle.name_find.specs.Find as any
 use Rattle.field.specs.Front.{with_strings, front_of}
 use Rattle.data_type.specs.DataType.{taken, items_from, arrays_of, type_with, type_at}
 use Rattle.text.specs.Text as text
@@ -25,7 +25,7 @@ use Rattle.lineup.specs.LineUp.{figured}
 use Rattle.lineup.specs.Refusals.{RefusalsLineUp}
 
 pub refusals : RefusalsLineUp
-unfolding le2 le4 ended claim_at claim_of entry-walk.steps_from entry-walk.steps attribute.first_of attribute.ends attribute-block.good_of attribute-block.exact lengths_checked attribute_writing refactor-block.good_of refactor-block.exact refactor.first_of strings_checked step_at symbol_of sections_checked symbol_checked symbol_written is_named find with_strings front_of taken items_from arrays_of type_with type_at text.points text.code_point text.decoded text.decoding text.byte_of text.bytes_of text.encoded_from text.encoding encode_utf8 chars is_utf8 utf8_valid_len
+unfolding le2 le4 ended claim_at claim_of entry-walk.steps_from entry-walk.steps attribute.first_of attribute.ends attribute-block.good_of attribute-block.exact lengths_checked attribute_writing refactor-block.good_of refactor-block.exact refactor.first_of strings_checked step_at symbol_of sections_checked symbol_checked symbol_written any.is_named any.find with_strings front_of taken items_from arrays_of type_with type_at text.points text.code_point text.decoded text.decoding text.byte_of text.bytes_of text.encoded_from text.encoding encode_utf8 chars is_utf8 utf8_valid_len
 refusals m Present =
     record {
       largest = refl;

@@ -34,11 +34,12 @@ use Rattle.name_order.specs.Sorted.{placed, in_order}
 use Rattle.name_order.proofs.Order.{places_weak}
 use Rattle.name_order.proofs.Branches.{sorted_branch, run_of}
 use Rattle.name_order.proofs.Letters.{in_name_order}
-use Rattle.name_index.specs.Named.{TellsName}
-use Rattle.name_index.specs.Index.{name_indexing, is_named, Halves}
+use Rattle.named.specs.Named.{TellsName}
+use Rattle.named.proofs.Told.{told_there}
+use Rattle.name_index.specs.Index.{name_indexing, Halves}
 use Rattle.name_index.specs.Branching.{in_branch, branching}
 use Rattle.name_index.specs.BranchMeaning.{HasName, Halved, too_large, not_found, found, HasBranch, Picks, done, picked, passed, InIndex, NamedMeant, BranchMeant, BranchInIndex}
-use Rattle.name_index.proofs.Told.{told_there}
+use Rattle.name_index.proofs.Placed.{is_named, named_alike, found_alike}
 use Rattle.name_index.proofs.Halving.{find_large, find_within}
 use Rattle.name_index.proofs.Branching.{begins_so, of_the_name, branching_large, branching_within, run_filter}
 use Rattle.name_index.proofs.Meaning.{named_gives, named_so, untouched, slots_are, within_limit, is_index}
@@ -201,19 +202,23 @@ module _ {R : Type 0} (w : NamePlaces) (header : ℕ) (read : Bor (List ℕ) →
       by true h = found small (run_of slots (x ∷ rest) k 1 e) (has_name s name x h)
       by false h = not_found small
 
-  halved_of : (s : Bor (List ℕ)) (slots name : List ℕ) (r : Result ℕ Refusal) → Halves w read s slots name r → Halved header read length_of name_of s slots name r
+  halved_of : (s : Bor (List ℕ)) (slots name : List ℕ) (r : Result ℕ Refusal) → Halves w read name_of s slots name r → Halved header read length_of name_of s slots name r
   halved_of s slots name r h = by (ltb limit (length s.now)) refl
     where
       by : (t : Bool) → ltb limit (length s.now) ≡ t → Halved header read length_of name_of s slots name r
       by true e =
           let large = ltb-true limit (length s.now) e in
-          subst (Halved header read length_of name_of s slots name) (sym (h.one.1 ∙ find_large w read s (take 1 (drop h.one.0 slots)) name large)) (too_large large)
+          subst (Halved header read length_of name_of s slots name) (sym (h.one.1 ∙ found_alike w name_of read told s name (take 1 (drop h.one.0 slots)) ∙ find_large w read s (take 1 (drop h.one.0 slots)) name large)) (too_large large)
       by false e =
           let small = ltb-false limit (length s.now) e in
-          subst (Halved header read length_of name_of s slots name) (sym (h.one.1 ∙ find_within w read s (take 1 (drop h.one.0 slots)) name small)) (one_found s slots name h.one.0 small (drop h.one.0 slots) refl)
+          subst (Halved header read length_of name_of s slots name) (sym (h.one.1 ∙ found_alike w name_of read told s name (take 1 (drop h.one.0 slots)) ∙ find_within w read s (take 1 (drop h.one.0 slots)) name small)) (one_found s slots name h.one.0 small (drop h.one.0 slots) refl)
 
   pub named_meant_of : NamedMeant w header read length_of name_of
-  named_meant_of = record { is = has_name; only = λ s name at small h. name_has s small name at h; halved = halved_of }
+  named_meant_of = record {
+    is = λ s name at h. has_name s name at (sym (named_alike w name_of read told s name at) ∙ h);
+    only = λ s name at small h. named_alike w name_of read told s name at ∙ name_has s small name at h;
+    halved = halved_of;
+  }
 
   pub branch_meant_of : BranchMeant w header read length_of name_of
   branch_meant_of s slots text old new r h = record {

@@ -12,6 +12,7 @@ use Rattle.std.proofs.lemmas.List.Sums.{length-filter}
 use borrow.Author.Tests.{ltb-false, le-ltb, lt-ltb}
 use Rattle.le.proofs.Laws.{not_both}
 use Rattle.refusal.specs.Refusal.{limit}
+use Rattle.refusal.specs.declared.Mode.TheVariants.{Present}
 use Rattle.refusal.specs.declared.Refusal.{Refusal}
 use Rattle.refusal.specs.declared.Refusal.TheVariants.{OutputTooSmall}
 use Rattle.names.specs.Names.{same_name}
@@ -32,9 +33,13 @@ use Rattle.name_order.proofs.Sorted.{mark, Lowest, Rises, none, more, order_move
 use Rattle.name_order.proofs.Least.{first_least, one_least}
 use Rattle.name_order.proofs.Meaning.{same_cmp}
 use Rattle.name_order.proofs.Letters.{in_name_order, name_order_sorted}
-use Rattle.name_index.specs.Index.{name_indexing, is_named, find_indexed, Halves}
+use Rattle.named.specs.Named.{TellsName}
+use Rattle.name_find.specs.Find as by_record
+use Rattle.name_find.proofs.Meaning.{same_find_of}
+use Rattle.name_index.specs.Index.{name_indexing, Halves}
 use Rattle.name_index.specs.Meaning.{IsNameIndex, NameIndexMeant, SameHalved}
 use Rattle.name_index.proofs.Building.{Plainly, plainly, order_long}
+use Rattle.name_index.proofs.Placed.{is_named, find_indexed, found_alike}
 
 -- each that passes a test passes it
 all_filtered : (test : ℕ → Bool) (xs : List ℕ) → All (λ x. test x ≡ true) (filter test xs)
@@ -147,13 +152,6 @@ module _ {R : Type 0} (w : NamePlaces) (read : Bor (List ℕ) → Result R Refus
           behind = p.rest ∙ i.behind;
         }
 
-    halved_as : Writes (name_indexing w read s) old new (Ok n) → (lent plain : List ℕ) (m : ℕ) → Writes (indexing read s) lent plain (Ok m)
-        → (name : List ℕ) (r : Result ℕ Refusal) → Halves w read s (take n new) name r → r ≡ find_indexed w read s (take m plain) name
-    halved_as h lent plain m v name r halves =
-        let holds : take m plain ≡ filter (gives read s) (steps s.now) = ((index_meant_of read steps_are s lent plain (Ok m) v).built m refl).holds in
-        let a : Ascends 0 (take m plain) = subst (Ascends 0) (sym (built read s lent plain m v).first) (starts_ascend_of read steps_are s) in
-        halves.ordered (is_index h).ordered ∙ ap (λ (l : List ℕ). find_indexed w read s l name) (slots_are h ∙ ap (in_order (goes_first w s.now)) (sym holds)) ∙ same_found w read s name (take m plain) a
-
   number_is : (s : Bor (List ℕ)) → length (in_order (goes_first w s.now) (starts (pieces read s))) ≡ needed read s
   number_is s = order_long (goes_first w s.now) (starts (pieces read s)) ∙ ap length (steps_are.starts_are s) ∙ length-filter (gives read s) (steps s.now)
 
@@ -175,5 +173,20 @@ module _ {R : Type 0} (w : NamePlaces) (read : Bor (List ℕ) → Result R Refus
         refused = λ why e. untouched (name_indexing w read s) (subst (Writes (name_indexing w read s) old new) e h);
       }
 
-  pub same_halved_of : SameHalved w read
-  same_halved_of s old new n h lent plain m v name r halves = halved_as s old new n h lent plain m v name r halves
+  module _ (name_of : R → List ℕ) (told : (e : Bor (List ℕ)) (r : R) → read e ≡ Ok r → TellsName w e.now (name_of r)) where
+    halved_as : (s : Bor (List ℕ)) (old new : List ℕ) (n : ℕ) → Writes (name_indexing w read s) old new (Ok n) → (lent plain : List ℕ) (m : ℕ) → Writes (indexing read s) lent plain (Ok m)
+        → (name : List ℕ) (r : Result ℕ Refusal) → Halves w read name_of s (take n new) name r → r ≡ by_record.find_indexed name_of read s (take m plain) name
+    halved_as s old new n h lent plain m v name r halves =
+        let holds : take m plain ≡ filter (gives read s) (steps s.now) = ((index_meant_of read steps_are s lent plain (Ok m) v).built m refl).holds in
+        let a : Ascends 0 (take m plain) = subst (Ascends 0) (sym (built read s lent plain m v).first) (starts_ascend_of read steps_are s) in
+        let alike = found_alike w name_of read told s name in
+        halves.ordered (is_index s old new n h).ordered
+        ∙ alike (take n new)
+        ∙ ap (λ (l : List ℕ). find_indexed w read s l name) (slots_are s old new n h ∙ ap (in_order (goes_first w s.now)) (sym holds))
+        ∙ same_found w read s name (take m plain) a
+        ∙ sym (alike (take m plain))
+
+    pub same_halved_of : SameHalved w read name_of
+    same_halved_of s old new n h lent plain m v name r halves =
+        let e = halved_as s old new n h lent plain m v name r halves in
+        (e, e ∙ same_find_of (λ mode. read) name_of (λ mode. steps_are) Present s lent plain m v name)

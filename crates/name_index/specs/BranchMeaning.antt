@@ -13,7 +13,8 @@ use Rattle.walk.specs.Step.{parse_of}
 use Rattle.name_order.specs.declared.places.NamePlaces.{NamePlaces}
 use Rattle.name_order.specs.Letters.{IsInNameOrder}
 use Rattle.name_order.specs.Branch.{IsRun}
-use Rattle.name_index.specs.Index.{name_indexing, is_named, Halves}
+use Rattle.name_find.specs.Find.{is_named}
+use Rattle.name_index.specs.Index.{name_indexing, Halves}
 use Rattle.name_index.specs.Branching.{branching, HalvesBranch}
 
 module _ {R : Type 0} (header : ℕ) (read : Bor (List ℕ) → Result R Refusal) (length_of : R → ℕ) (name_of : R → List ℕ) (s : Bor (List ℕ)) where
@@ -66,9 +67,9 @@ module _ {R : Type 0} (header : ℕ) (read : Bor (List ℕ) → Result R Refusal
 module _ {R : Type 0} (w : NamePlaces) (header : ℕ) (read : Bor (List ℕ) → Result R Refusal) (length_of : R → ℕ) (name_of : R → List ℕ) where
   -- what it is that a name is found at, and what halving answers
   pub record NamedMeant : Type 0 where
-    pub is : (s : Bor (List ℕ)) (name : List ℕ) (at : ℕ) → is_named w read s name at ≡ true → HasName header read length_of name_of s name at
-    pub only : (s : Bor (List ℕ)) (name : List ℕ) (at : ℕ) → length s.now ≤ limit → HasName header read length_of name_of s name at → is_named w read s name at ≡ true
-    pub halved : (s : Bor (List ℕ)) (slots name : List ℕ) (r : Result ℕ Refusal) → Halves w read s slots name r → Halved header read length_of name_of s slots name r
+    pub is : (s : Bor (List ℕ)) (name : List ℕ) (at : ℕ) → is_named name_of read s name at ≡ true → HasName header read length_of name_of s name at
+    pub only : (s : Bor (List ℕ)) (name : List ℕ) (at : ℕ) → length s.now ≤ limit → HasName header read length_of name_of s name at → is_named name_of read s name at ≡ true
+    pub halved : (s : Bor (List ℕ)) (slots name : List ℕ) (r : Result ℕ Refusal) → Halves w read name_of s slots name r → Halved header read length_of name_of s slots name r
 
   abbrev pub BranchMeant : Type 0
   BranchMeant = (s : Bor (List ℕ)) (slots text old new : List ℕ) (r : Result ℕ Refusal) → Writes (branching w read s slots text) old new r → Answers header read length_of name_of s slots text old new r

@@ -16,8 +16,9 @@ use Rattle.index.specs.Meaning.{needed}
 use Rattle.symbol_find.specs.Find as symbols
 use Rattle.name_order.specs.declared.places.NamePlaces.{NamePlaces}
 use Rattle.name_order.specs.Letters.{IsInNameOrder}
-use Rattle.name_index.specs.Kinds.{symbol_places}
-use Rattle.name_index.specs.Index.{name_indexing, find_indexed, InOrder, Halves}
+use Rattle.named.specs.Kinds.{symbol_places}
+use Rattle.name_find.specs.Find.{find, find_indexed}
+use Rattle.name_index.specs.Index.{name_indexing, InOrder, Halves}
 
 module _ {R : Type 0} (w : NamePlaces) (read : Bor (List ℕ) → Result R Refusal) where
   -- the first n slots are the name index: the places of the steps that give a record, in the order of their names, and the only such list; behind them the slots are as they were
@@ -42,14 +43,14 @@ module _ {R : Type 0} (w : NamePlaces) (read : Bor (List ℕ) → Result R Refus
   abbrev pub NameIndexMeant : Type 0
   NameIndexMeant = (s : Bor (List ℕ)) (old new : List ℕ) (r : Result ℕ Refusal) → Writes (name_indexing w read s) old new r → Meant s old new r
 
-  -- through a name index that was built a name is found by halving as through the index of the upload
-  abbrev pub SameHalved : Type 0
-  SameHalved =
+  -- through a name index that was built a name is found by halving as through the index of the upload, and as without one
+  abbrev pub SameHalved : (R → List ℕ) → Type 0
+  SameHalved name_of =
       (s : Bor (List ℕ)) (old new : List ℕ) (n : ℕ) → Writes (name_indexing w read s) old new (Ok n)
       → (lent plain : List ℕ) (m : ℕ) → Writes (indexing read s) lent plain (Ok m)
-      → (name : List ℕ) (r : Result ℕ Refusal) → Halves w read s (take n new) name r → r ≡ find_indexed w read s (take m plain) name
+      → (name : List ℕ) (r : Result ℕ Refusal) → Halves w read name_of s (take n new) name r → (r ≡ find_indexed name_of read s (take m plain) name) × (r ≡ find name_of read s name)
 
 -- of symbols what is found is what finding of symbols finds: through any slots, and by halving through a name index as without one
 pub record SymbolsFound : Type 0 where
-  pub indexed : (mode : Mode) (s : Bor (List ℕ)) (slots name : List ℕ) → find_indexed symbol_places (symbol_of mode) s slots name ≡ symbols.find_indexed mode s slots name
-  pub walked : (mode : Mode) (s : Bor (List ℕ)) (old new : List ℕ) (n : ℕ) → Writes (name_indexing symbol_places (symbol_of mode) s) old new (Ok n) → (name : List ℕ) (r : Result ℕ Refusal) → Halves symbol_places (symbol_of mode) s (take n new) name r → r ≡ symbols.find mode s name
+  pub indexed : (mode : Mode) (s : Bor (List ℕ)) (slots name : List ℕ) → find_indexed symbols.own_name (symbol_of mode) s slots name ≡ symbols.find_indexed mode s slots name
+  pub walked : (mode : Mode) (s : Bor (List ℕ)) (old new : List ℕ) (n : ℕ) → Writes (name_indexing symbol_places (symbol_of mode) s) old new (Ok n) → (name : List ℕ) (r : Result ℕ Refusal) → Halves symbol_places (symbol_of mode) symbols.own_name s (take n new) name r → r ≡ symbols.find mode s name

@@ -1,36 +1,17 @@
 //! The name index of an upload: its starts in the order of the names there; finding through it by halving, and the branch of a text (docs/FORMAT.md, "Name index").
 #![tactic(auto)]
 
-ghost use Rattle.std.specs.Prelude.{◌≡◌, ◌≤◌, ℕ, List, Ok, filter, find, length};
-ghost use Rattle.std.specs.Borrow.{Bor};
+ghost use Rattle.std.specs.Prelude.{◌≡◌, ◌≤◌, filter, length};
 ghost use Rattle.le.specs.Put.{put};
-ghost use Rattle.refusal.specs.declared.Mode.{Mode};
 ghost use Rattle.writing.specs.Writing.{Writes};
 ghost use Rattle.index.specs.Steps.{gives};
-ghost use Rattle.name_order.specs.declared.places.NamePlaces.{NamePlaces};
-ghost use Rattle.name_index.specs.Named.{TellsName};
-ghost use Rattle.name_index.specs.Index.{name_indexing, is_named, find_indexed, Halves};
+ghost use Rattle.name_index.specs.Index.{name_indexing, Halves};
 ghost use Rattle.name_index.specs.Branching.{in_branch, branching, HalvesBranch};
 
-pub mod kinds;
 pub mod theorems;
 
-use name_order::NamePlaces;
+use named::Named;
 use refusal::{LIMIT, Mode, Refusal};
-use walk::Accepts;
-
-/// A kind of entry that has a name.
-pub trait Named<'a>: Accepts<'a> {
-    ghost places: { NamePlaces };
-
-    // the name, as the record carries it
-    ghost name_of: { Self → List ℕ };
-
-    fn places() -> NamePlaces
-        ensures { result ≡ places };
-
-    ghost told: { (mode : Mode) (e : Bor (List ℕ)) (r : Self) → Self.read mode e ≡ Ok r → TellsName places e.now (name_of r) };
-}
 
 /// Writes where each accepted entry starts, in the order of their names, A to Z equal to a to z, and of the starts where names are the same. A refusal leaves the slots as they were.
 ///
@@ -49,7 +30,7 @@ pub fn build<'a, E: Named<'a>>(
     Ok(count)
 }
 
-// A name or a text that is asked for, of an upload.
+// A text that is asked for, of an upload.
 #[derive(Clone, Copy)]
 struct Asked<'a, 't> {
     bytes: &'a [u8],
@@ -69,21 +50,6 @@ impl<'a> Asked<'a, '_> {
         }
     }
 
-    // Whether it gives one that has the name. The claim, which mostly stands in another cache line than the name, is read last.
-    #[inline(always)]
-    fn is_named<E: Named<'a>>(self, at: usize) -> bool
-        ensures { result ≡ is_named E.places (E.read self.entry.mode) self.entry.bytes self.entry.text.now at }
-    {
-        let name = name_order::name_at(self.bytes, E::places(), at);
-        if name.len() != self.text.len() {
-            return false;
-        }
-        if !names::same_name(name, 0, self.text) {
-            return false;
-        }
-        self.gives::<E>(at)
-    }
-
     // Whether it gives one whose name begins with the text.
     #[inline(always)]
     fn has<E: Named<'a>>(self, at: usize) -> bool
@@ -97,19 +63,6 @@ impl<'a> Asked<'a, '_> {
             return false;
         }
         self.gives::<E>(at)
-    }
-
-    // The first of some slots that has the name.
-    fn first<E: Named<'a>>(self, slots: &[u32]) -> Option<usize>
-        ensures { result ≡ find (is_named E.places (E.read self.entry.mode) self.entry.bytes self.entry.text.now) slots.now }
-    {
-        for slot in slots {
-            let at = *slot as usize;
-            if self.is_named::<E>(at) {
-                return Some(at);
-            }
-        }
-        None
     }
 
     // How many of some slots are in the branch.
@@ -140,33 +93,7 @@ impl<'a> Asked<'a, '_> {
     }
 }
 
-/// The first slot of an index at which a step of the walk gives a record of that name. Any other slot is passed over, whatever it holds.
-///
-/// # Errors
-///
-/// 5 above the limit, 13 where no slot has the name.
-#[tactic(auto, using(crate::proofs::Halving::find_large, crate::proofs::Halving::find_within))]
-pub fn find_indexed<'a, E: Named<'a>>(
-    bytes: &'a [u8],
-    mode: Mode,
-    slots: &[u32],
-    name: &[u8],
-) -> Result<usize, Refusal>
-    ensures { result ≡ find_indexed E.places (E.read mode) bytes.entry slots.now name.now }
-{
-    let length = bytes.len();
-    if length > LIMIT {
-        return Err(Refusal::TooLarge { length });
-    }
-    let asked = Asked {
-        bytes,
-        mode,
-        text: name,
-    };
-    asked.first::<E>(slots).ok_or(Refusal::NameNotFound)
-}
-
-/// The same through a name index, by halving: the first of those that have the name. Any slots may be lent, and through any an entry that is answered has the name.
+/// Finds a name through a name index, by halving: the first of those that have the name. Any slots may be lent, and through any an entry that is answered has the name.
 ///
 /// # Errors
 ///
@@ -177,12 +104,12 @@ pub fn find_ordered<'a, E: Named<'a>>(
     slots: &[u32],
     name: &[u8],
 ) -> Result<usize, Refusal>
-    ensures { Halves E.places (E.read mode) bytes.entry slots.now name.now result }
+    ensures { Halves E.places (E.read mode) E.name_of bytes.entry slots.now name.now result }
 {
     let before = name_order::starts_before(bytes, E::places(), slots, name);
     let rest = &slots[before..];
     let one = rest.len().min(1);
-    find_indexed::<E>(bytes, mode, &rest[..one], name)
+    name_find::find_indexed::<E>(bytes, mode, &rest[..one], name)
 }
 
 /// Writes those of some slots at which an entry starts whose name begins with a text, A to Z equal to a to z, in the slots' order. Any other slot is passed over, whatever it holds. A refusal leaves the lent places as they were.

@@ -5,7 +5,7 @@ ghost use Rattle.refusal.specs.declared.Mode.{Mode};
 ghost use Rattle.name_index.specs.Meaning.{NameIndexMeant, SameHalved, SymbolsFound};
 ghost use Rattle.name_index.specs.BranchMeaning.{NamedMeant, BranchMeant, BranchInIndex};
 
-use crate::Named;
+use named::Named;
 
 /// An upload above the limit is refused by 5; within it one in which a step stands by 10; else too few slots by 6, with how many are needed and how many were lent; else the name index is built: the place of each step that gives a record, in the order of the names, and the only such list. A refusal leaves the slots as they were.
 pub fn name_index_meant<'a, E: Named<'a>>()
@@ -14,7 +14,7 @@ pub fn name_index_meant<'a, E: Named<'a>>()
 
 /// Through a name index that was built a name is found by halving as through the index of the upload.
 pub fn same_halved<'a, E: Named<'a>>()
-    ensures { (mode : Mode) → SameHalved E.places (E.read mode) }
+    ensures { (mode : Mode) → SameHalved E.places (E.read mode) E.name_of }
 {}
 
 /// A name is found exactly where an entry begins that is read by itself and has the name, letter by letter; so what halving answers through any slots is 5 above the limit, and within it 13, or one of the slots that has the name.

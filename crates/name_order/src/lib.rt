@@ -6,6 +6,7 @@ ghost use Rattle.std.specs.List.Sorted.{IsSortedBy, IsPartitionPoint};
 ghost use Rattle.name_order.specs.Order.{name_at, name_cmp, start_cmp, goes_first, named_before};
 ghost use Rattle.name_order.specs.Branch.{front_cmp, is_before, is_no_further, begins_at, IsRun, IsBranch};
 ghost use Rattle.name_order.specs.Sorted.{in_order};
+ghost use Rattle.name_order.specs.Halving.{halved};
 ghost use Rattle.name_order.specs.Meaning.{OrderIsTotal, OneOrder};
 ghost use Rattle.name_order.specs.Letters.{OrderMeant};
 
@@ -106,12 +107,25 @@ pub fn sort_starts(bytes: &[u8], places: NamePlaces, starts: &mut [u32])
     starts.sort_unstable_by(|a, b| compare_starts(bytes, places, *a, *b));
 }
 
-/// How many of some starts have a name before this one: of starts in order, all before the answer and none from it on.
+/// How many of some starts have a name before this one, by halving: of starts in order, all before the answer and none from it on.
 pub fn starts_before(bytes: &[u8], places: NamePlaces, starts: &[u32], name: &[u8]) -> usize
+    ensures value { result ≡ halved (named_before places bytes.now name.now) starts.now }
     ensures within { result ≤ length starts.now }
     ensures parted { IsSortedBy (goes_first places bytes.now) starts.now → IsPartitionPoint (λ at. named_before places bytes.now name.now at ≡ true) (λ at. named_before places bytes.now name.now at ≡ false) starts.now result }
 {
-    starts.partition_point(|at| compare_names(name_at(bytes, places, *at as usize), name).is_lt())
+    let mut rest = starts;
+    let mut before = 0;
+    while !rest.is_empty() {
+        let middle = rest.len() / 2;
+        let at = rest[middle] as usize;
+        if compare_names(name_at(bytes, places, at), name).is_lt() {
+            before += middle + 1;
+            rest = &rest[middle + 1..];
+        } else {
+            rest = &rest[..middle];
+        }
+    }
+    before
 }
 
 // How many of some starts come before all names that begin with a text.

@@ -1,34 +1,27 @@
--- Finding a symbol by its name, in a mode (docs/FORMAT.md, "Finding").
-use Rattle.std.specs.Prelude.{ℕ, Bool, false, List, ltb, length, Option, Some, None, Result, Ok, Err, ok_or, if◌then◌else◌}
-use Rattle.std.specs.List.{find as first_of, list_any}
+-- Finding a symbol by its name, in a mode (docs/FORMAT.md, "Finding"): finding of any kind of entry, of symbols.
+use Rattle.std.specs.Prelude.{ℕ, Bool, List, Option, Result}
 use Rattle.std.specs.Borrow.{Bor}
-use Rattle.refusal.specs.Refusal.{limit}
 use Rattle.refusal.specs.declared.Mode.{Mode}
 use Rattle.refusal.specs.declared.Refusal.{Refusal}
-use Rattle.refusal.specs.declared.Refusal.TheVariants.{TooLarge, ZeroEntryLength, NameNotFound}
-use Rattle.names.specs.Names.{same_name}
-use Rattle.entry.specs.Walk.{stands, steps}
-use Rattle.walk.specs.Step.{step_at}
 use Rattle.symbol.specs.declared.AdsSymbolInfo.{AdsSymbolInfo}
 use Rattle.symbol.specs.Symbol.{symbol_of}
+use Rattle.name_find.specs.Find as any
+
+-- the name that it carries
+abbrev pub own_name : AdsSymbolInfo → List ℕ
+own_name symbol = symbol.name.now
 
 abbrev pub has_name : List ℕ → Option (Result AdsSymbolInfo Refusal) → Bool
-has_name name None = false
-has_name name (Some (Ok symbol)) = same_name symbol.name.now name
-has_name name (Some (Err why)) = false
+has_name = any.has_name own_name
 
 -- a step of the walk from here gives a symbol of that name
-unfoldable pub is_named : Mode → Bor (List ℕ) → List ℕ → ℕ → Bool
-is_named mode s name at = has_name name (step_at (symbol_of mode) s at).answer
+abbrev pub is_named : Mode → Bor (List ℕ) → List ℕ → ℕ → Bool
+is_named mode = any.is_named own_name (symbol_of mode)
 
--- without an index, the first of the walk's steps: 5; a match before a zero claim is answered; else 10, else 13
-unfoldable pub find : Mode → Bor (List ℕ) → List ℕ → Result ℕ Refusal
-find mode s name =
-    if ltb limit (length s.now) then Err (TooLarge (length s.now))
-    else ok_or (first_of (is_named mode s name) (steps s.now)) (if list_any (stands s.now) (steps s.now) then ZeroEntryLength else NameNotFound)
+-- without an index
+abbrev pub find : Mode → Bor (List ℕ) → List ℕ → Result ℕ Refusal
+find mode = any.find own_name (symbol_of mode)
 
--- through an index, the first of its slots, whatever they hold: 5, else 13
-unfoldable pub find_indexed : Mode → Bor (List ℕ) → List ℕ → List ℕ → Result ℕ Refusal
-find_indexed mode s slots name =
-    if ltb limit (length s.now) then Err (TooLarge (length s.now))
-    else ok_or (first_of (is_named mode s name) slots) NameNotFound
+-- through an index
+abbrev pub find_indexed : Mode → Bor (List ℕ) → List ℕ → List ℕ → Result ℕ Refusal
+find_indexed mode = any.find_indexed own_name (symbol_of mode)

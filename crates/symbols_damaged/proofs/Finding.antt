@@ -28,6 +28,7 @@ use Rattle.symbol.specs.Symbol.{symbol_of}
 use Rattle.symbol.specs.Told.{Told, told_of}
 use Rattle.symbol.specs.Kind as kind
 use Rattle.symbol.proofs.Anywhere.{symbols_anywhere}
+use Rattle.name_find.specs.Find as any
 use Rattle.symbol_find.specs.Find.{has_name, is_named, find, find_indexed}
 use Rattle.symbol_find.specs.Meaning.{HasName}
 use Rattle.symbol_find.proofs.Meaning.{found_is_first, symbols_by_steps, same_find}
@@ -52,7 +53,7 @@ name_told name (Some (Ok symbol)) = refl
 
 module _ (mode : Mode) (s : Bor (List ℕ)) (name : List ℕ) (small : length s.now ≤ limit) where
   slot_found : (p : ℕ) → is_named mode s name p ≡ true → find_indexed mode s (p ∷ []) name ≡ Ok p
-  unfolding find_indexed
+  unfolding any.find_indexed
   slot_found p e = simp (le-ltb limit (length s.now) small, e)
 
   -- a place that has not the name passes no test for it
@@ -100,7 +101,7 @@ attribute_by name (Some (Ok symbol)) = ap Some (named_tells (listed symbol.attri
 module _ (mode : Mode) (s t : Bor (List ℕ)) (places name : List ℕ) (d : DiffersInside s.now t.now places)
     (none_s : (p : ℕ) → among places p ≡ true → HasName mode s name p → ⊥) (none_t : (p : ℕ) → among places p ≡ true → HasName mode t name p → ⊥) where
   named_other : (at : ℕ) → among (steps s.now) at ≡ true → among places at ≡ false → is_named mode s name at ≡ is_named mode t name at
-  unfolding is_named
+  unfolding any.is_named
   named_other at h off =
       sym (name_told name (step_at (symbol_of mode) s at).answer)
       ∙ ap (told_name name) (stays.answer_alike (symbol_of mode) told_of s t places d (λ at size e. symbols_anywhere mode (part s at size) (part t at size) e) at (inl h) off)
@@ -123,7 +124,7 @@ module _ (mode : Mode) (s t : Bor (List ℕ)) (places name : List ℕ) (d : Diff
       ∙ ap (λ (l : List ℕ). list_any (stands t.now) l) w.begin
 
   find_by : (b : Bool) → ltb limit (length s.now) ≡ b → ltb limit (length t.now) ≡ b → find mode s name ≡ find mode t name
-  unfolding find
+  unfolding any.find
   find_by true e f = simp (e, f) (ap (λ (n : ℕ). Err (TooLarge n)) d.long)
   find_by false e f =
       let small : length s.now ≤ limit = ltb-false limit (length s.now) e in
@@ -140,7 +141,7 @@ module _ (mode : Mode) (s t : Bor (List ℕ)) (places name : List ℕ) (d : Diff
   own_alike a b x y = as_without mode s name x ∙ find_alike ∙ sym (as_without mode t name y)
 
   crossed_by : (b : Bool) (a : List ℕ) → ltb limit (length s.now) ≡ b → ltb limit (length t.now) ≡ b → IsIndex mode s a → find_indexed mode t a name ≡ find_indexed mode s a name
-  unfolding find_indexed
+  unfolding any.find_indexed
   crossed_by true a e f x = simp (e, f) (ap (λ (n : ℕ). Err (TooLarge n)) (sym d.long))
   crossed_by false a e f x =
       let small : length s.now ≤ limit = ltb-false limit (length s.now) e in

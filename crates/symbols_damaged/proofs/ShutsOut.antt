@@ -28,6 +28,7 @@ use Rattle.layout.specs.Layout.{guid_of}
 use Rattle.symbol.specs.Symbol.{attributes_of, extended_of, refactor_infos_of, with_strings, symbol_ended, ended_symbol, symbol_of}
 use Rattle.symbol.specs.Kind as kind
 use Rattle.attribute.specs.Attribute.{ends}
+use Rattle.name_find.specs.Find as any
 use Rattle.symbol_find.specs.Find.{is_named}
 use Rattle.symbol_find.specs.Meaning.{HasName}
 use Rattle.listing.specs.Row.{entry_row}
@@ -74,9 +75,9 @@ module _ (mode : Mode) (s : Bor (List ℕ)) (name : List ℕ) (at : ℕ) (small 
       simp (steps_there n k there claim) (ap Some (ap (λ (e : Bor (List ℕ)). symbol_of mode e) (sym whole) ∙ h))
 
   named_of : HasName mode s name at → is_named mode s name at ≡ true
-  unfolding is_named
+  unfolding any.is_named
   named_of h =
-      let g = given h.symbol.length h.symbol refl (claim_of 30 (part s at h.symbol.length).now) refl h.read in
+      let g = given h.entry.length h.entry refl (claim_of 30 (part s at h.entry.length).now) refl h.alone in
       simp g h.named
 
 abbrev lying : List ℕ → Bor (List ℕ)
@@ -113,11 +114,11 @@ differs = record {
 
 -- neither version of the first has the name A
 first_not : is_named Checked (lying good) (65 ∷ []) 0 ≡ false
-unfolding le2 le4 claim_at step_at folded same_name guid_of attributes_of extended_of refactor_infos_of with_strings symbol_ended ends ended ended_symbol symbol_of is_named
+unfolding le2 le4 claim_at step_at folded same_name guid_of attributes_of extended_of refactor_infos_of with_strings symbol_ended ends ended ended_symbol symbol_of any.is_named
 first_not = refl
 
 bad_not : is_named Checked (lying bad) (65 ∷ []) 0 ≡ false
-unfolding le2 le4 claim_at step_at folded same_name guid_of attributes_of extended_of refactor_infos_of with_strings symbol_ended ends ended ended_symbol symbol_of is_named
+unfolding le2 le4 claim_at step_at folded same_name guid_of attributes_of extended_of refactor_infos_of with_strings symbol_ended ends ended ended_symbol symbol_of any.is_named
 bad_not = refl
 
 none_has : (s : List ℕ) → length s ≤ limit → is_named Checked (lying s) (65 ∷ []) 0 ≡ false → (p : ℕ) → among (0 ∷ []) p ≡ true → HasName Checked (lying s) (65 ∷ []) p → ⊥
@@ -128,11 +129,11 @@ found_or (Ok at) = at
 found_or (Err why) = 0
 
 good_found : found_or (ends_at_refused Checked (lying good) (65 ∷ [])) ≡ 33
-unfolding le2 le4 claim_at steps steps_from step_at folded same_name guid_of attributes_of extended_of refactor_infos_of with_strings symbol_ended ends ended ended_symbol symbol_of is_named found_or
+unfolding le2 le4 claim_at steps steps_from step_at folded same_name guid_of attributes_of extended_of refactor_infos_of with_strings symbol_ended ends ended ended_symbol symbol_of any.is_named found_or
 good_found = refl
 
 bad_found : found_or (ends_at_refused Checked (lying bad) (65 ∷ [])) ≡ 0
-unfolding le2 le4 claim_at steps steps_from step_at folded same_name guid_of attributes_of extended_of refactor_infos_of with_strings symbol_ended ends ended ended_symbol symbol_of is_named found_or
+unfolding le2 le4 claim_at steps steps_from step_at folded same_name guid_of attributes_of extended_of refactor_infos_of with_strings symbol_ended ends ended ended_symbol symbol_of any.is_named found_or
 bad_found = refl
 
 -- the first character of the first row

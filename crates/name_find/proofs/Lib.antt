@@ -1,0 +1,5 @@
+pub mod Looks
+pub mod Search
+pub mod Named
+pub mod Meaning
+pub mod Useless

@@ -1,7 +1,0 @@
-use Rattle.std.proofs.Common.{ap, ◌∙◌}
-use Rattle.std.specs.Prelude.{is_ok}
-use Rattle.walk.proofs.Mapped.{ok_mapped}
-use Rattle.symbol_find.proofs.is_symbol.Goals as goal
-
-pub returns : goal.returns
-returns c = c.is_ok.ensures.value ∙ ap is_ok c.accepts.ensures ∙ ok_mapped _ _
