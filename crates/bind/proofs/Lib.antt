@@ -1,0 +1,9 @@
+pub mod Members
+pub mod Prefixes
+pub mod Along
+pub mod Rig
+pub mod Edges
+pub mod Meaning
+pub mod Alone
+pub mod Adding
+pub mod Letters

@@ -1,0 +1,4 @@
+pub mod Letters
+pub mod Cases
+pub mod Longest
+pub mod Nesting

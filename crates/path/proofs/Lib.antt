@@ -1,0 +1,4 @@
+pub mod Laws
+pub mod Shorter
+pub mod Meaning
+pub mod Texts
