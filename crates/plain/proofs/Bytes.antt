@@ -1,9 +1,8 @@
 -- Bytes as the numbers, strings and sections that they are.
-use Rattle.std.proofs.Common.{ℕ, zero, suc, ◌+◌, ◌-◌, ◌*◌, ◌/◌, ◌%◌, ◌<◌, ◌≤◌, ◌≡◌, refl, sym, ap, ap₂, ◌∙◌, Bool, true, false, List, [], ◌∷◌, ◌++◌, length, take, drop, get_or, arith, length-drop}
-use Rattle.std.specs.Prelude.{ltb, leb, if◌then◌else◌}
+use Rattle.std.proofs.Common.{ℕ, zero, suc, ◌+◌, ◌*◌, ◌/◌, ◌%◌, ◌<◌, ◌≤◌, ◌≡◌, refl, sym, ap, ap₂, ◌∙◌, Bool, true, false, List, [], ◌∷◌, ◌++◌, length, take, drop, get_or, arith}
+use Rattle.std.specs.Prelude.{ltb}
 use Rattle.std.specs.List.{All}
 use borrow.Author.Tests.{ltb-true, ltb-false}
-use Rattle.std.proofs.lemmas.List.{drop_all}
 use Rattle.le.specs.Le.{le2, le4, bytes2, bytes4, part}
 use mathlib.Core.List.{append_assoc}
 use Rattle.le.proofs.Laws.{drop_part}

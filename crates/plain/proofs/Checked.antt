@@ -8,7 +8,6 @@ use Rattle.symbol.specs.Symbol.{symbol_of}
 use Rattle.symbol.specs.Told.{Told, told_of, meant}
 use Rattle.symbol.specs.Again.{new_of}
 use Rattle.symbol.proofs.Modes.{symbols_modes}
-use Rattle.plain.specs.Form.{HoldsBytes, IsWrittenSo}
 use Rattle.plain.specs.Meaning.{PlainChecked}
 use Rattle.plain.proofs.Read.{read_again}
 

@@ -1,5 +1,5 @@
 -- Plain entries that tell the same are the same bytes: proved.
-use Rattle.std.proofs.Common.{ℕ, ◌<◌, ◌≡◌, refl, sym, ap, ◌∙◌, subst, List, [], take, drop, Ok, Result, Bor}
+use Rattle.std.proofs.Common.{ℕ, ◌<◌, ◌≡◌, sym, ap, ◌∙◌, subst, List, [], Ok, Result, Bor}
 use Rattle.std.specs.List.{All}
 use Rattle.std.proofs.lemmas.List.Elements.{All-drop, All-take}
 use Rattle.refusal.specs.declared.Mode.TheVariants.{Present}
@@ -7,7 +7,7 @@ use Rattle.refusal.specs.declared.Refusal.{Refusal}
 use Rattle.walk.specs.Mapped.{map_ok}
 use Rattle.symbol.specs.declared.AdsSymbolInfo.{AdsSymbolInfo}
 use Rattle.symbol.specs.Symbol.{symbol_of}
-use Rattle.symbol.specs.Told.{Told, told_of, meant}
+use Rattle.symbol.specs.Told.{Told, told_of}
 use Rattle.symbol.specs.Again.{new_of}
 use Rattle.symbol.proofs.Accepted.{accepted_is}
 use Rattle.symbol.proofs.Again.{symbols_cut}

@@ -1,28 +1,24 @@
 -- The two statements of plain form are the same: proved.
-use Rattle.std.proofs.Common.{ℕ, ◌+◌, ◌-◌, ◌<◌, ◌≤◌, ◌≡◌, refl, sym, ap, ap₂, ◌∙◌, subst, Bool, true, false, List, [], ◌∷◌, ◌++◌, length, take, drop, get_or, arith, Bor, length-drop, Ok, Err, Result, append-nil, length-append}
-use Rattle.std.specs.Prelude.{Option, Some, None, is_some, ltb, leb, eqb, if◌then◌else◌}
-use mathlib.Core.List.{append_assoc}
-use lib.Seq.{drop-append_seam}
-use Rattle.le.specs.Le.{le2, le4, has, bytes2, bytes4}
-use Rattle.le.proofs.Laws.{le2_bytes2, le4_bytes4}
-use Rattle.part.specs.End.{rest_at}
+use Rattle.std.proofs.Common.{ℕ, ◌≤◌, ◌≡◌, refl, sym, ap, ◌∙◌, Bool, true, false, List, length, arith, Bor, Ok, Err, Result}
+use Rattle.std.specs.Prelude.{Option, Some, None, is_some}
+use Rattle.le.specs.Le.{has}
 use Rattle.refusal.specs.declared.Refusal.{Refusal}
 use Rattle.refusal.specs.declared.Mode.TheVariants.{Present}
 use Rattle.writing.specs.Checks.{IsShort}
 use Rattle.symbol.specs.declared.AdsSymbolInfo.{AdsSymbolInfo}
 use Rattle.symbol.specs.declared.writer.NewSymbol.{NewSymbol}
 use Rattle.symbol.specs.Symbol.{extended_word, symbol_of}
-use Rattle.symbol.specs.Inside.{behind_strings, behind_guid, behind_attributes}
-use Rattle.symbol.specs.Writing.{symbol_bytes, symbol_written}
-use Rattle.symbol.specs.Barred.{size_of, HasGoodParts, IsBarred, name, type_name, comment, count, attributes, refactor_infos, guid, unflagged_attributes, unflagged_word, chain, size}
+use Rattle.symbol.specs.Inside.{behind_guid}
+use Rattle.symbol.specs.Writing.{symbol_written}
+use Rattle.symbol.specs.Barred.{IsBarred, name, type_name, comment, count, attributes, refactor_infos, guid, unflagged_attributes, unflagged_word, chain, size}
 use Rattle.symbol.specs.Again.{new_of}
 use Rattle.symbol.proofs.Barred.{symbols_barred}
 use Rattle.symbol.proofs.Writable.{size_is}
 use Rattle.symbol.proofs.Accepted.{accepted_is}
-use Rattle.plain.specs.Form.{HoldsBytes, IsWrittenSo, IsComplete, IsInForm, PlainInForm}
+use Rattle.plain.specs.Form.{HoldsBytes, IsWrittenSo, IsInForm}
 use Rattle.plain.proofs.Bytes.{two_small}
-use Rattle.plain.proofs.Formed.{typed, lies, unflagged, bytes_are, cuts}
-use Rattle.plain.proofs.Good.{good_attributes_pass, passed_attributes_good, good_records_pass, passed_records_good}
+use Rattle.plain.proofs.Formed.{typed, lies, unflagged, bytes_are}
+use Rattle.plain.proofs.Good.{good_attributes_pass, good_records_pass}
 
 module _ (e : Bor (List ℕ)) (r : AdsSymbolInfo) (h : HoldsBytes e) (read : symbol_of Present e ≡ Ok r) where
   abbrev n : NewSymbol

@@ -1,14 +1,13 @@
 -- An entry in form is what is written of its record.
-use Rattle.std.proofs.Common.{ℕ, zero, suc, ◌+◌, ◌-◌, ◌<◌, ◌≤◌, ◌≡◌, refl, sym, ap, ap₂, ◌∙◌, subst, Bool, true, false, List, [], ◌∷◌, ◌++◌, length, take, drop, get_or, arith, Bor, length-drop, Ok, Err, Result, append-nil}
-use Rattle.std.specs.Prelude.{Option, Some, None, is_some, ltb, leb, if◌then◌else◌}
+use Rattle.std.proofs.Common.{ℕ, ◌+◌, ◌-◌, ◌<◌, ◌≤◌, ◌≡◌, refl, sym, ap, ap₂, ◌∙◌, subst, Bool, true, false, List, [], ◌∷◌, ◌++◌, length, take, drop, get_or, arith, Bor, length-drop, Ok, append-nil}
+use Rattle.std.specs.Prelude.{Option, Some, None, is_some, leb, if◌then◌else◌}
 use Rattle.std.proofs.lemmas.List.{drop_all}
 use lib.Seq.{length-take-le}
 use mathlib.Core.List.{append_assoc}
-use borrow.Author.Tests.{le-leb, leb-true, leb-false}
+use borrow.Author.Tests.{le-leb, leb-true}
 use Rattle.le.specs.Le.{le2, le4, has, bytes2, bytes4, part}
 use Rattle.le.proofs.Laws.{drop_part}
-use Rattle.part.specs.Slice as slice
-use Rattle.part.specs.End.{IsEnd, IsString, rest_at}
+use Rattle.part.specs.End.{IsString, rest_at}
 use Rattle.part.proofs.Slice.{end_self}
 use Rattle.refusal.specs.declared.Mode.TheVariants.{Present}
 use Rattle.flags.specs.declared.symbol_flags.AdsSymbol2Flags.{AdsSymbol2Flags}
@@ -17,18 +16,17 @@ use Rattle.attribute.proofs.Laws.{after_none}
 use Rattle.attribute.specs.Attribute as attribute
 use Rattle.writing.specs.Layout.{lengths_bytes, string_bytes, strings_bytes, attributes_bytes, entry_bytes}
 use Rattle.symbol.specs.declared.AdsSymbolInfo.{AdsSymbolInfo}
-use Rattle.symbol.specs.declared.writer.NewSymbol.{NewSymbol}
 use Rattle.symbol.specs.Symbol.{extended_word, symbol_of}
 use Rattle.symbol.specs.Told.{IsSixteen, IsTyped}
 use Rattle.symbol.specs.Inside.{behind_strings, behind_guid, behind_attributes, is_there, IsInside}
 use Rattle.symbol.specs.ReadOn.{Shows, all, up_to, announced, IsReadOn}
-use Rattle.symbol.specs.Writing.{flagged, numbers_bytes, header_bytes, guid_bytes, extended_bytes, sections_bytes, symbol_bytes, symbol_written}
+use Rattle.symbol.specs.Writing.{numbers_bytes, header_bytes, guid_bytes, extended_bytes, sections_bytes, symbol_bytes}
 use Rattle.symbol.specs.Again.{new_of, IsCut}
 use Rattle.symbol.proofs.Again.{symbols_cut}
 use Rattle.symbol.proofs.Lies.{symbols_inside}
 use Rattle.symbol.proofs.ReadOn.{symbols_read_on}
 use Rattle.symbol.proofs.Header.{body_of}
-use Rattle.plain.specs.Form.{HoldsBytes, IsComplete, IsInForm}
+use Rattle.plain.specs.Form.{HoldsBytes, IsInForm}
 use Rattle.plain.proofs.Bytes.{two_then, four_then, string_then, two_small, four_small}
 
 -- the GUID and the extended flags, by whether they are there

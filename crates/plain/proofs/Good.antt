@@ -1,7 +1,6 @@
 -- Good records one after another are a block that passes, and no other block does.
-use Rattle.std.proofs.Common.{ℕ, suc, ◌+◌, ◌<◌, ◌≡◌, refl, sym, subst, ◌∙◌, Bool, List, length, drop, Ok, Err, Result, arith, Bor}
+use Rattle.std.proofs.Common.{ℕ, suc, ◌+◌, ◌<◌, ◌≡◌, refl, sym, subst, ◌∙◌, List, length, drop, Ok, arith, Bor}
 use Rattle.std.specs.Prelude.{ltb}
-use Rattle.refusal.specs.declared.Refusal.{Refusal}
 use Rattle.attribute.specs.Block as attribute
 use Rattle.attribute.specs.BlockMeant as attributes
 use Rattle.attribute.specs.BlockMeant.{none as no_attribute, one_more as an_attribute, passes as attributes_pass, longer as attributes_longer, fewer as attributes_fewer}

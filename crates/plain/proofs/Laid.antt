@@ -1,5 +1,5 @@
 -- What is written of a symbol, part by part, as it is compared.
-use Rattle.std.proofs.Common.{◌≡◌, ℕ, ◌+◌, Bool, true, false, List, [], ◌∷◌, ◌++◌, length, Ok, Err, Result, refl, sym, ap, ◌∙◌, ◌≤◌, arith}
+use Rattle.std.proofs.Common.{◌≡◌, ℕ, Bool, true, false, List, [], ◌∷◌, ◌++◌, length, Ok, Err, Result, refl, sym, ap, ◌∙◌, ◌≤◌, arith}
 use Rattle.std.specs.Prelude.{if◌then◌else◌}
 use Rattle.le.specs.Le.{bytes2, bytes4}
 use Rattle.part.specs.Outcome.{and_then}
@@ -13,7 +13,7 @@ use Rattle.writing.specs.Checks.{IsShort}
 use Rattle.writing.proofs.Entry.{claimed}
 use Rattle.symbol.proofs.Accepted.{accepted_is}
 use Rattle.plain.specs.Plain.{along}
-use Rattle.plain.proofs.Parts.{along_append, along_empty}
+use Rattle.plain.proofs.Parts.{along_append}
 
 -- the first part, and those behind it
 part_then : (e : List ℕ) (at : ℕ) (xs ys : List ℕ) (more : ℕ → Result ℕ ℕ) → ((next : ℕ) → along e next ys ≡ more next) → along e at (xs ++ ys) ≡ and_then (along e at xs) more

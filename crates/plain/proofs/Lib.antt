@@ -7,5 +7,7 @@ pub mod Good
 pub mod Form
 pub mod Read
 pub mod Faithful
+pub mod Own
 pub mod Meaning
+pub mod Placed
 pub mod Checked

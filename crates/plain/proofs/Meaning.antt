@@ -17,10 +17,10 @@ use Rattle.symbol.specs.declared.AdsSymbolInfo.{AdsSymbolInfo}
 use Rattle.symbol.specs.Symbol.{symbol_of}
 use Rattle.symbol.specs.Writing.{symbol_written}
 use Rattle.symbol.specs.Again.{new_of}
-use Rattle.part.specs.Slice.{part}
 use Rattle.plain.proofs.Bytes.{byte_then}
+use Rattle.plain.proofs.Own.{finishes}
 use Rattle.plain.specs.Plain.{stands, along, at_end, departing, placed, piece_plain, pieces_plain, plain_of}
-use Rattle.plain.specs.Meaning.{Departs, IsPlain, NotSo, refused, unwritten, departs, Told, plain, first, PlainMeant}
+use Rattle.plain.specs.Meaning.{Departs, Departing, nowhere, at_start, at_place, DepartingMeant, own, IsPlain, NotSo, refused, unwritten, departs, Told, plain, first, PlainMeant}
 
 -- what is found of bytes from a place of an entry on, by the lists
 data Along (e bs : List ℕ) (at : ℕ) : Result ℕ ℕ → Type 0 where
@@ -92,24 +92,32 @@ compared_is e bytes = by (along e 0 bytes) (along_is e bytes 0)
     by (Ok next) (stand n l h) = at_end_is e bytes next (omega arith) h (eqb next (length e)) refl
     by (Err place) (apart p k l h not) = let here : k ≡ place = omega arith in apart_at place (subst (λ (k : ℕ). Departs e bytes k) here (record { before = h; there = not }))
 
+-- an entry that was read
+departing_by : (e : List ℕ) (r : AdsSymbolInfo) (w : Result (List ℕ) Refusal) → symbol_written (new_of r) ≡ w → Departing e r (outcome w (λ bytes. and_then (along e 0 bytes) (at_end e)) (λ why. Err 0))
+departing_by e r (Ok bytes) w = by (compared_is e bytes)
+  where
+    by : {t : Result Unit ℕ} → Compared e bytes t → Departing e r t
+    by (same q) = nowhere (w ∙ ap Ok (sym q))
+    by (apart_at place d) = at_place bytes place w d
+departing_by e r (Err why) w = at_start why w
+
+pub departing_meant : DepartingMeant
+unfolding departing
+departing_meant e r = departing_by e r (symbol_written (new_of r)) refl
+
 module _ (s : Bor (List ℕ)) where
   data Piecewise (p : Piece AdsSymbolInfo) : Result Unit Refusal → Type 0 where
     is_plain : IsPlain s p → Piecewise p (Ok tt)
     not_plain : {why : Refusal} → NotSo s p why → Piecewise p (Err why)
 
-  -- an entry that was read
-  read_is : (p : Piece AdsSymbolInfo) (r : AdsSymbolInfo) → p.answer ≡ Ok r → (w : Result (List ℕ) Refusal) → symbol_written (new_of r) ≡ w
-      → Piecewise p (placed p.start (outcome w (λ bytes. and_then (along (part s p.start (p.end - p.start)).now 0 bytes) (at_end (part s p.start (p.end - p.start)).now)) (λ why. Err 0)))
-  read_is p r h (Ok bytes) w = by (compared_is (part s p.start (p.end - p.start)).now bytes)
-    where
-      by : {t : Result Unit ℕ} → Compared (part s p.start (p.end - p.start)).now bytes t → Piecewise p (placed p.start t)
-      by (same q) = is_plain (record { read = r; is = h; written = w ∙ ap Ok (sym q) })
-      by (apart_at place d) = not_plain (departs r bytes place h w d)
-  read_is p r h (Err why) w = let start : p.start ≡ p.start + 0 = omega arith in subst (λ (k : ℕ). Piecewise p (Err (NotPlain k))) start (not_plain (unwritten r why h w))
+  read_is : (p : Piece AdsSymbolInfo) (r : AdsSymbolInfo) → p.answer ≡ Ok r → {t : Result Unit ℕ} → Departing (own s p).now r t → Piecewise p (placed p.start t)
+  read_is p r h (nowhere w) = is_plain (record { read = r; is = h; written = w })
+  read_is p r h (at_start why w) = let start : p.start ≡ p.start + 0 = omega arith in subst (λ (k : ℕ). Piecewise p (Err (NotPlain k))) start (not_plain (unwritten r why h w))
+  read_is p r h (at_place bytes at w d) = not_plain (departs r bytes at h w d)
 
   piece_is : (p : Piece AdsSymbolInfo) (t : Result AdsSymbolInfo Refusal) → p.answer ≡ t → Piecewise p (and_then t (λ r. placed p.start (departing (le.part s.now p.start (p.end - p.start)) r)))
-  unfolding departing le.part
-  piece_is p (Ok r) h = read_is p r h (symbol_written (new_of r)) refl
+  unfolding le.part
+  piece_is p (Ok r) h = read_is p r h (departing_meant (own s p).now r)
   piece_is p (Err why) h = not_plain (refused h)
 
   data From (ps : List (Piece AdsSymbolInfo)) : Result Unit Refusal → Type 0 where
@@ -130,7 +138,7 @@ module _ (s : Bor (List ℕ)) where
       by (not_plain not) more = first_from [] ps p refl (All-nil (IsPlain s)) not
 
   told_is : {t : Result Unit Refusal} → From (pieces (symbol_of Present) s) t → Told s t
-  told_is (plain_from all) = plain all
+  told_is (plain_from all) = plain (finishes s all) all
   told_is (first_from before behind p e all not) = first before behind p e all not
 
 pub plain_meant : PlainMeant

@@ -1,12 +1,12 @@
 -- Bytes compared one at a time, and parts of them one after another.
-use Rattle.std.proofs.Common.{◌≡◌, ◌<◌, ◌≤◌, ℕ, zero, suc, ◌+◌, Bool, true, false, List, [], ◌∷◌, ◌++◌, length, drop, get_or, Ok, Err, Result, refl, sym, ap, ap₂, ◌∙◌, arith, ◌/◌, ◌%◌, ◌^◌}
-use Rattle.std.specs.Prelude.{ltb, eqb, if◌then◌else◌}
+use Rattle.std.proofs.Common.{◌≡◌, ◌<◌, ◌≤◌, ℕ, zero, suc, ◌+◌, Bool, true, false, List, [], ◌∷◌, ◌++◌, length, drop, get_or, Ok, Err, Result, refl, ap, ap₂, ◌∙◌, arith, ◌/◌, ◌%◌, ◌^◌}
+use Rattle.std.specs.Prelude.{if◌then◌else◌}
 use Rattle.std.proofs.lemmas.List.{drop_all}
-use Rattle.std.specs.Int.{to_le_bytes, bytes_low_first}
+use Rattle.std.specs.Int.{to_le_bytes}
 use Rattle.std.proofs.Common.{w16, w32}
 use Rattle.le.specs.Le.{bytes2, bytes4}
 use Rattle.part.specs.Outcome.{and_then}
-use Rattle.plain.specs.Plain.{stands, along, IsInside}
+use Rattle.plain.specs.Plain.{stands, along}
 
 drop_turn : (bs : List ℕ) (i : ℕ) → i < length bs → drop i bs ≡ get_or bs i 0 ∷ drop (suc i) bs
 drop_turn [] i h = absurd (omega arith)

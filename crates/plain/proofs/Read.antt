@@ -1,11 +1,9 @@
 -- An entry that is what is written of its record is in form.
-use Rattle.std.proofs.Common.{ℕ, ◌+◌, ◌-◌, ◌<◌, ◌≤◌, ◌≡◌, refl, sym, ap, ap₂, ◌∙◌, subst, Bool, true, false, List, [], ◌∷◌, ◌++◌, length, drop, get_or, arith, Bor, length-drop, drop-drop, Ok, append-nil}
-use Rattle.std.specs.Prelude.{Option, Some, None, is_some, ltb, if◌then◌else◌}
-use mathlib.Core.List.{append_assoc}
+use Rattle.std.proofs.Common.{ℕ, ◌+◌, ◌<◌, ◌≤◌, ◌≡◌, refl, sym, ap, ◌∙◌, Bool, true, false, List, [], ◌++◌, length, drop, get_or, arith, Bor, length-drop, drop-drop, Ok, append-nil}
+use Rattle.std.specs.Prelude.{Option, Some, None, is_some, if◌then◌else◌}
 use lib.Seq.{drop-append_seam}
-use Rattle.le.specs.Le.{le2, le4, has, bytes2, bytes4}
+use Rattle.le.specs.Le.{le2, le4, bytes4}
 use Rattle.le.proofs.Laws.{le2_bytes2, le4_bytes4}
-use Rattle.refusal.specs.declared.Refusal.{Refusal}
 use Rattle.refusal.specs.declared.Mode.{Mode}
 use Rattle.refusal.specs.declared.Mode.TheVariants.{Present}
 use Rattle.flags.specs.declared.symbol_flags.AdsSymbol2Flags.{AdsSymbol2Flags}
@@ -15,7 +13,7 @@ use Rattle.writing.proofs.Laid as laid
 use Rattle.writing.proofs.Entry.{length_entry}
 use Rattle.symbol.specs.declared.AdsSymbolInfo.{AdsSymbolInfo}
 use Rattle.symbol.specs.declared.writer.NewSymbol.{NewSymbol}
-use Rattle.symbol.specs.Symbol.{type_guid_flag, attributes_flag, extended_flags_flag, refactor_info_flag, symbol_of}
+use Rattle.symbol.specs.Symbol.{attributes_flag, extended_flags_flag, symbol_of}
 use Rattle.symbol.specs.Told.{Told, told_of, meant, IsSixteen}
 use Rattle.symbol.specs.Inside.{behind_strings, behind_guid}
 use Rattle.symbol.specs.Writing.{flagged, guid_bytes, extended_bytes, header_bytes, sections_bytes, symbol_bytes, symbol_written}

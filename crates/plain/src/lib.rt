@@ -8,7 +8,7 @@ ghost use Rattle.writing.specs.Layout.{lengths_bytes, string_bytes, strings_byte
 ghost use Rattle.symbol.specs.Writing.{numbers_bytes, header_bytes, guid_bytes, extended_bytes, sections_bytes, symbol_bytes};
 ghost use Rattle.plain.specs.Plain.{along, IsInside, departing, plain_of};
 ghost use Rattle.plain.specs.Form.{PlainInForm};
-ghost use Rattle.plain.specs.Meaning.{PlainMeant, PlainFaithful, PlainChecked};
+ghost use Rattle.plain.specs.Meaning.{DepartingMeant, PlainMeant, PlainPlaced, PlainFaithful, PlainChecked};
 
 use refusal::{Mode, Refusal};
 use symbol::{AdsSymbolInfo, NewSymbol};
@@ -189,9 +189,13 @@ fn along_symbol(own: &[u8], symbol: &NewSymbol<'_>, size: u32) -> Result<usize, 
     along_sections(own, at, symbol)
 }
 
-// The first place at which an entry is not what is written of its record; its start where the record is refused.
+/// Checks that an entry, of which these are the own bytes, is what the symbol writer gives for a record.
+///
+/// # Errors
+///
+/// The first place in the entry at which it is not, its start where the writer refuses the record.
 #[tactic(auto, using(crate::proofs::Laid::is_sized, crate::proofs::Laid::not_sized), unfolding(crate::specs::Plain::departing))]
-fn departing(own: &[u8], symbol: &AdsSymbolInfo<'_>) -> Result<(), usize>
+pub fn departing(own: &[u8], symbol: &AdsSymbolInfo<'_>) -> Result<(), usize>
     ensures value { result ≡ departing own.now symbol.now }
     ensures inside { IfErr result (λ place. place ≤ length own.now) }
 {
@@ -234,10 +238,20 @@ pub fn plain_in_form()
     ensures { PlainInForm }
 {}
 
-/// An upload passes exactly where each of its pieces is a plain entry. Else the first that is not is refused: as its reading, by 10, or by 19 with the first place
+/// An entry departs nowhere exactly where it is what the writer gives for the record, and else at the first byte that is not, or at its start where the record is refused.
+pub fn departing_meant()
+    ensures { DepartingMeant }
+{}
+
+/// An upload passes exactly where its walk ends finished and each of its pieces is a plain entry. Else the first that is not is refused: as its reading, by 10, or by 19 with the first place
 /// at which it departs from what is written of its record, its start where that is refused.
 pub fn plain_meant()
     ensures { PlainMeant }
+{}
+
+/// The place that 19 tells lies inside the first entry that is not plain.
+pub fn plain_placed()
+    ensures { PlainPlaced }
 {}
 
 /// Two plain entries tell the same exactly where they are the same bytes.

@@ -1,1 +1,4 @@
 pub mod Told
+pub mod Departure
+pub mod Meaning
+pub mod Texts

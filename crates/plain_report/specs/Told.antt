@@ -1,7 +1,7 @@
 -- docs/FORMAT.md, "The command's text" and "Plain form": how the first departure from plain form is told.
-use Rattle.std.specs.Prelude.{ℕ, ◌/◌, ◌%◌, List, [], ◌∷◌, ◌++◌, codes, decimal}
-use Rattle.wording.specs.Text.{shown}
-use Rattle.wording.specs.Wording.{grouped, capital, refusal_text}
+use Rattle.std.specs.Prelude.{ℕ, List, [], ◌++◌, codes, decimal}
+use Rattle.wording.specs.Text.{pair, shown}
+use Rattle.wording.specs.Wording.{grouped, refusal_text}
 use Rattle.plain_report.specs.declared.Departure.{Departure}
 use Rattle.plain_report.specs.declared.Fault.{Fault}
 use Rattle.plain_report.specs.declared.Fault.TheVariants.{Unread, Unwritten, Byte}
@@ -14,9 +14,6 @@ part_text NameEnd = codes "the end byte of the name"
 part_text TypeEnd = codes "the end byte of the type"
 part_text CommentEnd = codes "the end byte of the comment"
 part_text Count = codes "the count of its attributes"
-
-abbrev pub pair : ℕ → List ℕ
-pair b = capital (b / 16) ∷ capital (b % 16) ∷ []
 
 -- behind the refusal: nothing where the entry is not read; else its name, and why it is not written again or which byte would be another
 unfoldable pub fault_text : Fault → List ℕ

@@ -1,15 +1,16 @@
 //! `plain`: whether an upload is in plain form, and what departs first (docs/FORMAT.md, "The command's text").
 #![tactic(auto, unfolding(crate::specs::Told::fault_text, crate::specs::Told::departure_text))]
 
-ghost use Rattle.std.specs.Prelude.{◌≡◌, Some, Ok, Err, IfOk, MatchOption};
-ghost use Rattle.plain.specs.Plain.{plain_of};
+ghost use Rattle.std.specs.Prelude.{◌≡◌, Some, IfOk, get_or};
 ghost use Rattle.plain_report.specs.Told.{part_text, fault_text, departure_text};
+ghost use Rattle.plain_report.specs.Departure.{part_at, fault_at, departure_of};
+ghost use Rattle.plain_report.specs.Meaning.{DepartureRefused, DepartureMeant};
+ghost use Rattle.plain_report.specs.Texts.{DeparturesMeant};
 
 use refusal::{Mode, Refusal};
 use std::alloc::{AllocError, Allocator};
 use std::fmt;
 use symbol::{AdsSymbolInfo, NewSymbol, Symbols};
-use walk::Piece;
 use wording::strings::Shown;
 use wording::{Grouped, InWords, Pair};
 use writing::WriteError;
@@ -116,71 +117,55 @@ impl fmt::Display for Departure<'_> {
 }
 
 // What stands at a place of an entry at which it can depart.
-fn part_at(symbol: &AdsSymbolInfo<'_>, place: usize) -> Part {
-    let name = symbol.name.len().saturating_add(30);
-    let type_name = symbol
-        .type_name
-        .len()
-        .saturating_add(name)
-        .saturating_add(1);
-    let comment = symbol
-        .comment
-        .len()
-        .saturating_add(type_name)
-        .saturating_add(1);
+#[tactic(auto, unfolding(crate::specs::Departure::part_at))]
+fn part_at(symbol: &AdsSymbolInfo<'_>, place: usize) -> Part
+    ensures { result ≡ part_at symbol.now place }
+{
+    let name_end = 30 + symbol.name.len();
+    let type_size = 1 + symbol.type_name.len();
+    let comment_size = 1 + symbol.comment.len();
+    let behind_name = place.saturating_sub(name_end);
     if place < 4 {
         Part::Length
-    } else if place == name {
+    } else if place == name_end {
         Part::NameEnd
-    } else if place == type_name {
+    } else if behind_name == type_size {
         Part::TypeEnd
-    } else if place == comment {
+    } else if behind_name.saturating_sub(type_size) == comment_size {
         Part::CommentEnd
     } else {
         Part::Count
     }
 }
 
+// A byte of some bytes, 0 behind them.
+fn byte_at(bytes: &[u8], place: usize) -> u8
+    ensures { result ≡ get_or bytes.now place 0 }
+{
+    bytes.get(place).copied().unwrap_or_default()
+}
+
 // What is wrong at a place of an entry that was read.
+#[tactic(auto, unfolding(crate::specs::Departure::fault_at))]
 fn fault_at<'a, A: Allocator>(
     alloc: A,
     symbol: &AdsSymbolInfo<'a>,
     own: &[u8],
     place: usize,
-) -> Result<Fault<'a>, AllocError> {
+) -> Result<Fault<'a>, AllocError>
+    ensures { IfOk result (λ fault. fault ≡ fault_at symbol.now own.now place) }
+{
     let name = symbol.name;
     match NewSymbol::from_symbol(symbol).to_vec(alloc) {
         Ok(written) => Ok(Fault::Byte {
             name,
             place,
             part: part_at(symbol, place),
-            there: own.get(place).copied().unwrap_or_default(),
-            written: written.as_slice().get(place).copied().unwrap_or_default(),
+            there: byte_at(own, place),
+            written: byte_at(&written, place),
         }),
         Err(WriteError::Refused(why)) => Ok(Fault::Unwritten { name, why }),
         Err(WriteError::OutOfMemory) => Err(AllocError),
-    }
-}
-
-// What is wrong with a piece that is not plain, where a place of the upload departs.
-fn fault_of<'a, A: Allocator>(
-    alloc: A,
-    upload: &[u8],
-    piece: &Piece<AdsSymbolInfo<'a>>,
-    why: Refusal,
-) -> Result<Fault<'a>, AllocError> {
-    let (Ok(symbol), Refusal::NotPlain { place }) = (&piece.answer, why) else {
-        return Ok(Fault::Unread);
-    };
-    let own = upload.get(piece.start..piece.end).unwrap_or_default();
-    fault_at(alloc, symbol, own, place.saturating_sub(piece.start))
-}
-
-// Whether a piece is the one that is refused by this.
-fn is_refused_by(piece: &Piece<AdsSymbolInfo<'_>>, why: Refusal) -> bool {
-    match why {
-        Refusal::NotPlain { place } => place < piece.end,
-        _ => piece.answer.is_err(),
     }
 }
 
@@ -189,18 +174,42 @@ pub fn first_departure<'a, A: Allocator>(
     alloc: A,
     upload: &'a [u8],
 ) -> Result<Option<Departure<'a>>, AllocError>
-    ensures { IfOk result (λ found. MatchOption found (plain_of upload.entry ≡ Ok tt) (λ d. plain_of upload.entry ≡ Err d.why)) }
+    ensures { IfOk result (λ found. found ≡ departure_of upload.entry) }
 {
-    let Err(why) = plain::check(upload) else {
-        return Ok(None);
-    };
     for piece in Symbols::new(upload, Mode::Present) {
-        if is_refused_by(&piece, why) {
-            let start = piece.start;
-            let fault = fault_of(alloc, upload, &piece, why)?;
+        let start = piece.start;
+        let symbol = match piece.answer {
+            Ok(symbol) => symbol,
+            Err(why) => {
+                let fault = Fault::Unread;
+                return Ok(Some(Departure { start, why, fault }));
+            }
+        };
+        let own = &upload[start..piece.end];
+        if let Err(place) = plain::departing(own, &symbol) {
+            let fault = fault_at(alloc, &symbol, own, place)?;
+            let why = Refusal::NotPlain {
+                place: start + place,
+            };
             return Ok(Some(Departure { start, why, fault }));
         }
     }
-    let (start, fault) = (upload.len(), Fault::Unread);
-    Ok(Some(Departure { start, why, fault }))
+    Ok(None)
 }
+
+// Theorems. Each is the contract of a function that does nothing, so that none goes unnoticed if its proof does.
+
+/// Nothing is found in an upload that is plain, and in any other a departure with its refusal.
+pub fn departure_refused()
+    ensures { DepartureRefused }
+{}
+
+/// What is found is the first entry that is not plain, and what is told of it is true: it is not read, its record is refused, or a byte, the first that is, is another than would be written.
+pub fn departure_meant()
+    ensures { DepartureMeant }
+{}
+
+/// Departures of every kind, character for character.
+pub fn departures_meant()
+    ensures { DeparturesMeant }
+{}

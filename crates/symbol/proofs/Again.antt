@@ -1,9 +1,11 @@
 -- The blocks of a symbol to write are the bytes that are shown: proved.
-use Rattle.std.proofs.Common.{ℕ, ◌+◌, ◌-◌, ◌≤◌, ◌≡◌, refl, sym, ap, ◌∙◌, List, take, drop, length, Ok, Bor, arith}
+use Rattle.std.proofs.Common.{ℕ, ◌+◌, ◌≡◌, refl, sym, ap, ◌∙◌, List, take, drop, Bor, arith}
+use Rattle.std.proofs.lemmas.List.{length-map}
 use native.Mathlib.Nat.{add-zero}
 use Rattle.part.specs.Slice.{part, after}
 use Rattle.part.specs.End.{IsEnd, rest_at}
-use Rattle.symbol.specs.Again.{new_of, IsCut, SymbolsCut}
+use Rattle.symbol.specs.Again.{new_of, SymbolsCut, SymbolsAgain}
+use Rattle.symbol.proofs.Laws.{symbols_whole}
 use Rattle.symbol.proofs.Lies.{symbols_inside}
 
 -- the first bytes of an end of some bytes are a part of them
@@ -25,4 +27,25 @@ symbols_cut mode e r h =
     record {
       attributes = first_of_end e r.attributes.bytes _ _ i.attribute_bytes (omega (arith, i.chain_at, i.attribute_bytes.within, i.refactor_bytes.within));
       refactor_infos = first_of_end e r.refactor_infos.bytes _ _ i.refactor_bytes (omega (arith, i.refactor_bytes.within, i.unread.within));
+    }
+
+pub symbols_again : SymbolsAgain
+unfolding new_of
+symbols_again mode e r h =
+    let w = symbols_whole mode e r h in
+    record {
+      index_group = refl;
+      index_offset = refl;
+      size = refl;
+      data_type_id = refl;
+      flags = refl;
+      high = refl;
+      name = refl;
+      type_name = refl;
+      comment = refl;
+      guid = refl;
+      attributes = sym (length-map _ _ ∙ w.counted);
+      word_there = λ word q. rw q refl;
+      word_absent = λ q. rw q refl;
+      refactor_infos = sym (length-map _ _ ∙ w.refactors_counted);
     }

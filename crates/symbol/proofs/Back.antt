@@ -21,7 +21,7 @@ use Rattle.symbol.specs.declared.writer.NewSymbol.{NewSymbol}
 use Rattle.symbol.specs.declared.AdsSymbolInfo.{AdsSymbolInfo}
 use Rattle.part.specs.End.{rest_at}
 use Rattle.layout.specs.Layout.{guid_of}
-use Rattle.symbol.specs.Symbol.{type_guid_flag, attributes_flag, extended_flags_flag, refactor_info_flag, attributes_of, extended_of, refactor_infos_of, with_strings, string_ends_of, attribute_ends, refactor_ends, symbol_ended, ended_symbol, symbol_of}
+use Rattle.symbol.specs.Symbol.{type_guid_flag, attributes_flag, extended_flags_flag, refactor_info_flag, extended_word, attributes_of, extended_of, refactor_infos_of, with_strings, string_ends_of, attribute_ends, refactor_ends, symbol_ended, ended_symbol, symbol_of}
 use Rattle.symbol.specs.Writing.{flagged, guid_bytes, extended_bytes, header_bytes, sections_bytes}
 use Rattle.symbol.specs.Told.{told_of, meant, IsTyped}
 use Rattle.symbol.proofs.Accepted.{Accepted}
@@ -53,10 +53,10 @@ module _ (n : NewSymbol) (t : IsTyped n) (a : Accepted n) (extra : List ℕ) (fi
   abbrev s3 : Bor (List ℕ)
   s3 = (extended_of s2 (has w extended_flags_flag)).1
 
-  abbrev rest3 : List ℕ
+  abbrev pub rest3 : List ℕ
   rest3 = n.refactor_infos.bytes.now ++ extra
 
-  abbrev rest2 : List ℕ
+  abbrev pub rest2 : List ℕ
   rest2 = extended_bytes (flagged n extended_flags_flag) n.extended_flags.0 ++ rest3
 
   abbrev rest1 : List ℕ
@@ -171,6 +171,25 @@ module _ (n : NewSymbol) (t : IsTyped n) (a : Accepted n) (extra : List ℕ) (fi
         chain_told,
         unread_is,
       )
+
+  -- what its blocks begin with, and how many they count
+  pub record BlocksBack : Type 0 where
+    pub attributes : back.attributes.bytes.now ≡ n.attributes.bytes.now ++ rest2
+    pub attribute_count : back.attributes.count ≡ n.attributes.count
+    pub refactor_infos : back.refactor_infos.bytes.now ≡ rest3
+    pub refactor_count : back.refactor_infos.count ≡ n.refactor_infos.count
+    pub unread : back.unread.now ≡ extra
+    pub word : extended_word back.extended_flags ≡ n.extended_flags.0
+
+  pub blocks_back : BlocksBack
+  blocks_back = record {
+    attributes = rw attributes_there attributes_is.begins;
+    attribute_count = rw attributes_there attributes_is.counted;
+    refactor_infos = rw chain_there chain_is.begins;
+    refactor_count = rw chain_there chain_is.counted;
+    unread = unread_is;
+    word = rw extended_there extended_is.word;
+  }
 
   -- its end bytes are 0
   strings_end : ended (string_ends_of e back) ≡ Ok tt

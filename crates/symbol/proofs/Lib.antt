@@ -15,3 +15,4 @@ pub mod ReadOn
 pub mod ReadBack
 pub mod Barred
 pub mod Again
+pub mod GivenBack

@@ -14,6 +14,7 @@ use Rattle.attribute.specs.Attribute as attribute
 use Rattle.attribute.specs.Block as attribute-block
 use Rattle.attribute.specs.Told as attributes
 use Rattle.attribute.proofs.Again as attribute-again
+use Rattle.attribute.proofs.Fit.{attribute_blocks_made}
 use Rattle.attribute.proofs.Laws.{nothing_listed, listed_none}
 use Rattle.refactor.specs.Refactor as refactor
 use Rattle.refactor.specs.Block as refactor-block
@@ -61,6 +62,12 @@ pub record IsAttributesBack (s : Bor (List ℕ)) (flagged : Bool) (count : ℕ) 
   pub tells : attributes.told (attribute.listed (attributes_of s flagged).0.bytes (attributes_of s flagged).0.count) ≡ attributes.told (attribute.listed block count)
   pub ended : (at : ℕ) → ended (attribute.ends (attributes_of s flagged).0.bytes at (attributes_of s flagged).0.count) ≡ Ok tt
   pub rest_is : (attributes_of s flagged).1.now ≡ rest
+  pub begins : (attributes_of s flagged).0.bytes.now ≡ block.now ++ rest
+  pub counted : (attributes_of s flagged).0.count ≡ count
+
+none_there : (l rest : List ℕ) → length l ≡ 0 → l ++ rest ≡ rest
+none_there [] rest e = refl
+none_there (x ∷ l) rest e = absurd (omega arith)
 
 no_ends : (s : Bor (List ℕ)) (at : ℕ) → ended (attribute.ends s at 0) ≡ Ok tt
 unfolding attribute.ends ended
@@ -78,12 +85,18 @@ attributes_back s true count block rest l g f h =
       tells = simp (b, c, r.long, r.tells);
       ended = λ at. simp (b, c, r.long, r.ended at);
       rest_is = simp (b, c, r.rest) (rw d (drop-append_seam block.now rest));
+      begins = simp b d;
+      counted = simp (b, c, r.long);
     }
 attributes_back s false count block rest l g f h =
+    let e = eqb-true (length block.now) 0 f in
+    let none = nothing_listed block count e in
     record {
-      tells = simp (listed_none s, nothing_listed block count (eqb-true (length block.now) 0 f));
+      tells = simp (listed_none s, none);
       ended = λ at. no_ends s at;
       rest_is = h;
+      begins = h ∙ sym (none_there block.now rest e);
+      counted = ap (λ (l : List _). length (attributes.told l)) (sym none) ∙ (attribute_blocks_made count block g).long;
     }
 
 -- the chain
@@ -91,6 +104,8 @@ pub record IsChainBack (s : Bor (List ℕ)) (flagged : Bool) (count : ℕ) (bloc
   pub tells : refactors.told (refactor.listed (refactor_infos_of s flagged).0.bytes (refactor_infos_of s flagged).0.count) ≡ refactors.told (refactor.listed block count)
   pub ended : flagged ≡ true → (at : ℕ) → ended (refactor.ends (refactor_infos_of s flagged).0.bytes at) ≡ Ok tt
   pub rest_is : (refactor_infos_of s flagged).1.now ≡ rest
+  pub begins : (refactor_infos_of s flagged).0.bytes.now ≡ block.now ++ rest
+  pub counted : (refactor_infos_of s flagged).0.count ≡ count
 
 none_listed : (s : Bor (List ℕ)) → refactor.listed s 0 ≡ []
 unfolding refactor.listed
@@ -110,6 +125,8 @@ chain_back_by s count block rest g h true f =
       tells = simp (c, r.tells);
       ended = λ _ at. simp (c, r.ended some at);
       rest_is = simp c (rw h (drop-append_seam block.now rest));
+      begins = simp c h;
+      counted = simp c;
     }
 chain_back_by s count block rest g h false f =
     let z : count ≡ 0 = omega (arith, ltb-false 0 count f) in
@@ -117,12 +134,10 @@ chain_back_by s count block rest g h false f =
     record {
       tells = simp (z, none_listed s, none_listed block);
       ended = λ t at. cc;
-      rest_is = h ∙ ap (λ l. l ++ rest) (empty block.now e);
+      rest_is = h ∙ none_there block.now rest e;
+      begins = h;
+      counted = sym z;
     }
-  where
-    empty : (l : List ℕ) → length l ≡ 0 → l ≡ []
-    empty [] e = refl
-    empty (x ∷ l) e = absurd (omega arith)
 
 pub chain_back : (s : Bor (List ℕ)) (flagged : Bool) (count : ℕ) (block : Bor (List ℕ)) (rest : List ℕ) → beq (ltb 0 count) flagged ≡ true → refactor-block.block_checked count block ≡ Ok tt → s.now ≡ block.now ++ rest → IsChainBack s flagged count block rest
 chain_back s flagged count block rest f g h = chain_back_by s count block rest g h flagged ((booleans_Decides (ltb 0 count) flagged).0 f)

@@ -6,8 +6,8 @@ ghost use Rattle.symbol.specs.Told.{IsTyped, SymbolsAnywhere};
 ghost use Rattle.symbol.specs.Writable.{HoldsBytes, SymbolsWritten};
 ghost use Rattle.symbol.specs.Barred.{SymbolsBarred};
 ghost use Rattle.symbol.specs.ReadOn.{SymbolsReadOn};
-ghost use Rattle.symbol.specs.ReadBack.{SymbolsReadBack};
-ghost use Rattle.symbol.specs.Again.{SymbolsCut};
+ghost use Rattle.symbol.specs.ReadBack.{SymbolsReadBack, SymbolsGivenBack};
+ghost use Rattle.symbol.specs.Again.{SymbolsCut, SymbolsAgain};
 
 use crate::NewSymbol;
 
@@ -70,4 +70,15 @@ pub fn symbols_read_back()
 /// A symbol to write of one that was read has as its blocks the bytes of the attributes and refactor records that are shown.
 pub fn symbols_cut()
     ensures { SymbolsCut }
+{}
+
+/// Of a symbol to write of one that was read every number and string is the record's, each count that of what is shown, and the word
+/// of extended flags the one that stands there, also where its chain is dropped, and 0 where there is none.
+pub fn symbols_again()
+    ensures { SymbolsAgain }
+{}
+
+/// A symbol that is written, its entry grown by any bytes at its end, read in either mode and written again, is the symbol that was given.
+pub fn symbols_given_back()
+    ensures { SymbolsGivenBack }
 {}

@@ -1,11 +1,12 @@
-use Rattle.std.proofs.Common.{ℕ, ◌≡◌, ◌∙◌, refl, sym, ap, length, List, Err, rules}
+use Rattle.std.proofs.Common.{◌≡◌, ◌∙◌, refl, sym, ap, length, Err, rules}
 use Rattle.std.proofs.lemmas.List.Elements.{All-rest}
 use Rattle.le.specs.Le.{part}
 use Rattle.refusal.specs.declared.Mode.TheVariants.{Present}
 use Rattle.symbol.specs.Symbol.{symbol_of}
 use Rattle.walk.specs.Pieces.{pieces, walker_left}
 use Rattle.plain.specs.Plain.{pieces_plain, plain_of}
-use Rattle.plain.proofs.Pieces.{IsPlaced, all_placed, plain_on, plain_stops, plain_departs, plain_none}
+use Rattle.walk.proofs.Forward.{Forward, all_forward}
+use Rattle.plain.proofs.Pieces.{plain_on, plain_stops, plain_departs, plain_none}
 use Rattle.plain.proofs.check.Goals as goal
 
 pub loop-piece-init : goal.loop-piece-init
@@ -15,7 +16,7 @@ loop-piece-init c =
       can = tt;
       ends = tt;
       goes = refl;
-      placed = all_placed (symbol_of Present) c.args.upload (length c.args.upload.now) 0;
+      forward = all_forward (symbol_of Present) c.args.upload (length c.args.upload.now) 0;
     })
 
 pub returns-in_err-symbol : goal.returns-in_err-symbol
@@ -42,7 +43,7 @@ loop-piece-preserved c =
       can = tt;
       ends = tt;
       goes = sym e ∙ c.loop-piece.invariant.goes;
-      placed = All-rest (IsPlaced c.args.upload.now) _ _ _ turn c.loop-piece.invariant.placed;
+      forward = All-rest (Forward c.args.upload.now) _ _ _ turn c.loop-piece.invariant.forward;
     }
 
 pub returns : goal.returns

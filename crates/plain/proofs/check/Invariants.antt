@@ -1,8 +1,8 @@
 use Rattle.std.proofs.Common.{◌≡◌, All}
 use Rattle.symbol.specs.Symbol.{symbol_of}
 use Rattle.walk.specs.Pieces.{walker_left}
-use Rattle.plain.specs.Plain.{pieces_plain, plain_of}
-use Rattle.plain.proofs.Pieces.{IsPlaced}
+use Rattle.plain.specs.Plain.{pieces_plain}
+use Rattle.walk.proofs.Forward.{Forward}
 use Rattle.plain.proofs.check.Given as goal
 
 abbrev pub invariant-loop-piece : goal.invariant-loop-piece
@@ -10,5 +10,5 @@ invariant-loop-piece l = record {
   can : goal.iterator-loop-piece.can_next l.piece-iterator;
   ends : goal.iterator-loop-piece.is_finite l.piece-iterator;
   goes : pieces_plain l.upload (walker_left symbol_of l.piece-iterator) ≡ pieces_plain l.upload (walker_left symbol_of l.initial.piece-iterator);
-  placed : All (IsPlaced l.upload) (walker_left symbol_of l.piece-iterator);
+  forward : All (Forward l.upload) (walker_left symbol_of l.piece-iterator);
 }

@@ -1,0 +1,3 @@
+pub mod Pieces
+pub mod Meaning
+pub mod Texts
