@@ -32,7 +32,7 @@ doubled_is (b ∷ s) = by (eqb b 34) refl (doubled_is s)
     by true e d = subst (λ (c : ℕ). Doubled (c ∷ s) (34 ∷ 34 ∷ escaped_all s)) (sym (eqb-true b 34 e)) (quote d)
     by false e d = other (eqb-false b 34 e) d
 
-doubled_one : {s text : List ℕ} → Doubled s text → escaped_all s ≡ text
+pub doubled_one : {s text : List ℕ} → Doubled s text → escaped_all s ≡ text
 unfolding escaped_all
 doubled_one none = refl
 doubled_one (quote d) = ap₂ (λ (x y : List ℕ). x ++ y) (quote_doubled 34 refl) (doubled_one d)
@@ -41,7 +41,7 @@ doubled_one (other {b} h d) = ap₂ (λ (x y : List ℕ). x ++ y) (text_kept b h
 never : true ≡ false → ⊥
 never h = cc
 
-special_plain : (b : ℕ) → is_special b ≡ false → IsPlain b
+pub special_plain : (b : ℕ) → is_special b ≡ false → IsPlain b
 special_plain b e = record {
   comma = λ h. never (sym (ap is_special h) ∙ e);
   quote = λ h. never (sym (ap is_special h) ∙ e);
@@ -49,10 +49,10 @@ special_plain b e = record {
   feed = λ h. never (sym (ap is_special h) ∙ e);
 }
 
-plain_special : (b : ℕ) → IsPlain b → is_special b ≡ false
+pub plain_special : (b : ℕ) → IsPlain b → is_special b ≡ false
 plain_special b h = simp (ne_eqb b 44 h.comma, ne_eqb b 34 h.quote, ne_eqb b 13 h.return, ne_eqb b 10 h.feed)
 
-plain_all : (s : List ℕ) → list_any is_special s ≡ false → All IsPlain s
+pub plain_all : (s : List ℕ) → list_any is_special s ≡ false → All IsPlain s
 plain_all [] e = All-nil IsPlain
 plain_all (b ∷ s) e = by (is_special b) refl e (plain_all s)
   where

@@ -65,7 +65,8 @@ fn put_escaped(out: &mut [u8], at: usize, byte: u8) -> usize
     text::put_text(out, at, byte)
 }
 
-fn is_special(byte: u8) -> bool
+/// Whether a byte needs quotes around its cell: a comma, a quote, CR or LF.
+pub fn is_special(byte: u8) -> bool
     ensures { result ≡ is_special byte }
 {
     byte == b',' || byte == b'"' || byte == b'\r' || byte == b'\n'

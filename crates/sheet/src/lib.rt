@@ -7,6 +7,7 @@ ghost use Rattle.sheet.specs.ExportMeant.{AdmittedMeant, ExportsMeant};
 mod cells;
 mod exporter;
 
+pub use cells::is_special;
 pub use exporter::export;
 
 // The theorems. Each is the contract of a function that does nothing, so that none goes unnoticed if its proof does.

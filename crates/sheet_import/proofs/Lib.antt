@@ -1,0 +1,8 @@
+pub mod Texts
+pub mod StringsRead
+pub mod Written
+pub mod CellTexts
+pub mod Sizes
+pub mod Putting
+pub mod Ready
+pub mod Meaning

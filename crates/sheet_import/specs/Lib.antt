@@ -1,0 +1,3 @@
+pub mod Strings
+pub mod Import
+pub mod ImportMeant

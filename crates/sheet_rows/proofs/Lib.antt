@@ -1,0 +1,6 @@
+pub mod Lengths
+pub mod CellsRead
+pub mod RowsRead
+pub mod NumbersRead
+pub mod Lines
+pub mod SheetRead

@@ -1,0 +1,5 @@
+pub mod Cells
+pub mod Numbers
+pub mod Rows
+pub mod Meant
+pub mod SheetMeant
