@@ -4,7 +4,7 @@ use std::fmt;
 use wording::{Grouped, Many};
 
 /// How many entries there are, and how they compare.
-#[derive(Clone, Copy, Debug, Default)]
+#[derive(Clone, Copy, Default)]
 pub(crate) struct Counted {
     in_a: usize,
     in_b: usize,

@@ -5,11 +5,11 @@ use sections::{Part, Section, sections};
 use std::alloc::{AllocError, Global};
 use std::cmp::Ordering;
 use symbol::AdsSymbolInfo;
-use values::{Value, tell_the_same, value_of};
+use values::{Value, value_of};
 use walk::Entry;
 
 /// A part in which two entries differ, and what it tells in each.
-#[derive(Clone, Copy, Debug)]
+#[derive(Clone, Copy)]
 pub(crate) struct Difference<'a> {
     /// The part, or none where an entry is refused.
     pub part: Option<Part>,
@@ -26,36 +26,50 @@ pub(crate) fn differences<'a>(
 ) -> Result<Vec<Difference<'a>>, AllocError> {
     let mut all = Vec::new(alloc);
     match (read(a, mode), read(b, mode)) {
-        (Ok(in_a), Ok(in_b)) => {
-            let sections_of_a = sections(alloc, a.bytes, &in_a)?;
-            let sections_of_b = sections(alloc, b.bytes, &in_b)?;
-            let one = Side {
-                symbol: in_a,
-                sections: sections_of_a.as_slice(),
-                at: 0,
-            };
-            let other = Side {
-                symbol: in_b,
-                sections: sections_of_b.as_slice(),
-                at: 0,
-            };
-            push_differences(one, other, &mut all)?;
-        }
-        (Err(one), Err(other)) if one == other => {
-            let (in_a, in_b) = first_byte(0, a.bytes, 0, b.bytes);
-            all.push(Difference {
-                part: None,
-                in_a,
-                in_b,
-            })?;
-        }
-        (one, other) => all.push(Difference {
-            part: None,
-            in_a: reason(one),
-            in_b: reason(other),
-        })?,
+        (Ok(in_a), Ok(in_b)) => push_parts(alloc, (a, in_a), (b, in_b), &mut all)?,
+        (one, other) => all.push(in_refusals(a, one, b, other))?,
     }
     Ok(all)
+}
+
+// The parts in which two accepted entries differ.
+fn push_parts<'a>(
+    alloc: Global,
+    (a, in_a): (&Piece<'a>, AdsSymbolInfo<'a>),
+    (b, in_b): (&Piece<'a>, AdsSymbolInfo<'a>),
+    all: &mut Vec<Difference<'a>>,
+) -> Result<(), AllocError> {
+    let sections_of_a = sections(alloc, a.bytes, &in_a)?;
+    let sections_of_b = sections(alloc, b.bytes, &in_b)?;
+    let one = Side {
+        symbol: in_a,
+        sections: sections_of_a.as_slice(),
+        at: 0,
+    };
+    let other = Side {
+        symbol: in_b,
+        sections: sections_of_b.as_slice(),
+        at: 0,
+    };
+    push_differences(one, other, all)
+}
+
+// Where one of the two is refused: why, or where both are refused alike, the first byte that differs.
+fn in_refusals<'a>(
+    a: &Piece<'a>,
+    in_a: Result<AdsSymbolInfo<'a>, Refusal>,
+    b: &Piece<'a>,
+    in_b: Result<AdsSymbolInfo<'a>, Refusal>,
+) -> Difference<'a> {
+    let (in_a, in_b) = match (in_a, in_b) {
+        (Err(one), Err(other)) if one == other => first_byte(0, a.bytes, 0, b.bytes),
+        (one, other) => (reason(one), reason(other)),
+    };
+    Difference {
+        part: None,
+        in_a,
+        in_b,
+    }
 }
 
 fn read<'a>(piece: &Piece<'a>, mode: Mode) -> Result<AdsSymbolInfo<'a>, Refusal> {
@@ -158,7 +172,7 @@ fn values<'a>(
     other: Option<Section<'_>>,
 ) -> (Value<'a>, Value<'a>) {
     match (one, other) {
-        (Some(one), Some(other)) if tell_the_same(&in_a, &in_b) => {
+        (Some(one), Some(other)) if in_a == in_b => {
             first_byte(one.at, one.bytes, other.at, other.bytes)
         }
         _ => (in_a, in_b),

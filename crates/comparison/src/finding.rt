@@ -3,7 +3,7 @@ use crate::pairs::Row;
 use crate::pieces::Piece;
 
 /// Here the same entry stands further apart, or less far, than that before it.
-#[derive(Clone, Copy, Debug)]
+#[derive(Clone, Copy)]
 pub(crate) struct Moved {
     pub place_in_a: usize,
     pub place_in_b: usize,
@@ -14,7 +14,7 @@ pub(crate) struct Moved {
 impl<'a> Row<'a> {
     /// How much later B's piece stands, where both have the entry.
     pub fn apart(&self) -> Option<i64> {
-        match (&self.a, &self.b) {
+        match (self.a, self.b) {
             (Some(a), Some(b)) => Some(a.until(b)),
             _ => None,
         }
@@ -22,7 +22,7 @@ impl<'a> Row<'a> {
 
     /// That it stands otherwise apart than the one before, which stood so many bytes later in B.
     pub fn moved(&self, before: i64) -> Option<Moved> {
-        match (&self.a, &self.b) {
+        match (self.a, self.b) {
             (Some(a), Some(b)) => {
                 let later = a.until(b);
                 if later == before {
@@ -40,7 +40,7 @@ impl<'a> Row<'a> {
 
     /// Whether both have the entry, and in the same bytes.
     pub fn is_alike(&self) -> bool {
-        match (&self.a, &self.b) {
+        match (self.a, self.b) {
             (Some(a), Some(b)) => a.has_the_bytes_of(b),
             _ => false,
         }
@@ -55,7 +55,7 @@ impl<'a> Row<'a> {
     }
 }
 
-fn name_of(piece: Option<Piece<'_>>) -> Option<&[u8]> {
+fn name_of<'a>(piece: Option<&'a Piece<'a>>) -> Option<&'a [u8]> {
     match piece {
         Some(piece) => piece.name.ok(),
         None => None,

@@ -45,10 +45,10 @@ fn write_entry<W: Write>(alloc: Global, row: &Row<'_>, mode: Mode, out: &mut W) 
         }
         None => write!(out, "{{\"name\":null")?,
     }
-    let a = Side(&row.a);
-    let b = Side(&row.b);
+    let a = Side(row.a);
+    let b = Side(row.b);
     write!(out, ",\"a\":{a},\"b\":{b},\"parts\":[")?;
-    if let (Some(a), Some(b)) = (&row.a, &row.b) {
+    if let (Some(a), Some(b)) = (row.a, row.b) {
         let all = differences(alloc, a, b, mode)?;
         write_differences(all.as_slice(), out)?;
     }
@@ -72,9 +72,9 @@ fn write_differences<W: Write>(all: &[Difference<'_>], out: &mut W) -> io::Resul
 
 // What one upload has of an entry.
 #[derive(Clone, Copy)]
-struct Side<'p, 'a>(&'p Option<Piece<'a>>);
+struct Side<'a>(Option<&'a Piece<'a>>);
 
-impl fmt::Display for Side<'_, '_> {
+impl fmt::Display for Side<'_> {
     fn fmt<W: fmt::Write>(&self, f: &mut fmt::Formatter<W>) -> fmt::Result {
         let Some(piece) = self.0 else {
             return write!(f, "null")

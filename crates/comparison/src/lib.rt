@@ -11,7 +11,7 @@ mod pieces;
 mod table;
 
 use counts::Counted;
-use pairs::rows;
+use pairs::{Row, rows};
 use pieces::pieces;
 use report::Upload;
 use std::alloc::Global;
@@ -29,10 +29,19 @@ pub fn compare<W: Write>(
     let pieces_of_a = pieces(alloc, a)?;
     let pieces_of_b = pieces(alloc, b)?;
     let rows = rows(alloc, pieces_of_a.as_slice(), pieces_of_b.as_slice())?;
-    let rows = rows.as_slice();
     if as_json {
-        return json::write(alloc, rows, a.mode, out);
+        return json::write(alloc, rows.as_slice(), a.mode, out);
     }
+    write_table(alloc, a, b, rows.as_slice(), out)
+}
+
+fn write_table<W: Write>(
+    alloc: Global,
+    a: &Upload<'_>,
+    b: &Upload<'_>,
+    rows: &[Row<'_>],
+    out: &mut W,
+) -> io::Result<bool> {
     writeln!(out, "A: {a}")?;
     writeln!(out, "B: {b}")?;
     let is_alike = table::write(alloc, rows, a.mode, out)?;

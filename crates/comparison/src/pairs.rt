@@ -4,64 +4,76 @@ use std::alloc::{AllocError, Global};
 use std::cmp::Ordering;
 
 /// A piece of A, a piece of B, or one of each that are the same entry.
-#[derive(Clone, Copy, Debug)]
+#[derive(Clone, Copy)]
 pub(crate) struct Row<'a> {
-    pub a: Option<Piece<'a>>,
-    pub b: Option<Piece<'a>>,
+    pub a: Option<&'a Piece<'a>>,
+    pub b: Option<&'a Piece<'a>>,
 }
 
 /// All pieces of both, each once: A's in order, and what B has alone behind that which stands before it in B.
 pub(crate) fn rows<'a>(
     alloc: Global,
-    a: &[Piece<'a>],
-    b: &[Piece<'a>],
+    a: &'a [Piece<'a>],
+    b: &'a [Piece<'a>],
 ) -> Result<Vec<Row<'a>>, AllocError> {
     let pairs = Pairs::of(alloc, a, b)?;
     let mut all = Vec::new(alloc);
-    push_alone(b, pairs.of_b.as_slice(), 0, &mut all)?;
-    for (piece, partner) in a.iter().zip(&pairs.of_a) {
+    push_rows(a, b, pairs.of_a.as_slice(), pairs.of_b.as_slice(), &mut all)?;
+    Ok(all)
+}
+
+// Of the pieces with these partners.
+fn push_rows<'a>(
+    a: &'a [Piece<'a>],
+    b: &'a [Piece<'a>],
+    of_a: &[Option<usize>],
+    of_b: &[Option<usize>],
+    all: &mut Vec<Row<'a>>,
+) -> Result<(), AllocError> {
+    push_alone(b, of_b, 0, all)?;
+    for (piece, partner) in a.iter().zip(of_a) {
         match *partner {
             None => all.push(Row {
-                a: Some(*piece),
+                a: Some(piece),
                 b: None,
             })?,
             Some(number) => {
                 all.push(Row {
-                    a: Some(*piece),
-                    b: b.get(number).copied(),
+                    a: Some(piece),
+                    b: b.get(number),
                 })?;
-                let next = number.saturating_add(1);
-                push_alone(b, pairs.of_b.as_slice(), next, &mut all)?;
+                push_alone(b, of_b, number.saturating_add(1), all)?;
             }
         }
     }
-    Ok(all)
+    Ok(())
 }
 
 // What B has alone from there on, up to the next that A has too.
 fn push_alone<'a>(
-    b: &[Piece<'a>],
+    b: &'a [Piece<'a>],
     partners: &[Option<usize>],
     from: usize,
     all: &mut Vec<Row<'a>>,
 ) -> Result<(), AllocError> {
-    for (piece, partner) in b.iter().zip(partners).skip(from) {
+    let from = from.min(b.len()).min(partners.len());
+    for (piece, partner) in b[from..].iter().zip(&partners[from..]) {
         if partner.is_some() {
             break;
         }
         all.push(Row {
             a: None,
-            b: Some(*piece),
+            b: Some(piece),
         })?;
     }
     Ok(())
 }
 
 // A piece with its number among those of its upload.
-#[derive(Clone, Copy, Debug)]
+#[derive(Clone, Copy)]
 struct Numbered<'a> {
     number: usize,
-    piece: Piece<'a>,
+    piece: &'a Piece<'a>,
 }
 
 // By what the pieces of two lists are paired that ascend in the order.
@@ -101,17 +113,22 @@ struct Pairs {
 }
 
 impl Pairs {
-    // Each rule pairs what those before it have left.
     fn of(alloc: Global, a: &[Piece<'_>], b: &[Piece<'_>]) -> Result<Pairs, AllocError> {
         let mut pairs = Pairs {
             of_a: vec![in alloc; None; a.len()]?,
             of_b: vec![in alloc; None; b.len()]?,
         };
-        pairs.by_place(alloc, a, b, Fit::Name)?;
-        pairs.by_name(alloc, a, b)?;
-        pairs.by_place(alloc, a, b, Fit::Length)?;
-        pairs.by_neighbour(a, b);
+        pairs.pair(alloc, a, b)?;
         Ok(pairs)
+    }
+
+    // Each rule pairs what those before it have left.
+    fn pair(&mut self, alloc: Global, a: &[Piece<'_>], b: &[Piece<'_>]) -> Result<(), AllocError> {
+        self.by_place(alloc, a, b, Fit::Name)?;
+        self.by_name(alloc, a, b)?;
+        self.by_place(alloc, a, b, Fit::Length)?;
+        self.by_neighbour(a, b);
+        Ok(())
     }
 
     fn join(&mut self, one: usize, other: usize) {
@@ -144,10 +161,8 @@ impl Pairs {
         a: &[Piece<'_>],
         b: &[Piece<'_>],
     ) -> Result<(), AllocError> {
-        let mut ours = free(alloc, a, self.of_a.as_slice())?;
-        let mut theirs = free(alloc, b, self.of_b.as_slice())?;
-        ours.sort_by(|one, other| one.piece.by_name(&other.piece))?;
-        theirs.sort_by(|one, other| one.piece.by_name(&other.piece))?;
+        let ours = free_by_name(alloc, a, self.of_a.as_slice())?;
+        let theirs = free_by_name(alloc, b, self.of_b.as_slice())?;
         self.join_equal(ours.as_slice(), theirs.as_slice(), Order::Name, Fit::Any);
         Ok(())
     }
@@ -165,8 +180,8 @@ impl Pairs {
             let (Some(one), Some(other)) = (ours.get(at), theirs.get(there)) else {
                 return
             };
-            let order = order.of(&one.piece, &other.piece);
-            if order == Ordering::Equal && fit.fits(&one.piece, &other.piece) {
+            let order = order.of(one.piece, other.piece);
+            if order == Ordering::Equal && fit.fits(one.piece, other.piece) {
                 self.join(one.number, other.number);
             }
             if order != Ordering::Greater {
@@ -224,17 +239,25 @@ impl Order {
 // Those that have no partner.
 fn free<'a>(
     alloc: Global,
-    pieces: &[Piece<'a>],
+    pieces: &'a [Piece<'a>],
     partners: &[Option<usize>],
 ) -> Result<Vec<Numbered<'a>>, AllocError> {
     let mut free = Vec::new(alloc);
     for (number, (piece, partner)) in pieces.iter().zip(partners).enumerate() {
         if partner.is_none() {
-            free.push(Numbered {
-                number,
-                piece: *piece,
-            })?;
+            free.push(Numbered { number, piece })?;
         }
     }
+    Ok(free)
+}
+
+// In the order of their names.
+fn free_by_name<'a>(
+    alloc: Global,
+    pieces: &'a [Piece<'a>],
+    partners: &[Option<usize>],
+) -> Result<Vec<Numbered<'a>>, AllocError> {
+    let mut free = free(alloc, pieces, partners)?;
+    free.sort_by(|one, other| one.piece.by_name(other.piece))?;
     Ok(free)
 }

@@ -6,7 +6,7 @@ use std::cmp::Ordering;
 use symbol::Symbols;
 
 /// A piece of an upload.
-#[derive(Clone, Copy, Debug)]
+#[derive(Clone, Copy)]
 pub(crate) struct Piece<'a> {
     /// Where it begins in the upload.
     pub place: usize,

@@ -30,7 +30,7 @@ enum Told<'a> {
     OnlyInB(Result<&'a [u8], Refusal>),
 }
 
-fn place_of(piece: &Option<Piece<'_>>) -> Option<usize> {
+fn place_of(piece: Option<&Piece<'_>>) -> Option<usize> {
     match piece {
         Some(piece) => Some(piece.place),
         None => None,
@@ -39,8 +39,8 @@ fn place_of(piece: &Option<Piece<'_>>) -> Option<usize> {
 
 fn line_of<'a>(row: &Row<'a>, told: Told<'a>) -> Line<'a> {
     Line {
-        a: place_of(&row.a),
-        b: place_of(&row.b),
+        a: place_of(row.a),
+        b: place_of(row.b),
         name: row.name(),
         told,
     }
@@ -57,10 +57,20 @@ fn lines<'a>(
     if let Some(moved) = row.moved(before) {
         all.push(line_of(row, Told::Moved(moved.later)))?;
     }
-    if row.is_alike() {
-        return Ok(all);
+    if !row.is_alike() {
+        push_told(alloc, row, mode, &mut all)?;
     }
-    match (&row.a, &row.b) {
+    Ok(all)
+}
+
+// What is told of a row whose entry differs, or which one upload has alone.
+fn push_told<'a>(
+    alloc: Global,
+    row: &Row<'a>,
+    mode: Mode,
+    all: &mut Vec<Line<'a>>,
+) -> Result<(), AllocError> {
+    match (row.a, row.b) {
         (Some(a), Some(b)) => {
             for one in differences(alloc, a, b, mode)? {
                 all.push(line_of(row, Told::Differs(one)))?;
@@ -70,7 +80,7 @@ fn lines<'a>(
         (None, Some(b)) => all.push(line_of(row, Told::OnlyInB(b.name)))?,
         (None, None) => {}
     }
-    Ok(all)
+    Ok(())
 }
 
 // The name of a line's entry.
@@ -214,6 +224,21 @@ impl Widths {
         writeln!(out, "{rest}")
     }
 
+    // The lines of a row, behind one whose entry stood so many bytes later in B.
+    fn write_row<W: Write>(
+        &self,
+        alloc: Global,
+        row: &Row<'_>,
+        before: i64,
+        mode: Mode,
+        out: &mut W,
+    ) -> io::Result<()> {
+        for line in lines(alloc, row, before, mode)? {
+            self.write(alloc, &line, out)?;
+        }
+        Ok(())
+    }
+
     fn write_headings<W: Write>(&self, out: &mut W) -> io::Result<()> {
         let a = Spaces(self.a.saturating_sub(1));
         let b = Spaces(self.b.saturating_sub(1));
@@ -231,6 +256,20 @@ pub(crate) fn write<W: Write>(
     mode: Mode,
     out: &mut W,
 ) -> io::Result<bool> {
+    let Some(widths) = widths_of(alloc, rows, mode)? else {
+        return Ok(true)
+    };
+    widths.write_headings(out)?;
+    let mut before = 0;
+    for row in rows {
+        widths.write_row(alloc, row, before, mode, out)?;
+        before = row.apart().unwrap_or(before);
+    }
+    Ok(false)
+}
+
+// The widths that the lines need, if there are any.
+fn widths_of(alloc: Global, rows: &[Row<'_>], mode: Mode) -> Result<Option<Widths>, AllocError> {
     let mut widths = HEADINGS;
     let mut is_empty = true;
     let mut before = 0;
@@ -241,16 +280,5 @@ pub(crate) fn write<W: Write>(
         }
         before = row.apart().unwrap_or(before);
     }
-    if is_empty {
-        return Ok(true);
-    }
-    widths.write_headings(out)?;
-    before = 0;
-    for row in rows {
-        for line in lines(alloc, row, before, mode)? {
-            widths.write(alloc, &line, out)?;
-        }
-        before = row.apart().unwrap_or(before);
-    }
-    Ok(false)
+    Ok(if is_empty { None } else { Some(widths) })
 }

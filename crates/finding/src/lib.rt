@@ -1,4 +1,4 @@
-//! What `find` answers: a symbol by its name, the value of an attribute (docs/FORMAT.md, "The command's text").
+//! What `find` answers: a symbol by its name, the value of an attribute; and a data type by its name (docs/FORMAT.md, "The command's text").
 #![tactic(auto, unfolding(crate::specs::Find::named, crate::specs::Find::attribute_text))]
 
 ghost use Rattle.std.specs.Prelude.{◌≡◌, OnOk, IfOk, is_ok};
@@ -7,6 +7,7 @@ ghost use Rattle.finding.specs.Find.{named, value, place_text, value_text, attri
 ghost use Rattle.finding.specs.Meaning.{NamedMeant};
 
 use attribute::AdsAttribute;
+use named::Named;
 use refusal::Refusal;
 use report::Upload;
 use std::io;
@@ -15,33 +16,33 @@ use symbol::AdsSymbolInfo;
 use walk::Cursor;
 use wording::strings::Exact;
 
-/// A symbol, and where it starts.
-#[derive(Clone, Copy, Debug)]
-pub struct Found<'a> {
+/// A symbol or a data type, and where it starts.
+#[derive(Clone, Copy, Drop)]
+pub struct Found<E> {
     /// In bytes from the start of the upload.
     pub at: usize,
-    /// The symbol.
-    pub symbol: AdsSymbolInfo<'a>,
+    /// The entry.
+    pub entry: E,
 }
 
-/// The first symbol of a name.
-pub fn named<'a>(upload: &Upload<'a>, name: &[u8]) -> Result<Found<'a>, Refusal>
-    ensures { result ≡ named upload.now name.now }
+/// The first entry of a name.
+pub fn named<'a, E: Named<'a>>(upload: &Upload<'a>, name: &[u8]) -> Result<Found<E>, Refusal>
+    ensures { result ≡ named E.name_of E.read upload.now name.now }
 {
-    let at = symbol_find::find(upload.bytes, upload.mode, name)?;
-    let step = Cursor { at }.step::<AdsSymbolInfo>(upload.bytes, upload.mode);
+    let at = name_find::find::<E>(upload.bytes, upload.mode, name)?;
+    let step = Cursor { at }.step::<E>(upload.bytes, upload.mode);
     match step.answer {
-        Some(Ok(symbol)) => Ok(Found { at, symbol }),
+        Some(Ok(entry)) => Ok(Found { at, entry }),
         _ => Err(Refusal::NameNotFound),
     }
 }
 
 /// Writes where a symbol starts, and its type.
-pub fn write_place<W: Write>(found: &Found<'_>, out: &mut W) -> io::Result<()>
+pub fn write_place<W: Write>(found: &Found<AdsSymbolInfo<'_>>, out: &mut W) -> io::Result<()>
     ensures { OnOk result (Appends (W.contents out.old) (W.contents out.new) (place_text found.now)) }
 {
     let at = found.at;
-    let type_name = Exact(found.symbol.type_name);
+    let type_name = Exact(found.entry.type_name);
     writeln!(out, "{at} {type_name}")
 }
 
@@ -53,11 +54,15 @@ fn write_value<W: Write>(one: &AdsAttribute<'_>, out: &mut W) -> io::Result<()>
 }
 
 /// Writes the value of the first attribute of a name alone; whether there is one.
-pub fn write_attribute<W: Write>(found: &Found<'_>, name: &[u8], out: &mut W) -> io::Result<bool>
+pub fn write_attribute<W: Write>(
+    found: &Found<AdsSymbolInfo<'_>>,
+    name: &[u8],
+    out: &mut W,
+) -> io::Result<bool>
     ensures text { OnOk result (Appends (W.contents out.old) (W.contents out.new) (attribute_text found.now name.now)) }
     ensures answer { IfOk result (λ is_there. is_there ≡ is_ok (value found.now name.now)) }
 {
-    match found.symbol.attributes.named(name) {
+    match found.entry.attributes.named(name) {
         Ok(one) => {
             write_value(&one, out)?;
             Ok(true)
@@ -66,7 +71,7 @@ pub fn write_attribute<W: Write>(found: &Found<'_>, name: &[u8], out: &mut W) ->
     }
 }
 
-/// A symbol is found exactly where finding without an index finds it: the first of the walk's steps that has the name letter by letter, in any case. A refusal is that of finding.
-pub fn named_meant()
-    ensures { NamedMeant }
+/// An entry is found exactly where finding without an index finds it: the first of the walk's steps that has the name letter by letter, in any case. A refusal is that of finding.
+pub fn named_meant<'a, E: Named<'a>>()
+    ensures { NamedMeant E.HEADER E.read E.length_of E.name_of }
 {}

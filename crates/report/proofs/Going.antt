@@ -39,3 +39,7 @@ two a b c x y p q = Appends-trans a b c x y p q
 
 pub three : (a b c d : Option (List ℕ)) (x y z t : List ℕ) → Appends a b x → Appends b c y → Appends c d z → x ++ (y ++ z) ≡ t → Appends a d t
 three a b c d x y z t p q r e = subst (Appends a d) e (Appends-trans a b d x (y ++ z) p (Appends-trans b c d y z q r))
+
+-- the same text otherwise
+pub of_text : (a b : Option (List ℕ)) (x y : List ℕ) → Appends a b x → x ≡ y → Appends a b y
+of_text a b x y p e = subst (Appends a b) e p

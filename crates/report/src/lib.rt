@@ -1,10 +1,14 @@
 //! What the command prints of an upload of symbols (docs/FORMAT.md, "The command's text").
-#![tactic(auto, unfolding(crate::specs::Report::upload_text, crate::specs::Report::counted, crate::specs::Report::counts_text, crate::specs::Report::unread_text, crate::specs::Report::refused_line, crate::specs::Json::refused_text, crate::specs::Json::figures_text, crate::specs::Json::strings_text, crate::specs::Json::numbers_text, crate::specs::Json::sections_text, crate::specs::Json::symbol_text, crate::specs::Json::guid_text))]
+#![tactic(auto, unfolding(crate::specs::Report::upload_text, crate::specs::Report::counted, crate::specs::Report::counts_text, crate::specs::Report::unread_text, crate::specs::Report::refused_line, crate::specs::Json::refused_text, crate::specs::Json::figures_text, crate::specs::Json::strings_text, crate::specs::Json::numbers_text, crate::specs::Json::sections_text, crate::specs::Json::symbol_text, crate::specs::Json::guid_text, crate::specs::Cells::number_cell, crate::specs::Cells::hexadecimal_cell, crate::specs::Cells::name_cell, crate::specs::Table::headings_text, crate::specs::Table::names_text, crate::specs::Table::numbers_text, crate::specs::Table::counts_text, crate::specs::Table::symbol_row, crate::specs::Cells::refused_row))]
 
 ghost use Rattle.std.specs.Prelude.{◌≡◌, Some};
+ghost use Rattle.report.specs.Aligned.{TablesMeant};
 ghost use Rattle.report.specs.Meant.{LinesMeant, TextsMeant};
+ghost use Rattle.report.specs.Sample.{SampleTold};
+ghost use Rattle.report.specs.Tallies.{TalliesMeant};
 ghost use Rattle.report.specs.Report.{form_text, mode_text, upload_text, nothing_counted, counted, all_of};
 
+pub mod cells;
 pub mod check;
 pub mod json;
 pub mod list;
@@ -122,4 +126,22 @@ pub fn lines_meant()
 /// What `check` says of an upload, of its refused entries and of how many there are, stands where it should.
 pub fn texts_meant()
     ensures { TextsMeant }
+{}
+
+/// In a table each column begins at the same character in every line and is wide enough for each of its cells, of which all characters
+/// stand there; between two columns are two spaces. The cells of an accepted entry are by its bytes.
+pub fn tables_meant()
+    ensures { TablesMeant }
+{}
+
+/// Of the entries of an upload those are counted that were accepted, that were refused, and that have bytes left; and of all the bytes left
+/// are added.
+pub fn tallies_meant()
+    ensures { TalliesMeant }
+{}
+
+/// A symbol with every section, in which every number is another, and the start of another entry, byte by byte; and what is written of
+/// them: lines of JSON, a table, and what `check` says.
+pub fn sample_told()
+    ensures { SampleTold }
 {}

@@ -1,9 +1,12 @@
 //! The sections of a symbol's entry: the parts in which its bytes are told (docs/FORMAT.md, "Symbol entries").
 #![tactic(auto)]
 
-ghost use Rattle.std.specs.Prelude.{◌≡◌, ◌+◌, ◌-◌, ◌^◌, ◌++◌, IfOk, OnOk, length, min};
+ghost use Rattle.std.specs.Prelude.{◌≡◌, ◌+◌, ◌-◌, ◌^◌, ◌<◌, IfOk, OnOk, length, min};
 ghost use Rattle.std.specs.List.{flat_map};
-ghost use Rattle.sections.specs.Sections.{own_bytes, kind, number, part_order};
+ghost use Rattle.sections.specs.Parts.{kind, number, part_order};
+ghost use Rattle.sections.specs.Sections.{own_bytes, cut, cut_all, header_parts, string_parts, with_count, with_attributes, with_former_names, with_optional, cut_entry, seen, sections_of};
+
+pub mod theorems;
 
 use std::alloc::{AllocError, Global};
 use std::cmp::Ordering;
@@ -115,44 +118,45 @@ impl Section<'_> {
     }
 }
 
-// The sections that were cut off an entry, and what is left of it.
+// What was cut off an entry's own bytes so far.
 #[derive(Drop)]
 struct Cutter<'a> {
+    own: &'a [u8],
     sections: Vec<Section<'a>>,
+    // Where the next section begins.
     at: usize,
-    left: &'a [u8],
 }
 
 impl<'a> Cutter<'a> {
-    // Cuts so many bytes off, or as many as there are. No section is empty.
-    fn cut(&mut self, part: Part, length: usize) -> Result<(), AllocError>
-        ensures { OnOk result (flat_map own_bytes self.new.sections.items ++ self.new.left.now ≡ flat_map own_bytes self.old.sections.items ++ self.old.left.now) }
+    // How many bytes are not cut off yet.
+    fn left(&self) -> usize
+        ensures { result ≡ length self.now.own.now - self.now.at }
     {
-        let left = self.left;
-        let length = length.min(left.len());
+        self.own.len().saturating_sub(self.at)
+    }
+
+    // Cuts so many bytes off, or as many as there are. No section is empty.
+    #[tactic(auto, unfolding(crate::specs::Sections::cut))]
+    fn cut(&mut self, part: Part, size: usize) -> Result<(), AllocError>
+        ensures value { OnOk result (seen self.new ≡ cut part size (seen self.old)) }
+        // So what does not fit a number is more than there is.
+        ensures left_fits { length self.old.own.now - self.old.at < 2 ^ 64 }
+    {
+        let length = size.min(self.left());
         if length == 0 {
             return Ok(());
         }
-        let section = Section {
+        self.sections.push(Section {
             part,
             at: self.at,
-            bytes: &left[..length],
-        };
-        self.sections.push(section)?;
-        self.left = &left[length..];
-        self.at = self.at.saturating_add(length);
+            bytes: part::part_of(self.own, self.at, length),
+        })?;
+        self.at += length;
         Ok(())
     }
 
-    // A string and its end byte.
-    fn cut_string(&mut self, part: Part, string: &[u8]) -> Result<(), AllocError>
-        ensures { OnOk result (flat_map own_bytes self.new.sections.items ++ self.new.left.now ≡ flat_map own_bytes self.old.sections.items ++ self.old.left.now) }
-    {
-        self.cut(part, string.len().saturating_add(1))
-    }
-
     fn cut_header(&mut self) -> Result<(), AllocError>
-        ensures { OnOk result (flat_map own_bytes self.new.sections.items ++ self.new.left.now ≡ flat_map own_bytes self.old.sections.items ++ self.old.left.now) }
+        ensures { OnOk result (seen self.new ≡ cut_all header_parts (seen self.old)) }
     {
         self.cut(Part::Length, 4)?;
         self.cut(Part::Group, 4)?;
@@ -164,22 +168,44 @@ impl<'a> Cutter<'a> {
         self.cut(Part::StringLengths, 6)
     }
 
+    fn cut_optional(&mut self, part: Part, length: usize, is_there: bool) -> Result<(), AllocError>
+        ensures { OnOk result (seen self.new ≡ with_optional part length is_there (seen self.old)) }
+    {
+        if is_there {
+            self.cut(part, length)?;
+        }
+        Ok(())
+    }
+
+    // A string and its end byte.
+    #[tactic(auto, using(crate::proofs::Cutting::cut_most))]
+    fn cut_string(&mut self, part: Part, string: &[u8]) -> Result<(), AllocError>
+        ensures { OnOk result (seen self.new ≡ cut part (length string.now + 1) (seen self.old)) }
+    {
+        self.cut(part, string.len().saturating_add(1))
+    }
+
     fn cut_strings(&mut self, symbol: &AdsSymbolInfo<'_>) -> Result<(), AllocError>
-        ensures { OnOk result (flat_map own_bytes self.new.sections.items ++ self.new.left.now ≡ flat_map own_bytes self.old.sections.items ++ self.old.left.now) }
+        ensures { OnOk result (seen self.new ≡ cut_all (string_parts symbol.now) (seen self.old)) }
     {
         self.cut_string(Part::Name, symbol.name)?;
         self.cut_string(Part::Type, symbol.type_name)?;
         self.cut_string(Part::Comment, symbol.comment)
     }
 
-    // A count whose records are all refused stands alone.
-    fn cut_attributes(&mut self, symbol: &AdsSymbolInfo<'_>) -> Result<(), AllocError>
-        ensures { OnOk result (flat_map own_bytes self.new.sections.items ++ self.new.left.now ≡ flat_map own_bytes self.old.sections.items ++ self.old.left.now) }
+    // The count stands alone where no attribute is shown.
+    fn cut_count(&mut self, symbol: &AdsSymbolInfo<'_>) -> Result<(), AllocError>
+        ensures { OnOk result (seen self.new ≡ with_count symbol.now (seen self.old)) }
     {
-        if !symbol.flags.has_attributes() || self.left.len() < 2 {
+        if !symbol.flags.has_attributes() || self.left() < 2 {
             return Ok(());
         }
-        self.cut(Part::AttributeCount, 2)?;
+        self.cut(Part::AttributeCount, 2)
+    }
+
+    fn cut_attributes(&mut self, symbol: &AdsSymbolInfo<'_>) -> Result<(), AllocError>
+        ensures { OnOk result (seen self.new ≡ with_attributes symbol.now (seen self.old)) }
+    {
         let mut number: usize = 0;
         for one in symbol.attributes {
             let strings = one.name.len().saturating_add(one.value.len());
@@ -190,7 +216,7 @@ impl<'a> Cutter<'a> {
     }
 
     fn cut_former_names(&mut self, symbol: &AdsSymbolInfo<'_>) -> Result<(), AllocError>
-        ensures { OnOk result (flat_map own_bytes self.new.sections.items ++ self.new.left.now ≡ flat_map own_bytes self.old.sections.items ++ self.old.left.now) }
+        ensures { OnOk result (seen self.new ≡ with_former_names symbol.now (seen self.old)) }
     {
         let mut number: usize = 0;
         for one in symbol.refactor_infos {
@@ -199,55 +225,37 @@ impl<'a> Cutter<'a> {
         }
         Ok(())
     }
-}
-
-impl<'a> Cutter<'a> {
-    // What is left has no part of its own.
-    fn cut_rest(&mut self) -> Result<(), AllocError>
-        ensures { OnOk result (flat_map own_bytes self.new.sections.items ≡ flat_map own_bytes self.old.sections.items ++ self.old.left.now) }
+    // All that a symbol has, and as the last what is left.
+    #[tactic(auto, unfolding(crate::specs::Sections::cut_entry))]
+    fn cut_entry(&mut self, symbol: &AdsSymbolInfo<'_>) -> Result<(), AllocError>
+        ensures { OnOk result (seen self.new ≡ cut_entry symbol.now (seen self.old)) }
     {
-        let left = self.left;
-        if left.len() == 0 {
-            return Ok(());
-        }
-        let section = Section {
-            part: Part::Unread,
-            at: self.at,
-            bytes: left,
-        };
-        self.sections.push(section)?;
-        Ok(())
+        self.cut_header()?;
+        self.cut_strings(symbol)?;
+        self.cut_optional(Part::Guid, 16, symbol.guid.is_some())?;
+        self.cut_count(symbol)?;
+        self.cut_attributes(symbol)?;
+        self.cut_optional(Part::ExtendedFlags, 4, symbol.extended_flags.is_some())?;
+        self.cut_former_names(symbol)?;
+        self.cut(Part::Unread, self.own.len())
     }
 }
 
 /// The sections of an entry's own bytes, which this symbol was read from, in order: each byte stands in one of them.
+#[tactic(auto, unfolding(crate::specs::Sections::sections_of))]
 pub fn sections<'a>(
     alloc: Global,
     own: &'a [u8],
     symbol: &AdsSymbolInfo<'_>,
 ) -> Result<Vec<Section<'a>>, AllocError>
-    ensures { IfOk result (λ all. flat_map own_bytes all.items ≡ own.now) }
+    ensures value { IfOk result (λ all. all.items ≡ sections_of own.entry symbol.now) }
+    ensures whole { IfOk result (λ all. flat_map own_bytes all.items ≡ own.now) }
 {
     let mut cutter = Cutter {
+        own,
         sections: Vec::new(alloc),
         at: 0,
-        left: own,
     };
-    cutter.cut_header()?;
-    cutter.cut_strings(symbol)?;
-    if symbol.guid.is_some() {
-        cutter.cut(Part::Guid, 16)?;
-    }
-    cutter.cut_attributes(symbol)?;
-    if symbol.extended_flags.is_some() {
-        cutter.cut(Part::ExtendedFlags, 4)?;
-    }
-    cutter.cut_former_names(symbol)?;
-    cutter.cut_rest()?;
-    let Cutter {
-        sections,
-        at: _,
-        left: _,
-    } = cutter;
-    Ok(sections)
+    cutter.cut_entry(symbol)?;
+    Ok(cutter.sections)
 }

@@ -4,3 +4,7 @@ pub mod Counting
 pub mod Trees
 pub mod Sample
 pub mod SubItems
+pub mod Levels
+pub mod Words
+pub mod Rows
+pub mod Aligned

@@ -23,7 +23,7 @@ use Rattle.data_type.specs.DataType.{items_from, item_at, sub_items_of, type_at,
 use Rattle.field.specs.Modes.{strings_end}
 use Rattle.data_type.specs.Layout.{arrays_end, record_of}
 use Rattle.data_type.proofs.Parts.{part_in, after_is}
-use Rattle.data_type.proofs.Inside.{turn, accepted_at, holds}
+use Rattle.data_type.proofs.Inside.{Turn, turn, accepted_at, holds}
 use Rattle.data_type.proofs.More.{deeper}
 use Rattle.data_type.proofs.Numbers.{le2_part, le4_part, le4_drop, heads, fills}
 use Rattle.data_type.proofs.Fronts.{front_was, record_is}
@@ -33,14 +33,14 @@ use Rattle.type_report.specs.Node.{items_start, member_at, members_from, members
 use Rattle.type_report.specs.Meaning.{IsMember, AreMembers, none, one, first_place, MembersMeant}
 
 -- what a record tells of its entry's bytes
-record Tells (e : Bor (List ℕ)) (r : AdsDataTypeInfo) : Type 0 where
-  tail : Tail
-  members : ℕ
-  is : r ≡ record_of e tail members
-  strings : strings_end e.now ≤ length e.now
-  room : arrays_end e.now ≤ length e.now
+pub record Tells (e : Bor (List ℕ)) (r : AdsDataTypeInfo) : Type 0 where
+  pub tail : Tail
+  pub members : ℕ
+  pub is : r ≡ record_of e tail members
+  pub strings : strings_end e.now ≤ length e.now
+  pub room : arrays_end e.now ≤ length e.now
 
-tells : (mode : Mode) (left : ℕ) (e : Bor (List ℕ)) (r : AdsDataTypeInfo) → type_at mode left e ≡ Ok r → Tells e r
+pub tells : (mode : Mode) (left : ℕ) (e : Bor (List ℕ)) (r : AdsDataTypeInfo) → type_at mode left e ≡ Ok r → Tells e r
 tells mode left e r h =
     let a = accepted_at mode left e r h in
     let w = front_was mode e a.front a.front_is in
@@ -70,6 +70,44 @@ piece_is read s at small some room =
       le-ltb (length s.now - at) (le4 s.now at) (omega arith),
       moves,
     )
+
+-- the first of some sub-items, where it stands among the pieces of their bytes
+pub record Found (mode : Mode) (left : ℕ) (s : Bor (List ℕ)) (at count : ℕ) (items : SubItemsRead) (t : Turn mode left (after s at) count items) : Type 0 where
+  pub least : 42 ≤ le4 s.now at
+  pub room : at + le4 s.now at ≤ length s.now
+  pub short : length t.own.now ≤ limit
+  pub read : type_of mode (part s at (le4 s.now at)) ≡ Ok t.info
+  pub rest : items_from (item_at mode left) (after s (at + le4 s.now at)) count ≡ Ok t.more
+  pub pieces : pieces_from (type_of mode) s at (length s.now - at)
+      ≡ record { start = at; end = at + le4 s.now at; answer = Ok t.info } ∷ pieces_from (type_of mode) s (at + le4 s.now at) (length s.now - (at + le4 s.now at))
+
+pub found : (mode : Mode) (left : ℕ) → left ≤ 15 → (s : Bor (List ℕ)) → length s.now ≤ limit → (at count : ℕ) (items : SubItemsRead) (t : Turn mode left (after s at) count items)
+    → Found mode left s at count items t
+found mode left few s small at count items t =
+    let k = took (after s at) t.own t.behind t.takes in
+    let size : ℕ = le4 s.now at in
+    let size_is : le4 (drop at s.now) 0 ≡ size = le4_drop s.now at 0 ∙ ap (le4 s.now) (add-zero at) in
+    let long : length (drop at s.now) ≡ length s.now - at = length-drop at s.now in
+    let least : 42 ≤ size = omega (arith, k.least, size_is) in
+    let room : at + size ≤ length s.now = omega (arith, k.least, k.room, size_is, long) in
+    let own_is : t.own ≡ part s at size = k.own_is ∙ part_after s at 0 (le4 (drop at s.now) 0) ∙ ap₂ (part s) (add-zero at) size_is in
+    let behind_is : t.behind ≡ after s (at + size) = k.behind_is ∙ after_after s at (le4 (drop at s.now) 0) ∙ ap (λ (x : ℕ). after s (at + x)) size_is in
+    let own_long : length t.own.now ≡ size = ap (λ (x : Bor (List ℕ)). length x.now) own_is ∙ length_part s at size room in
+    let levels : 15 - t.deeper + t.deeper ≡ 15 = omega (arith, t.some, few) in
+    let as_root : type_of mode t.own ≡ Ok t.info = subst (λ (x : ℕ). type_at mode x t.own ≡ Ok t.info) levels (deeper mode (15 - t.deeper) t.deeper t.own t.info t.entry) in
+    let read : type_of mode (part s at size) ≡ Ok t.info = ap (type_of mode) (sym own_is) ∙ as_root in
+    let piece : piece_at (type_of mode) s at ≡ record { start = at; end = at + size; answer = Ok t.info } =
+    piece_is (type_of mode) s at small (omega (arith, least)) room
+    ∙ ap (λ (r : Result AdsDataTypeInfo Refusal). record { start = at; end = at + size; answer = r }) read in
+    record {
+      least = least;
+      room = room;
+      short = omega (arith, own_long, room, small);
+      read = read;
+      rest = ap (λ (x : Bor (List ℕ)). items_from (item_at mode left) x count) (sym behind_is) ∙ t.rest;
+      pieces = one_left (type_of mode) s at (omega (arith, least, room))
+          ∙ ap (λ (p : Piece AdsDataTypeInfo). p ∷ pieces_from (type_of mode) s p.end (length s.now - p.end)) piece;
+    }
 
 module _ (mode : Mode) (u : Bor (List ℕ)) (small : length u.now ≤ limit) (n : Node) (s : Bor (List ℕ)) (base : ℕ) (is : s ≡ part u base (length s.now)) (inside : base + length s.now ≤ length u.now)
     (starts : items_start n ≡ base) where
@@ -107,29 +145,12 @@ module _ (mode : Mode) (u : Bor (List ℕ)) (small : length u.now ≤ limit) (n 
   all left few zero at items h = none
   all left few (suc count) at items h =
       let t = turn mode left (after s at) count items h in
-      let k = took (after s at) t.own t.behind t.takes in
-      let size : ℕ = le4 s.now at in
-      let size_is : le4 (drop at s.now) 0 ≡ size = le4_drop s.now at 0 ∙ ap (le4 s.now) (add-zero at) in
-      let long : length (drop at s.now) ≡ length s.now - at = length-drop at s.now in
-      let least : 42 ≤ size = omega (arith, k.least, size_is) in
-      let room : at + size ≤ length s.now = omega (arith, k.least, k.room, size_is, long) in
-      let own_is : t.own ≡ part s at size = k.own_is ∙ part_after s at 0 (le4 (drop at s.now) 0) ∙ ap₂ (part s) (add-zero at) size_is in
-      let behind_is : t.behind ≡ after s (at + size) = k.behind_is ∙ after_after s at (le4 (drop at s.now) 0) ∙ ap (λ (x : ℕ). after s (at + x)) size_is in
-      let rest : items_from (item_at mode left) (after s (at + size)) count ≡ Ok t.more = ap (λ (x : Bor (List ℕ)). items_from (item_at mode left) x count) (sym behind_is) ∙ t.rest in
-      let levels : 15 - t.deeper + t.deeper ≡ 15 = omega (arith, t.some, few) in
-      let as_root : type_of mode t.own ≡ Ok t.info = subst (λ (x : ℕ). type_at mode x t.own ≡ Ok t.info) levels (deeper mode (15 - t.deeper) t.deeper t.own t.info t.entry) in
-      let read : type_of mode (part s at size) ≡ Ok t.info = ap (type_of mode) (sym own_is) ∙ as_root in
-      let piece : piece_at (type_of mode) s at ≡ record { start = at; end = at + size; answer = Ok t.info } =
-      piece_is (type_of mode) s at (omega (arith, inside, small)) (omega (arith, least)) room
-      ∙ ap (λ (r : Result AdsDataTypeInfo Refusal). record { start = at; end = at + size; answer = r }) read in
-      let pieces : pieces_from (type_of mode) s at (length s.now - at) ≡ record { start = at; end = at + size; answer = Ok t.info } ∷ pieces_from (type_of mode) s (at + size) (length s.now - (at + size)) =
-      one_left (type_of mode) s at (omega (arith, least, room))
-      ∙ ap (λ (p : Piece AdsDataTypeInfo). p ∷ pieces_from (type_of mode) s p.end (length s.now - p.end)) piece in
-      let next : base + (at + size) ≡ base + at + le4 u.now (base + at) = omega (arith, le4_there at (omega (arith, least, room))) in
-      let more = all left few count (at + size) t.more rest in
-      subst (λ (ps : List (Piece AdsDataTypeInfo)). AreMembers mode u n (base + at) (suc count) (members_from n (suc count) ps)) (sym pieces)
-      (one (is_member at t.info least room read)
-      (subst (λ (x : ℕ). AreMembers mode u n x count (members_from n count (pieces_from (type_of mode) s (at + size) (length s.now - (at + size))))) next more))
+      let f = found mode left few s (omega (arith, inside, small)) at count items t in
+      let next : base + (at + le4 s.now at) ≡ base + at + le4 u.now (base + at) = omega (arith, le4_there at (omega (arith, f.least, f.room))) in
+      let more = all left few count (at + le4 s.now at) t.more f.rest in
+      subst (λ (ps : List (Piece AdsDataTypeInfo)). AreMembers mode u n (base + at) (suc count) (members_from n (suc count) ps)) (sym f.pieces)
+      (one (is_member at t.info f.least f.room f.read)
+      (subst (λ (x : ℕ). AreMembers mode u n x count (members_from n count (pieces_from (type_of mode) s (at + le4 s.now at) (length s.now - (at + le4 s.now at))))) next more))
 
 pub members_meant : MembersMeant
 members_meant mode u n size st =

@@ -1,5 +1,6 @@
 -- docs/FORMAT.md, "The command's text": where a data type stands in an upload, and where a member of one does.
 use Rattle.std.specs.Prelude.{ℕ, zero, suc, ◌-◌, List, [], ◌∷◌, length}
+use Rattle.std.specs.List.{flat_map}
 use Rattle.part.specs.Outcome.{outcome}
 use Rattle.refusal.specs.declared.Mode.{Mode}
 use Rattle.walk.specs.declared.Piece.{Piece}
@@ -42,3 +43,9 @@ members_of mode n = members_from n n.info.sub_items.count (pieces (type_of mode)
 -- those that are still to be given
 abbrev pub members_left : Members → List Node
 members_left m = members_from m.parent m.left (walker_left type_of m.walker)
+
+-- a data type and its members below it, each before its own members, so many levels in all; with by how many characters a name stands
+-- to the right, two more at each level
+unfoldable pub rows_of : Mode → ℕ → ℕ → Node → List (ℕ × Node)
+rows_of mode zero indent n = []
+rows_of mode (suc levels) indent n = (indent, n) ∷ flat_map (rows_of mode levels (plus indent 2)) (members_of mode n)

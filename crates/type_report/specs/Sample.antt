@@ -5,7 +5,10 @@ use Rattle.std.specs.Borrow.{Bor}
 use Rattle.refusal.specs.declared.Mode.TheVariants.{Present}
 use Rattle.walk.specs.Pieces.{pieces}
 use Rattle.data_type.specs.DataType.{type_of}
+use Rattle.upload.specs.declared.Form.TheVariants.{Binary}
+use Rattle.report.specs.declared.Upload.{Upload}
 use Rattle.type_report.specs.Json.{entry_line}
+use Rattle.type_report.specs.Table.{table_text}
 
 -- the header and the strings R and c of the data type
 abbrev pub root_front : List ℕ
@@ -53,3 +56,15 @@ line =
 -- wherever it lies
 abbrev pub SampleTold : Type 0
 SampleTold = (u : Bor (List ℕ)) → u.now ≡ sample → flat_map (entry_line Present) (pieces (type_of Present) u) ≡ line
+
+abbrev pub table : List ℕ
+table =
+    codes "f (binary, 236 bytes)\n"
+    ++ (codes "place  name   type  offset  from start  size  mark                             array           attributes\n"
+    ++ (codes "    0  R                15           0    14  reference                                        n = v; k = \n"
+    ++ (codes "   47    a    ta        25          25    24  bits, in reference               [-1..5, 3..10]\n"
+    ++ (codes "  113      b  tb        35          60    34  property, in bits, in reference\n"
+    ++ codes "  161    d             700         700    44  static, in reference\n"))))
+
+abbrev pub TableTold : Type 0
+TableTold = (u : Upload) → u.path.now ≡ codes "f" → u.form ≡ Binary → u.mode ≡ Present → u.bytes.now ≡ sample → table_text u ≡ table

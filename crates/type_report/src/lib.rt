@@ -1,9 +1,10 @@
 //! `type`: data types with their members (docs/FORMAT.md, "The command's text").
-#![tactic(auto, unfolding(crate::specs::Json::strings_text, crate::specs::Json::numbers_text, crate::specs::Json::shape_text, crate::specs::Json::maker_text, crate::specs::Json::own_text))]
+#![tactic(auto, unfolding(crate::specs::Json::strings_text, crate::specs::Json::numbers_text, crate::specs::Json::shape_text, crate::specs::Json::maker_text, crate::specs::Json::own_text, crate::specs::Table::headings_text, crate::specs::Table::names_text, crate::specs::Table::numbers_text, crate::specs::Table::tail_text, crate::specs::Table::row_text, crate::specs::Table::head_text, crate::specs::Cells::array_cell, crate::specs::Cells::array_width, crate::specs::Cells::attribute_cell))]
 
 ghost use Rattle.std.specs.Prelude.{◌≡◌};
 ghost use Rattle.type_report.specs.Counts.{none_counted, counted};
 
+pub mod cells;
 pub mod json;
 pub mod list;
 pub mod marks;

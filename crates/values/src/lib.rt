@@ -1,7 +1,11 @@
 //! What the parts of a symbol's entry tell, for people and in JSON (docs/FORMAT.md, "The command's text").
-#![tactic(auto)]
+#![tactic(auto, unfolding(crate::specs::Values::value_of))]
+
+ghost use Rattle.std.specs.Prelude.{◌≡◌};
+ghost use Rattle.values.specs.Values.{attribute_in, count_value, extended_value, former_name_in, guid_value, value_of};
 
 mod names;
+pub mod theorems;
 
 use attribute::AdsAttribute;
 use flags::symbol_flags::{AdsSymbol2Flags, AdsSymbolFlags};
@@ -14,8 +18,8 @@ use symbol::AdsSymbolInfo;
 use wording::strings::{Quoted, Shown};
 use wording::{Bytes, InWords};
 
-/// What a part tells.
-#[derive(Clone, Copy, Debug)]
+/// What a part tells. Two are equal where they tell the same, wherever their bytes lie.
+#[derive(Clone, Copy, Debug, PartialEq, Eq)]
 pub enum Value<'a> {
     /// Nothing: the part is not there.
     Absent,
@@ -145,8 +149,10 @@ impl fmt::Display for AsJson<'_> {
     }
 }
 
-/// What a section of a symbol's entry tells.
-pub fn value_of<'a>(symbol: &AdsSymbolInfo<'a>, section: &Section<'a>) -> Value<'a> {
+/// What a section of a symbol's entry tells (docs/FORMAT.md, "The command's text", of `compare`).
+pub fn value_of<'a>(symbol: &AdsSymbolInfo<'a>, section: &Section<'a>) -> Value<'a>
+    ensures { result ≡ value_of symbol.now section.now.part section.now.bytes }
+{
     match section.part {
         Part::Length => Value::Bytes(symbol.length),
         Part::Group => Value::Hexadecimal(symbol.index_group.0),
@@ -159,7 +165,7 @@ pub fn value_of<'a>(symbol: &AdsSymbolInfo<'a>, section: &Section<'a>) -> Value<
         Part::Name => Value::Text(symbol.name),
         Part::Type => Value::Text(symbol.type_name),
         Part::Comment => Value::Text(symbol.comment),
-        Part::Guid => symbol.guid.map_or(Value::Absent, |id| Value::Guid(id)),
+        Part::Guid => guid(symbol.guid),
         Part::AttributeCount => count(symbol.attributes.count),
         Part::Attribute(_) => attribute_in(section.bytes),
         Part::ExtendedFlags => extended(symbol.extended_flags),
@@ -167,11 +173,25 @@ pub fn value_of<'a>(symbol: &AdsSymbolInfo<'a>, section: &Section<'a>) -> Value<
     }
 }
 
-fn count<'a>(number: usize) -> Value<'a> {
-    Value::Number(u32::try_from(number).unwrap_or(u32::MAX))
+fn guid<'a>(id: Option<[u8; 16]>) -> Value<'a>
+    ensures { result ≡ guid_value id }
+{
+    match id {
+        Some(id) => Value::Guid(id),
+        None => Value::Absent,
+    }
 }
 
-fn extended<'a>(flags: Option<AdsSymbol2Flags>) -> Value<'a> {
+// As many as are shown: 65,535 at most.
+fn count<'a>(number: usize) -> Value<'a>
+    ensures { result ≡ count_value number }
+{
+    Value::Number(number.min(u32::MAX as usize) as u32)
+}
+
+fn extended<'a>(flags: Option<AdsSymbol2Flags>) -> Value<'a>
+    ensures { result ≡ extended_value flags }
+{
     match flags {
         Some(flags) => Value::ExtendedFlags(flags),
         None => Value::Absent,
@@ -179,42 +199,20 @@ fn extended<'a>(flags: Option<AdsSymbol2Flags>) -> Value<'a> {
 }
 
 // Read by itself, and not by its number: an entry can have thousands.
-fn attribute_in(record: &[u8]) -> Value<'_> {
-    match attribute::first(record) {
+fn attribute_in(bytes: &[u8]) -> Value<'_>
+    ensures { result ≡ attribute_in bytes.entry }
+{
+    match attribute::first(bytes) {
         Ok((one, _)) => Value::Attribute(one),
         Err(_) => Value::Absent,
     }
 }
 
-fn former_name_in(record: &[u8]) -> Value<'_> {
-    match refactor::first(record) {
+fn former_name_in(bytes: &[u8]) -> Value<'_>
+    ensures { result ≡ former_name_in bytes.entry }
+{
+    match refactor::first(bytes) {
         Ok((one, _)) => Value::FormerName(one.name),
         Err(_) => Value::Absent,
     }
-}
-
-/// Whether two values tell the same: in JSON they are the same text.
-pub fn tell_the_same(one: &Value<'_>, other: &Value<'_>) -> bool {
-    match (*one, *other) {
-        (Value::Absent, Value::Absent) => true,
-        (Value::Bytes(one), Value::Bytes(other)) => one == other,
-        (Value::Number(one), Value::Number(other)) => one == other,
-        (Value::Hexadecimal(one), Value::Hexadecimal(other)) => one == other,
-        (Value::High(one), Value::High(other)) => one == other,
-        (Value::Flags(one), Value::Flags(other)) => one == other,
-        (Value::ExtendedFlags(one), Value::ExtendedFlags(other)) => one == other,
-        (Value::Text(one), Value::Text(other)) => one == other,
-        (Value::Guid(one), Value::Guid(other)) => one == other,
-        (Value::Attribute(one), Value::Attribute(other)) => is_same(one, other),
-        (Value::FormerName(one), Value::FormerName(other)) => one == other,
-        (Value::Refused(one), Value::Refused(other)) => one == other,
-        _ => false,
-    }
-}
-
-fn is_same(one: AdsAttribute<'_>, other: AdsAttribute<'_>) -> bool {
-    if one.name != other.name {
-        return false;
-    }
-    one.value == other.value
 }

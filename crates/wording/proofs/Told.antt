@@ -5,8 +5,8 @@ use Rattle.std.specs.Fmt.{digits}
 use Rattle.std.proofs.lemmas.Fmt.{decimal_digit}
 use Rattle.refusal.specs.Refusal.{figures_of}
 use Rattle.refusal.specs.declared.Refusal.{Refusal}
-use Rattle.refusal.specs.declared.Refusal.TheVariants.{UnexpectedLength, TooShort, EntryLengthMismatch, ClaimBelowHeader, TooLarge, OutputTooSmall, TooLong, SectionsDisagree, BadBlock, ZeroEntryLength, BadText, BadHexadecimal, NameNotFound, NoSuchNumber, TooDeep, EndByte, NotInSheet, BadSheet, NotPlain}
-use Rattle.wording.specs.Wording.{three_digits, grouped_by, grouped, many, bytes, figure, refusal_text}
+use Rattle.refusal.specs.declared.Refusal.TheVariants.{UnexpectedLength, TooShort, EntryLengthMismatch, ClaimBelowHeader, TooLarge, OutputTooSmall, TooLong, SectionsDisagree, BadBlock, ZeroEntryLength, BadText, BadHexadecimal, NameNotFound, NoSuchNumber, TooDeep, EndByte, NotInSheet, BadSheet, NotPlain, BadPath, NoSuchMember, NoSuchType, WrongDimensions, NoOffset, OffsetTooLarge, TooManyAliases}
+use Rattle.wording.specs.Wording.{three_digits, grouped_by, grouped, many, bytes, dimensions, figure, refusal_text}
 use Rattle.wording.specs.Meant.{TellsNumber, low, high, NumbersTold, RefusalsTold}
 use Rattle.wording.proofs.Grouping.{grouped_small, grouped_high}
 
@@ -53,9 +53,16 @@ numbered (EndByte a b) = (_, refl)
 numbered (NotInSheet a b) = (_, refl)
 numbered (BadSheet a b) = (_, refl)
 numbered (NotPlain a) = (_, refl)
+numbered (BadPath a) = (_, refl)
+numbered (NoSuchMember a) = (_, refl)
+numbered (NoSuchType a) = (_, refl)
+numbered (WrongDimensions a b) = (_, refl)
+numbered (NoOffset a b) = (_, refl)
+numbered (OffsetTooLarge a) = (_, refl)
+numbered (TooManyAliases a) = (_, refl)
 
 pub refusals_told : RefusalsTold
-unfolding refusal_text figure many bytes grouped grouped_by digits
+unfolding refusal_text figure many bytes dimensions grouped grouped_by digits
 refusals_told = record {
   number = numbered;
   unexpected = refl;
@@ -85,4 +92,15 @@ refusals_told = record {
   shape = refl;
   flags = refl;
   plain = refl;
+  no_path = refl;
+  no_member = refl;
+  no_type = refl;
+  dimension = refl;
+  dimensions = refl;
+  below_bit = refl;
+  reference = refl;
+  property = refl;
+  static_member = refl;
+  offset = refl;
+  aliases = refl;
 }

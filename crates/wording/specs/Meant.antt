@@ -2,7 +2,7 @@
 use Rattle.std.specs.Prelude.{ℕ, ◌+◌, ◌*◌, ◌^◌, ◌<◌, ◌≤◌, ◌≡◌, ◌⊎◌, List, [], ◌∷◌, ◌++◌, codes, decimal, encode_utf8_all, length, map, slice_index}
 use Rattle.refusal.specs.Refusal.{figures_of}
 use Rattle.refusal.specs.declared.Refusal.{Refusal}
-use Rattle.refusal.specs.declared.Refusal.TheVariants.{UnexpectedLength, TooShort, EntryLengthMismatch, ClaimBelowHeader, TooLarge, OutputTooSmall, TooLong, SectionsDisagree, BadBlock, ZeroEntryLength, BadText, BadHexadecimal, NameNotFound, NoSuchNumber, TooDeep, EndByte, NotInSheet, BadSheet, NotPlain}
+use Rattle.refusal.specs.declared.Refusal.TheVariants.{UnexpectedLength, TooShort, EntryLengthMismatch, ClaimBelowHeader, TooLarge, OutputTooSmall, TooLong, SectionsDisagree, BadBlock, ZeroEntryLength, BadText, BadHexadecimal, NameNotFound, NoSuchNumber, TooDeep, EndByte, NotInSheet, BadSheet, NotPlain, BadPath, NoSuchMember, NoSuchType, WrongDimensions, NoOffset, OffsetTooLarge, TooManyAliases}
 use Rattle.text.specs.Text.{code_point}
 use Rattle.wording.specs.Wording.{grouped, refusal_text}
 use Rattle.wording.specs.Text.{quoted, shown, shown_width}
@@ -46,6 +46,17 @@ pub record RefusalsTold : Type 0 where
   pub shape : refusal_text (BadSheet 1 0) ≡ codes "refusal 18, bad sheet: row 1, of the wrong shape"
   pub flags : refusal_text (BadSheet 2300 5) ≡ codes "refusal 18, bad sheet: row 2,300, column 5, flags"
   pub plain : refusal_text (NotPlain 16777215) ≡ codes "refusal 19, not in plain form: byte 16,777,215 departs"
+  pub no_path : refusal_text (BadPath 7) ≡ codes "refusal 20, no path of a variable: fault at byte 7 of the path"
+  pub no_member : refusal_text (NoSuchMember 12) ≡ codes "refusal 13, name not found: no member has the name at byte 12 of the path"
+  pub no_type : refusal_text (NoSuchType 1200) ≡ codes "refusal 13, name not found: no data type has the name of the type at byte 1,200 of the path"
+  pub dimension : refusal_text (WrongDimensions 14 1) ≡ codes "refusal 21, wrong dimensions: subscripts at byte 14 of the path, 1 dimension there"
+  pub dimensions : refusal_text (WrongDimensions 16 3) ≡ codes "refusal 21, wrong dimensions: subscripts at byte 16 of the path, 3 dimensions there"
+  pub below_bit : refusal_text (NoOffset 5 0x2) ≡ codes "refusal 22, no offset: at byte 5 of the path, below a symbol of a bit"
+  pub reference : refusal_text (NoOffset 6 0x4) ≡ codes "refusal 22, no offset: at byte 6 of the path, a reference"
+  pub property : refusal_text (NoOffset 7 0x40) ≡ codes "refusal 22, no offset: at byte 7 of the path, a property"
+  pub static_member : refusal_text (NoOffset 8 0x20000) ≡ codes "refusal 22, no offset: at byte 8 of the path, a static member"
+  pub offset : refusal_text (OffsetTooLarge 4294967296) ≡ codes "refusal 23, index offset too large: 4,294,967,295 at most, 4,294,967,296 here"
+  pub aliases : refusal_text (TooManyAliases 9) ≡ codes "refusal 24, too many aliases: at byte 9 of the path, more than 16 in a row"
 
 -- control characters, those that a byte can be
 abbrev pub IsControl : ℕ → Type 0

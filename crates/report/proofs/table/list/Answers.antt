@@ -1,17 +1,16 @@
-use Rattle.std.proofs.Common.{◌≡◌}
+use Rattle.std.proofs.Common.{◌++◌, codes, ap}
+use Rattle.std.specs.List.{flat_map}
 use Rattle.symbol.specs.Symbol.{symbol_of}
-use Rattle.walk.specs.Pieces.{pieces, walker_left}
-use Rattle.report.proofs.Tallies.{tallied_more, tallied_all}
+use Rattle.walk.specs.Pieces.{pieces}
+use Rattle.report.specs.declared.table.Columns.{Columns}
+use Rattle.report.specs.Report.{upload_text}
+use Rattle.report.specs.Table.{headings_text, line_text, table_text}
+use Rattle.report.proofs.Going.{of_text, two}
 use Rattle.report.proofs.table.list.Goals as goal
 
-pub loop-piece-preserved : goal.loop-piece-preserved
-loop-piece-preserved g c = record {
-  can = tt;
-  ends = tt;
-  counts = tallied_more c.loop-piece.tally c.in-Some.ensures.steps.0 c.count.ensures c.loop-piece.invariant.counts;
-}
-
-pub returns : goal.returns
-returns g c =
-    let is : walker_left symbol_of c.into_iter-piece-iterator.result ≡ pieces (symbol_of c.args.upload.now.mode) c.args.upload.now.bytes = simp c.into_iter-piece-iterator.ensures.into_iter_gives c.new-piece-items.ensures.all in
-    tallied_all c.in-None.ensures.steps.0.0 c.loop-piece.invariant.counts c.new-tally.ensures is
+pub returns-clause-text : goal.returns-clause-text
+unfolding table_text
+returns-clause-text g c =
+    let u = c.args.upload.now in
+    of_text _ _ _ _ (two _ _ _ _ _ c.in_ok-write_head.ensures c.in_ok-tally.ensures.text)
+    (ap (λ (k : Columns). (upload_text u ++ (codes "\n" ++ (headings_text k ++ codes "\n"))) ++ flat_map (line_text k) (pieces (symbol_of u.mode) u.bytes)) c.columns_of-columns.ensures)

@@ -1,0 +1,4 @@
+pub mod Laws
+pub mod Going
+pub mod Tallies
+pub mod Meant

@@ -1,0 +1,18 @@
+use Rattle.std.proofs.Common.{sym, ap, ◌∙◌}
+use Rattle.report.specs.Report.{json_line, tallied}
+use Rattle.report.proofs.Going.{goes}
+use Rattle.report.proofs.Tallies.{tallied_more}
+use Rattle.branching.proofs.Going.{something_here, nothing_left}
+use Rattle.branching.proofs.write_lines.Goals as goal
+
+pub loop-start-preserved : goal.loop-start-preserved
+loop-start-preserved g c =
+    let here = something_here c.args.upload.now c.args.starts.now c.loop-start.start-index c.loop-start-test.true _ c.in-Some.ensures in
+    record {
+      going = goes json_line here c.loop-start.invariant.going c.in_ok-write_line.ensures;
+      counts = tallied_more c.loop-start.tally here c.count.ensures c.loop-start.invariant.counts;
+    }
+
+pub returns-clause-tally : goal.returns-clause-tally
+unfolding tallied
+returns-clause-tally g c = ap (tallied c.loop-start.tally) (sym (nothing_left c.args.upload.now c.args.starts.now c.loop-start.start-index c.loop-start-test.false)) ∙ c.loop-start.invariant.counts

@@ -1,0 +1,15 @@
+//! The theorems. Each is the contract of a function that does nothing, so that none goes unnoticed if its proof does.
+
+ghost use Rattle.values.specs.Told.{RecordsTold, ValuesTold};
+
+/// Of a symbol that was read from the entry each section tells what its own bytes say: a number of the header low byte first,
+/// a string without its end byte, a GUID; the count of attributes how many are shown.
+pub fn values_told()
+    ensures { ValuesTold }
+{}
+
+/// The bytes of a whole attribute tell its name and its value, those of a whole former name this name, each by the lengths
+/// that stand before them.
+pub fn records_told()
+    ensures { RecordsTold }
+{}
