@@ -28,6 +28,20 @@ pub enum Request<'a> {
         /// What is made of it.
         make: Captures,
     },
+    /// The sheet of an upload.
+    SheetExport {
+        /// The upload's path, or `-` for standard input.
+        file: &'a str,
+        /// The form that was told.
+        form: Option<Form>,
+    },
+    /// The upload of a sheet.
+    SheetImport {
+        /// The sheet's path, or `-` for standard input.
+        file: &'a str,
+        /// Where the upload is written.
+        to: &'a str,
+    },
 }
 
 /// What is asked of a file.
@@ -84,10 +98,17 @@ pub enum Asked<'a> {
         /// Where what is kept is written to.
         to: &'a str,
     },
+    /// The addresses of variables.
+    Bind {
+        /// The upload of data types.
+        types: &'a str,
+        paths: Vec<&'a str>,
+        json: bool,
+    },
 }
 
 /// What is made of a file: lines of an upload, or an upload of lines.
-#[derive(Clone, Copy, Debug, PartialEq, Eq)]
+#[derive(Clone, Copy, PartialEq, Eq)]
 pub enum Captures {
     /// The upload is split into lines.
     Split,
@@ -98,15 +119,16 @@ pub enum Captures {
 }
 
 // The word that says what to do: with a length, with lines, or with a file.
-#[derive(Clone, Copy, Debug)]
+#[derive(Clone, Copy)]
 enum Command {
     Room,
     Captures,
+    Sheet,
     OfFile(Task),
 }
 
 // What is done with a file.
-#[derive(Clone, Copy, Debug)]
+#[derive(Clone, Copy)]
 enum Task {
     Find,
     Show,
@@ -118,6 +140,7 @@ enum Task {
     Plain,
     Compare,
     Salvage,
+    Bind,
 }
 
 impl Command {
@@ -125,6 +148,7 @@ impl Command {
         match word {
             "captures" => Some(Command::Captures),
             "room" => Some(Command::Room),
+            "sheet" => Some(Command::Sheet),
             "find" => Some(Command::OfFile(Task::Find)),
             "show" => Some(Command::OfFile(Task::Show)),
             "why" => Some(Command::OfFile(Task::Why)),
@@ -135,6 +159,7 @@ impl Command {
             "plain" => Some(Command::OfFile(Task::Plain)),
             "compare" => Some(Command::OfFile(Task::Compare)),
             "salvage" => Some(Command::OfFile(Task::Salvage)),
+            "bind" => Some(Command::OfFile(Task::Bind)),
             _ => None,
         }
     }
@@ -142,12 +167,12 @@ impl Command {
     fn has_json(self) -> bool {
         matches!(
             self,
-            Command::OfFile(Task::List | Task::Branch | Task::Type | Task::Compare)
+            Command::OfFile(Task::List | Task::Branch | Task::Type | Task::Compare | Task::Bind)
         )
     }
 }
 
-#[derive(Clone, Copy, Debug)]
+#[derive(Clone, Copy)]
 struct Options {
     form: Option<Form>,
     mode: Mode,
@@ -181,7 +206,7 @@ impl Options {
     fn suit(&self, alloc: Global, command: Command, word: &str) -> Result<(), Failure> {
         if self.json && !command.has_json() {
             return Err(Failure::Usage(format!(in alloc;
-                "--json is for list, branch, type and compare, not for {word}"
+                "--json is for list, branch, type, compare and bind, not for {word}"
             )?));
         }
         if self.sorted && !matches!(command, Command::OfFile(Task::List)) {
@@ -304,6 +329,7 @@ impl<'a> Words<'a> {
                 length: self.length()?,
             },
             Command::Captures => self.captures(options)?,
+            Command::Sheet => self.sheet(options)?,
             Command::OfFile(task) => Request::Run(self.run(task, options)?),
         };
         match self.next() {
@@ -341,7 +367,18 @@ impl<'a> Words<'a> {
                 json,
             },
             Task::Compare => Asked::Compare {
-                with: self.other_file(file)?,
+                with: self.other_file(
+                    "compare reads standard input once, for one of A and B",
+                    file,
+                )?,
+                json,
+            },
+            Task::Bind => Asked::Bind {
+                types: self.other_file(
+                    "bind reads standard input once, for one of SYMBOLS and TYPES",
+                    file,
+                )?,
+                paths: self.paths()?,
                 json,
             },
             Task::Salvage => Asked::Salvage {
@@ -388,16 +425,56 @@ impl<'a> Words<'a> {
         })
     }
 
-    // A second file. Standard input can't be both.
-    fn other_file(&mut self, file: &str) -> Result<&'a str, Failure> {
-        let other = self.need("a second file, or - for standard input")?;
-        if file == "-" && other == "-" {
+    // An upload is read in the present mode, and a sheet is text.
+    fn sheet(&mut self, options: Options) -> Result<Request<'a>, Failure> {
+        let alloc = self.alloc;
+        let word = self.need("export or import")?;
+        if options.mode == Mode::Checked {
             return usage(
-                self.alloc,
-                "compare reads standard input once, for one of A and B",
+                alloc,
+                "--checked is not for sheet: export refuses what checking would",
             );
         }
+        match word {
+            "export" => Ok(Request::SheetExport {
+                file: self.need("a file, or - for standard input")?,
+                form: options.form,
+            }),
+            "import" => {
+                if options.form.is_some() {
+                    return usage(alloc, "--binary and --hex are for sheet export");
+                }
+                Ok(Request::SheetImport {
+                    file: self.need("a sheet, or - for standard input")?,
+                    to: self.need("a path that the upload is written to")?,
+                })
+            }
+            word => Err(Failure::Usage(format!(in alloc;
+                "sheet needs export or import, not {word:?}"
+            )?)),
+        }
+    }
+
+    // A second file. Standard input can't be both.
+    fn other_file(&mut self, both: &str, file: &str) -> Result<&'a str, Failure> {
+        let other = self.need("a second file, or - for standard input")?;
+        if file == "-" && other == "-" {
+            return usage(self.alloc, both);
+        }
         Ok(other)
+    }
+
+    // All that is left, one at least.
+    fn paths(&mut self) -> Result<Vec<&'a str>, Failure> {
+        let mut paths = Vec::new(self.alloc);
+        paths
+            .push(self.need("the path of a variable")?)
+            .map_err(AllocError::from)?;
+        for _ in 0..self.words.as_slice().len() {
+            let Some(path) = self.next() else { break };
+            paths.push(path).map_err(AllocError::from)?;
+        }
+        Ok(paths)
     }
 
     // A number of bytes in decimal digits. Zeros may stand before it, since scripts pad their numbers; a plus sign may not.

@@ -38,17 +38,28 @@ pub fn branch<W: Write>(
 ) -> Result<(), Failure> {
     let asked = windows_1252(alloc, text)?;
     let asked = asked.as_slice();
-    let starts = match branching::branch(alloc, upload, asked) {
-        Ok(starts) => starts,
-        Err(why) => return Err(unordered(alloc, upload, &why)),
-    };
-    if starts.as_slice().is_empty() {
+    match branching::branch(alloc, upload, asked) {
+        Ok(starts) => write_some(alloc, upload, asked, starts.as_slice(), as_json, out),
+        Err(why) => Err(unordered(alloc, upload, &why)),
+    }
+}
+
+// Those whose names begin with what was asked, if there are any.
+fn write_some<W: Write>(
+    alloc: Global,
+    upload: &Upload<'_>,
+    asked: &[u8],
+    starts: &[u32],
+    as_json: bool,
+    out: &mut W,
+) -> Result<(), Failure> {
+    if starts.is_empty() {
         let shown = Shown(asked);
         return Err(Failure::Refused(format!(in alloc;
             "{upload}: refusal 13, name not found: no symbol's name begins with {shown}"
         )?));
     }
-    write(upload, starts.as_slice(), as_json, out)?;
+    write(upload, starts, as_json, out)?;
     Ok(())
 }
 

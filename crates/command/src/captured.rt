@@ -4,6 +4,7 @@ use crate::arguments::Captures;
 use crate::failure::{Failure, in_words};
 use crate::source;
 use refusal::{Mode, Refusal};
+use report::Upload;
 use std::alloc::{AllocError, Global};
 use std::fs;
 use std::io::{ErrorKind, Read, Write};
@@ -23,13 +24,7 @@ pub fn make<W: Write>(
     match make {
         Captures::Split => {
             let source = source::read(rt, file, form, Mode::Present)?;
-            let upload = source.upload();
-            write(
-                alloc,
-                captures::split_to_vec(alloc, upload.bytes),
-                upload.path,
-                out,
-            )
+            write_split(alloc, &source.upload(), out)
         }
         Captures::Each => {
             let text = text(rt, file)?;
@@ -37,16 +32,26 @@ pub fn make<W: Write>(
         }
         Captures::Join => {
             let text = text(rt, file)?;
-            let path = source::shown(file);
-            check_lines(alloc, text.as_slice(), path)?;
-            write(
-                alloc,
-                captures::join_to_vec(alloc, text.as_slice()),
-                path,
-                out,
-            )
+            write_joined(alloc, text.as_slice(), source::shown(file), out)
         }
     }
+}
+
+// The lines of an upload.
+fn write_split<W: Write>(alloc: Global, upload: &Upload<'_>, out: &mut W) -> Result<(), Failure> {
+    let lines = captures::split_to_vec(alloc, upload.bytes);
+    write(alloc, lines, upload.path, out)
+}
+
+// The upload of all lines.
+fn write_joined<W: Write>(
+    alloc: Global,
+    text: &[u8],
+    path: &str,
+    out: &mut W,
+) -> Result<(), Failure> {
+    check_lines(alloc, text, path)?;
+    write(alloc, captures::join_to_vec(alloc, text), path, out)
 }
 
 fn write<W: Write>(
@@ -99,13 +104,14 @@ fn check_lines(alloc: Global, text: &[u8], path: &str) -> Result<(), Failure> {
     Ok(())
 }
 
-fn refused(alloc: Global, path: &str, why: Refusal) -> Result<String, AllocError> {
+/// A refusal in words, behind the path of what was read.
+pub fn refused(alloc: Global, path: &str, why: Refusal) -> Result<String, AllocError> {
     let number = why.figures().number;
     format!(in alloc; "{path}: refusal {number}, {why}")
 }
 
-// All that a file holds: a text of lines has no limit of its own.
-fn text(rt: &HostRuntime, path: &str) -> Result<Vec<u8>, Failure> {
+/// All that a file holds: lines and sheets have no limit of their own.
+pub fn text(rt: &HostRuntime, path: &str) -> Result<Vec<u8>, Failure> {
     let alloc = rt.alloc();
     let mut text = Vec::new(alloc);
     let read = if path == "-" {

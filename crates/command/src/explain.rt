@@ -18,13 +18,13 @@ pub fn explain<W: Write>(
     let found = named(alloc, upload, name)?;
     let begin = found.at.min(upload.bytes.len());
     let from = &upload.bytes[begin..];
-    let own = &from[..found.symbol.length.min(from.len())];
+    let own = &from[..found.entry.length.min(from.len())];
     let reasons = match why::explain(own) {
         Ok(reasons) => reasons,
         Err(why) => return Err(refused(alloc, upload, &InWords(&why))),
     };
     let (at, length) = (found.at, Bytes(own.len()));
-    let name = OrNone(found.symbol.name);
+    let name = OrNone(found.entry.name);
     writeln!(out, "{upload}")?;
     writeln!(out, "")?;
     writeln!(out, "{name} at {at}, {length}")?;

@@ -8,7 +8,7 @@ use std::io;
 use std::io::ErrorKind;
 
 /// A message in a sentence, by the status that it ends with.
-#[derive(Debug, Drop)]
+#[derive(Drop)]
 pub enum Failure {
     /// Refused or not found: 1.
     Refused(String),

@@ -38,10 +38,14 @@ pub fn windows_1252(alloc: Global, argument: &str) -> Result<Vec<u8>, Failure> {
 }
 
 /// The first symbol of a name.
-pub fn named<'a>(alloc: Global, upload: &Upload<'a>, name: &str) -> Result<Found<'a>, Failure> {
+pub fn named<'a>(
+    alloc: Global,
+    upload: &Upload<'a>,
+    name: &str,
+) -> Result<Found<AdsSymbolInfo<'a>>, Failure> {
     let asked = windows_1252(alloc, name)?;
     let asked = asked.as_slice();
-    match finding::named(upload, asked) {
+    match finding::named::<AdsSymbolInfo>(upload, asked) {
         Ok(found) => Ok(found),
         Err(Refusal::NameNotFound) => no_symbol(alloc, upload, asked),
         Err(why) => Err(refused(alloc, upload, &InWords(&why))),
@@ -58,15 +62,23 @@ pub fn find<W: Write>(
 ) -> Result<(), Failure> {
     let found = named(alloc, upload, name)?;
     match attribute {
-        None => finding::write_place(&found, out)?,
-        Some(attribute) => {
-            let asked = windows_1252(alloc, attribute)?;
-            if !finding::write_attribute(&found, asked.as_slice(), out)? {
-                return no_attribute(alloc, upload, &found.symbol, asked.as_slice());
-            }
-        }
+        None => Ok(finding::write_place(&found, out)?),
+        Some(attribute) => find_attribute(alloc, upload, &found, attribute, out),
     }
-    Ok(())
+}
+
+fn find_attribute<W: Write>(
+    alloc: Global,
+    upload: &Upload<'_>,
+    found: &Found<AdsSymbolInfo<'_>>,
+    attribute: &str,
+    out: &mut W,
+) -> Result<(), Failure> {
+    let asked = windows_1252(alloc, attribute)?;
+    if finding::write_attribute(found, asked.as_slice(), out)? {
+        return Ok(());
+    }
+    no_attribute(alloc, upload, &found.entry, asked.as_slice())
 }
 
 fn no_attribute(
@@ -97,7 +109,11 @@ fn no_attribute(
 
 // That no symbol has a name, and why: one that has it was refused in the checked mode, or one differs in the case of
 // accented letters, and whoever types a name in another case does not expect that these alone are told apart.
-fn no_symbol<'a>(alloc: Global, upload: &Upload<'a>, asked: &[u8]) -> Result<Found<'a>, Failure> {
+fn no_symbol<'a>(
+    alloc: Global,
+    upload: &Upload<'a>,
+    asked: &[u8],
+) -> Result<Found<AdsSymbolInfo<'a>>, Failure> {
     let shown = Shown(asked);
     if let Some((at, why)) = refused_for_its_end(upload, asked) {
         let why = InWords(&why);
@@ -105,20 +121,34 @@ fn no_symbol<'a>(alloc: Global, upload: &Upload<'a>, asked: &[u8]) -> Result<Fou
             "{upload}: refusal 13, name not found: {shown} at {at} was refused, {why}"
         )?));
     }
+    match alike(alloc, upload, asked)? {
+        Some(name) => {
+            let name = Shown(name);
+            Err(Failure::Refused(format!(in alloc;
+                "{upload}: refusal 13, name not found: no symbol is {shown}, but one is {name}"
+            )?))
+        }
+        None => Err(Failure::Refused(format!(in alloc;
+            "{upload}: refusal 13, name not found: no symbol is {shown}"
+        )?)),
+    }
+}
+
+// The first name that differs in the case of letters alone, accented ones too.
+fn alike<'a>(
+    alloc: Global,
+    upload: &Upload<'a>,
+    asked: &[u8],
+) -> Result<Option<&'a [u8]>, Failure> {
     let small = small(alloc, asked)?;
     for piece in Symbols::new(upload.bytes, upload.mode) {
         if let Ok(symbol) = piece.answer {
             if is_alike(alloc, symbol.name, &small)? {
-                let name = Shown(symbol.name);
-                return Err(Failure::Refused(format!(in alloc;
-                    "{upload}: refusal 13, name not found: no symbol is {shown}, but one is {name}"
-                )?));
+                return Ok(Some(symbol.name));
             }
         }
     }
-    Err(Failure::Refused(format!(in alloc;
-        "{upload}: refusal 13, name not found: no symbol is {shown}"
-    )?))
+    Ok(None)
 }
 
 /// A name in small letters, accented ones too.

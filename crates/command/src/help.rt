@@ -13,9 +13,12 @@ pub const HELP: &str = r#"vindaskot: any TwinCAT symbol upload, in words
   vindaskot plain FILE                  whether each entry is what would be written of it, or where the first is not
   vindaskot compare A B [--json]        which entries of two uploads differ and in which parts, and what else moved
   vindaskot salvage FILE OUT            the accepted entries as a new upload in OUT, and a table of what was dropped
+  vindaskot bind SYMBOLS TYPES PATH..   addresses of variables by their paths, through symbols and data types; --json
   vindaskot captures split FILE         the upload as lines of digits, one for each entry
   vindaskot captures each LINES         the same of each line of LINES, which is an upload
   vindaskot captures join LINES         the upload that such lines are
+  vindaskot sheet export FILE           a table of the entries for a spreadsheet, with all that one can be made of again
+  vindaskot sheet import SHEET OUT      the upload of such a table in OUT
   vindaskot room LENGTH                 how many slots the index of an upload of so many bytes can need
 
 FILE is a path, or - for standard input: up to 16,777,216 bytes, binary or hexadecimal text. Digits are of either case,
@@ -56,6 +59,12 @@ for it and all that follows. An entry of A is the same one as an entry of B by t
 So damage in an entry that leaves its first four bytes, its length, as they were is told of that entry alone. In JSON a
 and b are null where the entry is not there, and later_in_b is by how many bytes B has it at a later place.
 
+SYMBOLS and TYPES are each as FILE is, of one controller, and one of them at most is -. bind writes a line a path, in the
+order given: the index group, the index offset, the size and the type of the variable or of the part of one that the path
+names, as MAIN.stLens.aTable[3].fZoom does, and the upload and the place of the entry that says so. A value that is in bits
+has the bit of the byte behind a dot, and its size in bits. A path that has no address has the refusal and the part of the
+path where it was met. A to Z in a path are as a to z.
+
 OUT is a path where nothing stands yet: nothing is written over, the file that is read least of all. It is binary,
 whatever FILE is, and it is there whole or not at all: it gets its name once it is whole, by a hard link. FAT and other
 file systems that have none refuse it; write it elsewhere and copy it. A run that is killed can leave a file by the name
@@ -69,6 +78,14 @@ LINES is a path, or -, of lines of hexadecimal digits, of either case and with n
 line feed; the last may lack it. What captures split and each write are such lines, in capitals: a line for each entry,
 accepted or not, and one for what is cut at the end, or all that an entry of length 0 begins. Editors can move them.
 captures join writes the bytes of all lines, one after another: of a file that split wrote just the upload, in binary.
+
+SHEET is a path, or -, of comma-separated values in UTF-8, as RFC 4180 has them: the header that sheet export writes, then
+a row for each entry, with whole numbers in decimal. A program that writes it must keep commas between cells, leave
+strings as they are and put no byte order mark before them. A cell that begins with = + - or @ stands as the symbol has
+it, and a spreadsheet program may take it for a formula: have it read the columns name, type and comment as text, and no
+sheet that you don't trust as anything else. Rows count from the header, which is 1. sheet export refuses an upload with
+a GUID, attributes, extended flags, unread bytes or an end byte that is not 0, since a sheet has no room for these.
+
 plain reads each entry and holds its bytes against those that would be written of what it tells: as many, every end byte
 0, every flagged section there, all attributes shown, nothing unread. Of the first entry that is not so, the place is
 told, and the byte that is another or why nothing would be written. A plain upload is accepted with --checked too.
@@ -81,8 +98,8 @@ that length needs all of them.
   --checked          an entry is refused where a name, a value or another string does not end in a byte of 0: it may have
                      been cut there. Without this, such an entry is shown as it is
   --sorted           list: accepted entries in the order of their names, A to Z as a to z, refused ones behind them
-  --json             list, branch and type: a line of JSON an entry; compare: one for each that differs, and one where the
-                     distance to B's places changes
+  --json             list, branch and type: a line of JSON an entry; bind: one a path; compare: one for each that differs,
+                     and one where the distance to B's places changes
   --help, -h         this text
   --version, -V      the version
 
@@ -98,9 +115,12 @@ Examples:
   vindaskot type types.bin ST_LensTable
   xxd -p rig.bin | vindaskot check -
   vindaskot plain rehearsal.bin
+  vindaskot bind rig.bin types.bin MAIN.stLens.aTable[3].fZoom
   vindaskot compare yesterday.bin today.bin
   vindaskot salvage --checked capture.bin rehearsal.bin
   vindaskot captures split rig.bin > rig.lines
+  vindaskot sheet export axes.bin > axes.csv
+  vindaskot sheet import axes.csv planned.bin
   vindaskot room 1400000
 
 Status: 0 done, of compare that the two are alike; 1 refused, not found, not plain or different; 2 the arguments, a file

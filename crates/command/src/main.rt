@@ -2,6 +2,7 @@
 #![tactic(auto)]
 
 mod arguments;
+mod bound;
 mod branch;
 mod captured;
 mod compare;
@@ -11,6 +12,7 @@ mod find;
 mod help;
 mod plain_form;
 mod salvaged;
+mod sheets;
 mod show;
 mod slots;
 mod source;
@@ -77,6 +79,8 @@ fn answer<W: Write>(rt: &HostRuntime, request: &Request<'_>, out: &mut W) -> Res
         Request::Room { length } => slots::room(rt.alloc(), *length, out)?,
         Request::Run(run) => return answer_of_a_file(rt, run, out),
         Request::Captures { file, form, make } => captured::make(rt, file, *form, *make, out)?,
+        Request::SheetExport { file, form } => sheets::export(rt, file, *form, out)?,
+        Request::SheetImport { file, to } => sheets::import(rt, file, to)?,
     }
     Ok(true)
 }
@@ -86,29 +90,42 @@ fn answer_of_a_file<W: Write>(
     run: &Run<'_>,
     out: &mut W,
 ) -> Result<bool, Failure> {
-    let alloc = rt.alloc();
     if let Asked::Salvage { to } = &run.asked {
         salvaged::is_free(rt, to, run.file)?;
     }
     let source = source::read(rt, run.file, run.form, run.mode)?;
-    let upload = source.upload();
+    answer_of_an_upload(rt, run, &source.upload(), out)
+}
+
+fn answer_of_an_upload<W: Write>(
+    rt: &HostRuntime,
+    run: &Run<'_>,
+    upload: &Upload<'_>,
+    out: &mut W,
+) -> Result<bool, Failure> {
+    let alloc = rt.alloc();
     match &run.asked {
-        Asked::Find { name, attribute } => find::find(alloc, &upload, name, *attribute, out)?,
-        Asked::Show { name } => show::show(alloc, &upload, name, is_coloured(rt), out)?,
-        Asked::Why { name } => explain::explain(alloc, &upload, name, out)?,
-        Asked::Branch { text, json } => branch::branch(alloc, &upload, text, *json, out)?,
+        Asked::Find { name, attribute } => find::find(alloc, upload, name, *attribute, out)?,
+        Asked::Show { name } => show::show(alloc, upload, name, is_coloured(rt), out)?,
+        Asked::Why { name } => explain::explain(alloc, upload, name, out)?,
+        Asked::Branch { text, json } => branch::branch(alloc, upload, text, *json, out)?,
         Asked::List { sorted, json } => {
-            let tally = list(alloc, &upload, *sorted, *json, out)?;
-            return unless_refused(rt, &upload, tally);
+            let tally = list(alloc, upload, *sorted, *json, out)?;
+            return unless_refused(rt, upload, tally);
         }
-        Asked::Check => return Ok(report::check::check(&upload, out)?.refused == 0),
-        Asked::Plain => return plain_form::plain(alloc, &upload, out),
+        Asked::Check => return Ok(report::check::check(upload, out)?.refused == 0),
+        Asked::Plain => return plain_form::plain(alloc, upload, out),
         Asked::Compare { with, json } => {
             let other = source::read(rt, with, run.form, run.mode)?;
-            return compare::compare(alloc, &upload, &other.upload(), *json, out);
+            return compare::compare(alloc, upload, &other.upload(), *json, out);
         }
-        Asked::Salvage { to } => salvaged::salvage(rt, &upload, to, out)?,
-        Asked::Type { name, json } => types::print(alloc, &upload, *name, *json, out)?,
+        Asked::Bind { types, paths, json } => {
+            let types = source::read(rt, types, run.form, run.mode)?;
+            let types = types.upload();
+            return bound::bind(alloc, upload, &types, paths.as_slice(), *json, out);
+        }
+        Asked::Salvage { to } => salvaged::salvage(rt, upload, to, out)?,
+        Asked::Type { name, json } => types::print(alloc, upload, *name, *json, out)?,
     }
     Ok(true)
 }

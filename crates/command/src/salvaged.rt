@@ -8,7 +8,7 @@ use std::io::Write;
 
 /// Refuses a path where something stands, before anything is read.
 pub fn is_free(rt: &HostRuntime, to: &str, file: &str) -> Result<(), Failure> {
-    written::check_free(rt, to, file)
+    written::check_free(rt, "salvage", to, file)
 }
 
 /// Writes what is kept, and prints a table of what was dropped. The file is there before anything is said of it. What was

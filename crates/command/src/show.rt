@@ -16,13 +16,13 @@ pub fn show<W: Write>(
 ) -> Result<(), Failure> {
     let found = named(alloc, upload, name)?;
     let begin = found.at.min(upload.bytes.len());
-    let length = found.symbol.length.min(upload.bytes.len() - begin);
+    let length = found.entry.length.min(upload.bytes.len() - begin);
     writeln!(out, "{upload}")?;
     writeln!(out, "")?;
     let entry = picture::Found {
         at: found.at,
         own: &upload.bytes[begin..begin + length],
-        symbol: found.symbol,
+        symbol: found.entry,
     };
     picture::show(alloc, &entry, coloured, out)?;
     Ok(())

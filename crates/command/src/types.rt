@@ -2,7 +2,7 @@
 
 use crate::failure::Failure;
 use crate::find::{is_alike, refused, small, windows_1252};
-use data_type::DataTypes;
+use data_type::{AdsDataTypeInfo, DataTypes};
 use field::AdsFieldInfo;
 use refusal::{Mode, Refusal};
 use report::Upload;
@@ -26,19 +26,15 @@ pub fn print<W: Write>(
         if as_json {
             list::write_type(&root, upload.mode, out)?;
         } else {
-            let lines = table::lines_of(alloc, &root, upload.mode)?;
-            writeln!(out, "{upload}")?;
-            table::write(alloc, lines.as_slice(), out)?;
+            table::write_type(upload, &root, out)?;
         }
         return Ok(());
     }
-    if as_json {
-        let counts = list::list(upload, out)?;
-        return unless_refused(alloc, upload, counts);
-    }
-    let (lines, counts) = table::lines(alloc, upload)?;
-    writeln!(out, "{upload}")?;
-    table::write(alloc, lines.as_slice(), out)?;
+    let counts = if as_json {
+        list::list(upload, out)?
+    } else {
+        table::list(upload, out)?
+    };
     unless_refused(alloc, upload, counts)
 }
 
@@ -50,25 +46,15 @@ fn unless_refused(alloc: Global, upload: &Upload<'_>, counts: Counts) -> Result<
     Err(Failure::Refused(format!(in alloc; "{upload}: refused entries: {refused} of {all}")?))
 }
 
-// The first accepted data type of a name. Names are compared as `find` compares those of symbols, and a zero length that is
-// met first is the answer.
+// The first data type of a name.
 fn named<'a>(alloc: Global, upload: &Upload<'a>, name: &str) -> Result<Node<'a>, Failure> {
     let asked = windows_1252(alloc, name)?;
-    for piece in DataTypes::new(upload.bytes, upload.mode) {
-        match piece.answer {
-            Ok(record) => {
-                if record.field.name.eq_ignore_ascii_case(asked.as_slice()) {
-                    return Ok(Node::root(piece.start, record));
-                }
-            }
-            Err(Refusal::ZeroEntryLength) => {
-                let why = Refusal::ZeroEntryLength;
-                return Err(refused(alloc, upload, &InWords(&why)));
-            }
-            Err(_) => {}
-        }
+    let asked = asked.as_slice();
+    match finding::named::<AdsDataTypeInfo>(upload, asked) {
+        Ok(found) => Ok(Node::root(found.at, found.entry)),
+        Err(Refusal::NameNotFound) => no_type(alloc, upload, asked),
+        Err(why) => Err(refused(alloc, upload, &InWords(&why))),
     }
-    no_type(alloc, upload, asked.as_slice())
 }
 
 // That no data type has a name, and why: one that has it was refused, for whatever of its members, or one differs in the
@@ -81,20 +67,35 @@ fn no_type<'a>(alloc: Global, upload: &Upload<'a>, asked: &[u8]) -> Result<Node<
             "{upload}: refusal 13, name not found: {shown} at {at} was refused, {why}"
         )?));
     }
+    match alike(alloc, upload, asked)? {
+        Some(name) => {
+            let name = Shown(name);
+            Err(Failure::Refused(format!(in alloc;
+                "{upload}: refusal 13, name not found: no data type is {shown}, but one is {name}"
+            )?))
+        }
+        None => Err(Failure::Refused(format!(in alloc;
+            "{upload}: refusal 13, name not found: no data type is {shown}"
+        )?)),
+    }
+}
+
+// The first name that differs in the case of letters alone, accented ones too.
+fn alike<'a>(
+    alloc: Global,
+    upload: &Upload<'a>,
+    asked: &[u8],
+) -> Result<Option<&'a [u8]>, Failure> {
     let small = small(alloc, asked)?;
     for piece in DataTypes::new(upload.bytes, upload.mode) {
         if let Ok(record) = piece.answer {
-            if is_alike(alloc, record.field.name, &small)? {
-                let name = Shown(record.field.name);
-                return Err(Failure::Refused(format!(in alloc;
-                    "{upload}: refusal 13, name not found: no data type is {shown}, but one is {name}"
-                )?));
+            let name = record.field.name;
+            if is_alike(alloc, name, &small)? {
+                return Ok(Some(name));
             }
         }
     }
-    Err(Failure::Refused(format!(in alloc;
-        "{upload}: refusal 13, name not found: no data type is {shown}"
-    )?))
+    Ok(None)
 }
 
 // The first refused entry of a name. A field's reading skips members, so that it has the name of most that are refused.

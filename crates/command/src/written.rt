@@ -10,11 +10,10 @@ use std::{fs, io, process};
 
 /// That nothing stands at a path yet, and that it is not that of what is read. Looked at before the work is done: `write`
 /// looks again, by the system's own rule.
-pub fn check_free(rt: &HostRuntime, path: &str, input: &str) -> Result<(), Failure> {
+pub fn check_free(rt: &HostRuntime, word: &str, path: &str, input: &str) -> Result<(), Failure> {
     if path == "-" {
-        return Err(Failure::Usage(String::from_str(
-            rt.alloc(),
-            "salvage writes to a path, and - is none",
+        return Err(Failure::Usage(format!(in rt.alloc();
+            "{word} writes to a path, and - is none"
         )?));
     }
     // A link that leads nowhere is something too.

@@ -1,6 +1,7 @@
 // The interface for the studio's own software, which is not Rattle: numbers and byte slices, and a status.
 #![tactic(auto)]
 
+mod bound;
 mod lines;
 mod modes;
 mod ordered;
@@ -8,6 +9,7 @@ mod plain_form;
 mod reasons;
 mod sheets;
 mod types;
+mod words;
 
 ghost use Rattle.std.specs.Prelude.{◌≡◌, Ok};
 ghost use Rattle.part.specs.Outcome.{and_then};

@@ -4,7 +4,7 @@ ghost use Rattle.data_type.specs.DataType.{type_of};
 ghost use Rattle.told.specs.Told.{WritesTold, mode_of};
 ghost use Rattle.name_index.specs.Branching.{branching, HalvesBranch};
 ghost use Rattle.name_index.specs.Index.{name_indexing, Halves};
-ghost use Rattle.name_index.specs.Kinds.{symbol_places, field_places};
+ghost use Rattle.named.specs.Kinds.{symbol_places, field_places};
 ghost use Rattle.vindaskot.specs.Halved.{TellsOf};
 
 use data_type::AdsDataTypeInfo;
@@ -34,7 +34,7 @@ pub extern "C" fn vindaskot_find_ordered_in(
     name: &[u8],
     answer: &mut [u64; 2],
 ) -> u32
-    ensures { TellsOf (Halves symbol_places (symbol_of (mode_of checked)) bytes.entry slots.now name.now) result answer.new }
+    ensures { TellsOf (Halves symbol_places (symbol_of (mode_of checked)) (λ symbol. symbol.name.now) bytes.entry slots.now name.now) result answer.new }
 {
     told::number(
         name_index::find_ordered::<AdsSymbolInfo>(bytes, mode(checked), slots, name),
@@ -99,7 +99,7 @@ pub extern "C" fn vindaskot_type_find_ordered_in(
     name: &[u8],
     answer: &mut [u64; 2],
 ) -> u32
-    ensures { TellsOf (Halves field_places (type_of (mode_of checked)) bytes.entry slots.now name.now) result answer.new }
+    ensures { TellsOf (Halves field_places (type_of (mode_of checked)) (λ r. r.field.name.now) bytes.entry slots.now name.now) result answer.new }
 {
     told::number(
         name_index::find_ordered::<AdsDataTypeInfo>(bytes, mode(checked), slots, name),

@@ -1,10 +1,12 @@
-// The calls about whole data types. Each takes the mode: there is none that leaves it out.
+// The calls about whole data types, and finding one by its name. Each takes the mode: there is none that leaves it out.
 ghost use Rattle.std.specs.Prelude.{◌≡◌};
 ghost use Rattle.walk.specs.Step.{parse_of, step_at};
 ghost use Rattle.data_type.specs.DataType.{type_of};
 ghost use Rattle.data_type.specs.List.{members_written};
+ghost use Rattle.index.specs.Index.{indexing};
+ghost use Rattle.type_find.specs.Find.{find, find_indexed};
 ghost use Rattle.places.specs.Entry.{type_attribute, type_attribute_named};
-ghost use Rattle.told.specs.Told.{Tells, WritesTold, mode_of, record_told, step_told};
+ghost use Rattle.told.specs.Told.{Tells, WritesTold, mode_of, number_told, record_told, step_told};
 ghost use Rattle.told.specs.Slots.{slots_after, step_after, attribute_slots};
 ghost use Rattle.told.specs.Asked.{type_array, type_member};
 ghost use Rattle.told.specs.TypeSlots.{type_slots, type_guid, array_slots, member_slots, member_guid, path_slots};
@@ -122,4 +124,47 @@ pub extern "C" fn vindaskot_type_members_in(
     ensures { WritesTold (members_written (mode_of checked) bytes.entry) slots.old slots.new result answer.new }
 {
     told::number(data_type::list::list(bytes, mode(checked), slots), answer)
+}
+
+#[unsafe(no_mangle)]
+pub extern "C" fn vindaskot_type_index_build_in(
+    bytes: &[u8],
+    checked: bool,
+    slots: &mut [u32],
+    answer: &mut [u64; 2],
+) -> u32
+    ensures { WritesTold (indexing (type_of (mode_of checked)) bytes.entry) slots.old slots.new result answer.new }
+{
+    told::number(
+        index::build::<AdsDataTypeInfo>(bytes, mode(checked), slots),
+        answer,
+    )
+}
+
+#[unsafe(no_mangle)]
+pub extern "C" fn vindaskot_type_find_in(
+    bytes: &[u8],
+    checked: bool,
+    name: &[u8],
+    answer: &mut [u64; 2],
+) -> u32
+    ensures { Tells (number_told (find (mode_of checked) bytes.entry name.now)) result answer.new }
+{
+    told::number(type_find::find(bytes, mode(checked), name), answer)
+}
+
+#[unsafe(no_mangle)]
+pub extern "C" fn vindaskot_type_find_indexed_in(
+    bytes: &[u8],
+    checked: bool,
+    slots: &[u32],
+    name: &[u8],
+    answer: &mut [u64; 2],
+) -> u32
+    ensures { Tells (number_told (find_indexed (mode_of checked) bytes.entry slots.now name.now)) result answer.new }
+{
+    told::number(
+        type_find::find_indexed(bytes, mode(checked), slots, name),
+        answer,
+    )
 }
