@@ -14,10 +14,12 @@
  *   boundary_salvage.c what is kept of a damaged upload, and what is dropped
  *   boundary_room.c    slots that are set aside by an upload's length
  *   boundary_names.c   name indexes, finding by halving, branches
+ *   boundary_bind.c    paths of variables, bound to their addresses
  *   boundary_lines.c   captures: uploads as lines, and back
  *   boundary_plain.c   plain form
  *   boundary_sheets.c  sheets of uploads
  *   boundary_text.c    text that is counted before it is written
+ *   boundary_words.c   the words of refusals
  *   boundary_types.c   whole data types
  *   boundary_trees.c   data types at random, sound and damaged
  *   boundary_random.c  random cases
@@ -112,6 +114,10 @@ enum group {
     NAMES_TWINS,
     NAMES_NONE,
     NAMES_ELSEWHERE,
+    STARTS_BUILT,
+    STARTS_WALKED,
+    STARTS_INDEXED,
+    STARTS_STOPPED,
     BRANCHES,
     BRANCHES_HALVED,
     BRANCHES_SHORT_OF,
@@ -127,6 +133,12 @@ enum group {
     SHEETS_SHORT_OF,
     SHEETS_QUOTED,
     SHEETS_REFUSED,
+    IMPORTS,
+    IMPORTS_SHORT_OF,
+    IMPORTS_REFUSED,
+    WORDS,
+    WORDS_SHORT_OF,
+    WORDS_OF_NONE,
     TEXTS,
     COUNTED,
     TYPES_READ,
@@ -152,6 +164,22 @@ enum group {
     TYPES_DEEPEST,
     TYPES_EVERY_DEPTH,
     TYPES_MANY,
+    BOUND_KNOWN,
+    BOUND_SYMBOL,
+    BOUND_MEMBER,
+    BOUND_ELEMENT,
+    BOUND_BITS,
+    BOUND_ALIAS,
+    BOUND_ELSEWHERE,
+    UNBOUND_SYMBOL,
+    UNBOUND_MEMBER,
+    UNBOUND_TYPE,
+    UNBOUND_OUTSIDE,
+    UNBOUND_PATH,
+    UNBOUND_DIMENSIONS,
+    UNBOUND_OFFSET,
+    UNBOUND_FAR,
+    UNBOUND_ALIASES,
     GROUPS
 };
 
@@ -273,6 +301,9 @@ enum function {
     TYPE_ATTRIBUTE_NAMED_IN,
     TYPE_MEMBER_IN,
     TYPE_MEMBERS_IN,
+    TYPE_INDEX_BUILD_IN,
+    TYPE_FIND_IN,
+    TYPE_FIND_INDEXED_IN,
     NAME_INDEX_BUILD_IN,
     FIND_ORDERED_IN,
     BRANCH_IN,
@@ -285,6 +316,9 @@ enum function {
     SPLIT_LINES,
     JOIN_LINES,
     SHEET_EXPORT,
+    SHEET_IMPORT,
+    REFUSAL_TEXT,
+    BIND_IN,
     FUNCTIONS
 };
 
@@ -364,6 +398,9 @@ struct told call_type_attribute(struct bytes bytes, size_t number);
 struct told call_type_attribute_named(struct bytes bytes, struct bytes name);
 struct told call_type_member(struct bytes bytes, size_t number);
 struct told call_type_members(struct bytes bytes, struct room slots);
+struct told call_type_index_build(struct bytes bytes, struct room slots);
+struct told call_type_find(struct bytes bytes, struct bytes name);
+struct told call_type_find_indexed(struct bytes bytes, struct bytes slots, struct bytes name);
 struct told call_name_index_build(struct bytes bytes, struct room slots);
 struct told call_find_ordered(struct bytes bytes, struct bytes slots, struct bytes name);
 struct told call_branch(struct bytes bytes, struct bytes slots, struct bytes text, struct room out);
@@ -372,10 +409,18 @@ struct told call_type_name_index_build(struct bytes bytes, struct room slots);
 struct told call_type_find_ordered(struct bytes bytes, struct bytes slots, struct bytes name);
 struct told call_type_branch(struct bytes bytes, struct bytes slots, struct bytes text, struct room out);
 struct told call_type_branch_ordered(struct bytes bytes, struct bytes slots, struct bytes text, struct room out);
+/* An upload, and the slots of its name index. */
+struct indexed {
+    struct bytes bytes, slots;
+};
+
+struct told call_bind(struct indexed symbols, struct indexed types, struct bytes path);
 struct told call_plain(struct bytes bytes);
 struct told call_split_lines(struct bytes bytes, struct room text);
 struct told call_join_lines(struct bytes text, struct room out);
 struct told call_sheet_export(struct bytes bytes, struct room out);
+struct told call_sheet_import(struct bytes sheet, struct room out);
+struct told call_refusal_text(uint32_t number, uint64_t expected, uint64_t got, struct room out);
 struct told call_decode(struct bytes src, struct room out);
 struct told call_encode(struct bytes src, struct room out);
 
@@ -466,6 +511,12 @@ extern struct at_fault model_fault;
 /* What would be written, with the room taken as enough. */
 struct told model_type_members(struct bytes bytes, uint64_t *slots);
 struct told model_index(struct bytes bytes, uint32_t *starts);
+
+/* Whether two names are the same, A to Z equal to a to z; and the starts of a name index, of data types or of symbols: how
+ * many, none where a zero claim stops the walk. */
+bool has_letters(struct bytes name, struct bytes other);
+size_t name_starts(bool of_types, struct bytes bytes, uint32_t *starts);
+
 struct told model_salvage(struct bytes bytes, uint8_t *out, uint32_t *runs);
 struct told model_decode(struct bytes src, uint8_t *out);
 struct told model_encode(struct bytes src, uint8_t *out);
@@ -563,6 +614,9 @@ void try_room_limit(size_t len);
 void try_symbol_names(struct bytes bytes);
 void try_type_names(struct bytes bytes);
 void try_name_limit(size_t len);
+void try_binds(void);
+void try_paths(void);
+void try_bind_limit(size_t len);
 void try_lines(struct bytes bytes);
 void try_line_limit(size_t len);
 void try_plain(struct bytes bytes);
@@ -571,6 +625,10 @@ void try_plain_limit(size_t len);
 void try_sheet(struct bytes bytes);
 void try_sheets(void);
 void try_sheet_limit(size_t len);
+
+/* The words of a refusal of that number, from 1 to 24, and those figures; those of every refusal. */
+void try_words(uint32_t number, uint64_t expected, uint64_t got);
+void try_all_words(void);
 void try_types(void);
 void try_type(struct bytes bytes);
 void try_type_walk(struct bytes bytes);

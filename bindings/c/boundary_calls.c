@@ -20,7 +20,8 @@ enum {
     OF_ATTRIBUTE = VINDASKOT_ATTRIBUTE_SLOTS,
     OF_REFACTOR = VINDASKOT_REFACTOR_SLOTS,
     OF_TYPE = VINDASKOT_TYPE_SLOTS,
-    OF_ARRAY = VINDASKOT_ARRAY_SLOTS
+    OF_ARRAY = VINDASKOT_ARRAY_SLOTS,
+    OF_ADDRESS = VINDASKOT_ADDRESS_SLOTS
 };
 
 _Static_assert((int)OF_TYPE <= (int)OF_SYMBOL, "what is told has slots for a symbol");
@@ -102,6 +103,10 @@ static const struct {
                                  TYPE | NUMBER(13)},
     [TYPE_MEMBER_IN] = {"vindaskot_type_member_in", OF_TYPE, true, false, false, TYPE | NUMBER(14)},
     [TYPE_MEMBERS_IN] = {"vindaskot_type_members_in", 0, false, false, false, TYPE | NUMBER(6)},
+    [TYPE_INDEX_BUILD_IN] = {"vindaskot_type_index_build_in", 0, false, false, false,
+                             DONE | NUMBER(5) | NUMBER(10) | NUMBER(6)},
+    [TYPE_FIND_IN] = {"vindaskot_type_find_in", 0, false, false, false, DONE | NUMBER(5) | NUMBER(10) | NUMBER(13)},
+    [TYPE_FIND_INDEXED_IN] = {"vindaskot_type_find_indexed_in", 0, false, false, false, DONE | NUMBER(5) | NUMBER(13)},
     [NAME_INDEX_BUILD_IN] = {"vindaskot_name_index_build_in", 0, false, false, false,
                               DONE | NUMBER(5) | NUMBER(10) | NUMBER(6)},
     [FIND_ORDERED_IN] = {"vindaskot_find_ordered_in", 0, false, false, false, DONE | NUMBER(5) | NUMBER(13)},
@@ -118,6 +123,12 @@ static const struct {
     [JOIN_LINES] = {"vindaskot_join_lines", 0, false, false, false, DONE | NUMBER(12) | NUMBER(5) | NUMBER(6)},
     [SHEET_EXPORT] = {"vindaskot_sheet_export", 0, false, false, false,
                       DONE | NUMBER(2) | NUMBER(3) | NUMBER(5) | NUMBER(6) | NUMBER(10) | NUMBER(17)},
+    [SHEET_IMPORT] = {"vindaskot_sheet_import", 0, false, false, false,
+                      DONE | NUMBER(5) | NUMBER(6) | NUMBER(7) | NUMBER(11) | NUMBER(18)},
+    [REFUSAL_TEXT] = {"vindaskot_refusal_text", 0, false, false, false, DONE | NUMBER(6) | NUMBER(14)},
+    [BIND_IN] = {"vindaskot_bind_in", OF_ADDRESS, false, false, false,
+                 DONE | NUMBER(5) | NUMBER(13) | NUMBER(14) | NUMBER(20) | NUMBER(21) | NUMBER(22) | NUMBER(23) |
+                     NUMBER(24)},
 };
 
 /* The one function that tells a path. */
@@ -191,7 +202,7 @@ static bool documented(enum function function, uint32_t status)
 {
     uint32_t bit = status == VINDASKOT_FINISHED       ? FINISHED
                    : status == VINDASKOT_OUT_OF_STEPS ? OUT_OF_STEPS
-                   : status <= 19                     ? NUMBER(status)
+                   : status <= 24                     ? NUMBER(status)
                                                       : 0;
     seen[function] |= bit;
     return (functions[function].statuses & bit) != 0;
@@ -597,11 +608,56 @@ struct told call_branch_ordered(struct bytes b, struct bytes slots, struct bytes
     return finish_out(BRANCH_ORDERED_IN, status, out, 4);
 }
 
+struct told call_bind(struct indexed s, struct indexed t, struct bytes path)
+{
+    struct frame *f = begin(BIND_IN, 0);
+    uint32_t status = vindaskot_bind_in(s.bytes.at, s.bytes.len, mode == CHECKED, starts(s.slots), s.slots.len / 4,
+                                        t.bytes.at, t.bytes.len, starts(t.slots), t.slots.len / 4, path.at, path.len,
+                                        f->slots, f->answer);
+    return finish(BIND_IN, status);
+}
+
 struct told call_sheet_export(struct bytes b, struct room out)
 {
     struct frame *f = begin_out(SHEET_EXPORT, out);
     uint32_t status = vindaskot_sheet_export(b.at, b.len, out.at, out.len, f->answer);
     return finish_out(SHEET_EXPORT, status, out, 1);
+}
+
+struct told call_sheet_import(struct bytes t, struct room out)
+{
+    struct frame *f = begin_out(SHEET_IMPORT, out);
+    uint32_t status = vindaskot_sheet_import(t.at, t.len, out.at, out.len, f->answer);
+    return finish_out(SHEET_IMPORT, status, out, 1);
+}
+
+struct told call_refusal_text(uint32_t number, uint64_t expected, uint64_t got, struct room out)
+{
+    struct frame *f = begin_out(REFUSAL_TEXT, out);
+    uint32_t status = vindaskot_refusal_text(number, expected, got, out.at, out.len, f->answer);
+    return finish_out(REFUSAL_TEXT, status, out, 1);
+}
+
+struct told call_type_index_build(struct bytes b, struct room slots)
+{
+    struct frame *f = begin_out(TYPE_INDEX_BUILD_IN, slots);
+    uint32_t *at = (uint32_t *)(void *)slots.at;
+    uint32_t status = vindaskot_type_index_build_in(b.at, b.len, mode == CHECKED, at, slots.len / 4, f->answer);
+    return finish_out(TYPE_INDEX_BUILD_IN, status, slots, 4);
+}
+
+struct told call_type_find(struct bytes b, struct bytes n)
+{
+    struct frame *f = begin(TYPE_FIND_IN, 0);
+    return finish(TYPE_FIND_IN, vindaskot_type_find_in(b.at, b.len, mode == CHECKED, n.at, n.len, f->answer));
+}
+
+struct told call_type_find_indexed(struct bytes b, struct bytes slots, struct bytes n)
+{
+    struct frame *f = begin(TYPE_FIND_INDEXED_IN, 0);
+    uint32_t status = vindaskot_type_find_indexed_in(b.at, b.len, mode == CHECKED, starts(slots), slots.len / 4, n.at,
+                                                     n.len, f->answer);
+    return finish(TYPE_FIND_INDEXED_IN, status);
 }
 
 struct told call_type_name_index_build(struct bytes b, struct room slots)

@@ -732,6 +732,7 @@ static void try_mode(void)
     try_ends();
     try_salvages();
     try_rooms();
+    try_binds();
     if (mode != PRESENT)
         try_types();
     refused_symbols();
@@ -752,6 +753,7 @@ void try_edges(void)
         every_room_texts();
         try_counted();
         try_sheets();
+        try_all_words();
         try_neighbours();
         long_records();
         long_strings();
@@ -967,6 +969,7 @@ void try_limits(void)
                     continue;
                 try_type_limit(len);
                 try_name_limit(len);
+                try_bind_limit(len);
             }
             mode = PRESENT;
             try_line_limit(len);

@@ -43,13 +43,13 @@ static struct told plain_told(struct two two, size_t cursor)
                                    [VINDASKOT_SYMBOL_DATA_TYPE_ID] = 2,
                                    [VINDASKOT_SYMBOL_FLAGS] = FLAGS,
                                    [VINDASKOT_SYMBOL_HIGH] = two.number,
-                                   [VINDASKOT_SYMBOL_NAME] = 30,
+                                   [VINDASKOT_SYMBOL_NAME_AT] = 30,
                                    [VINDASKOT_SYMBOL_NAME_LEN] = 1,
-                                   [VINDASKOT_SYMBOL_TYPE_NAME] = 32,
+                                   [VINDASKOT_SYMBOL_TYPE_NAME_AT] = 32,
                                    [VINDASKOT_SYMBOL_TYPE_NAME_LEN] = 3,
-                                   [VINDASKOT_SYMBOL_COMMENT] = 36,
-                                   [VINDASKOT_SYMBOL_ATTRIBUTES] = sizeof plain,
-                                   [VINDASKOT_SYMBOL_REFACTORS] = sizeof plain},
+                                   [VINDASKOT_SYMBOL_COMMENT_AT] = 36,
+                                   [VINDASKOT_SYMBOL_ATTRIBUTES_AT] = sizeof plain,
+                                   [VINDASKOT_SYMBOL_REFACTORS_AT] = sizeof plain},
                          .cursor = cursor};
 }
 

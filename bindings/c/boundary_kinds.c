@@ -51,7 +51,7 @@ static size_t string_with_end(struct bytes e, size_t header, size_t lengths, uin
 static bool list_is_short(struct bytes e, const uint64_t *s, uint64_t *at)
 {
     uint64_t shown = s[VINDASKOT_SYMBOL_ATTRIBUTE_COUNT];
-    *at = s[VINDASKOT_SYMBOL_ATTRIBUTES];
+    *at = s[VINDASKOT_SYMBOL_ATTRIBUTES_AT];
     if ((s[VINDASKOT_SYMBOL_FLAGS] & VINDASKOT_SYMBOL_FLAG_ATTRIBUTES) == 0 || *at < 2 ||
         *at > s[VINDASKOT_SYMBOL_LENGTH])
         return false;
@@ -67,11 +67,11 @@ static enum group refused_symbol(struct bytes e, const uint64_t *s, uint64_t pla
     uint64_t at;
     if (string < 3)
         return of_string[string];
-    if (place >= s[VINDASKOT_SYMBOL_REFACTORS])
+    if (place >= s[VINDASKOT_SYMBOL_REFACTORS_AT])
         return s[VINDASKOT_SYMBOL_REFACTOR_COUNT] > 0 ? ENDS_FORMER : ENDS_IN_DROPPED;
     if (list_is_short(e, s, &at))
         return ENDS_BEFORE_SHORT;
-    return of_attribute_name(e, s[VINDASKOT_SYMBOL_ATTRIBUTES], place) ? ENDS_ATTRIBUTE_NAME : ENDS_ATTRIBUTE_VALUE;
+    return of_attribute_name(e, s[VINDASKOT_SYMBOL_ATTRIBUTES_AT], place) ? ENDS_ATTRIBUTE_NAME : ENDS_ATTRIBUTE_VALUE;
 }
 
 static enum group accepted_symbol(struct bytes b, const uint64_t *s, enum group usual)
@@ -108,7 +108,7 @@ static enum group accepted_field(struct bytes b, const uint64_t *s, enum group u
 {
     struct bytes e = part(b, 0, (size_t)s[VINDASKOT_FIELD_LENGTH]);
     uint64_t flags = s[VINDASKOT_FIELD_FLAGS], size = s[VINDASKOT_FIELD_SIZE];
-    size_t at = (size_t)(s[VINDASKOT_FIELD_COMMENT] + s[VINDASKOT_FIELD_COMMENT_LEN]) + 1;
+    size_t at = (size_t)(s[VINDASKOT_FIELD_COMMENT_AT] + s[VINDASKOT_FIELD_COMMENT_LEN]) + 1;
     at += 8 * (size_t)number_at(e, 38, 2);
     if (wrong_items(e, &at, number_at(e, 40, 2)))
         return SKIPPED_ITEMS;
@@ -139,7 +139,7 @@ enum group field_group(struct bytes b, struct told present, struct told want, en
         return of_string[string];
     if (present.status != VINDASKOT_DONE)
         return ENDS_BEFORE_SHORT;
-    uint64_t first = present.slots[VINDASKOT_FIELD_ATTRIBUTES];
+    uint64_t first = present.slots[VINDASKOT_FIELD_ATTRIBUTES_AT];
     return of_attribute_name(b, first, want.answer[0]) ? ENDS_ATTRIBUTE_NAME : ENDS_ATTRIBUTE_VALUE;
 }
 

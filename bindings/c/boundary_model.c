@@ -11,22 +11,22 @@ const size_t field_numbers[7] = {VINDASKOT_FIELD_VERSION, VINDASKOT_FIELD_HASH_V
 const size_t type_numbers[7] = {VINDASKOT_TYPE_VERSION, VINDASKOT_TYPE_HASH_VALUE, VINDASKOT_TYPE_TYPE_HASH_VALUE,
                                 VINDASKOT_TYPE_SIZE,    VINDASKOT_TYPE_OFFSET,     VINDASKOT_TYPE_TYPE_ID,
                                 VINDASKOT_TYPE_FLAGS};
-const struct run symbol_strings[3] = {{VINDASKOT_SYMBOL_NAME, VINDASKOT_SYMBOL_NAME_LEN},
-                                      {VINDASKOT_SYMBOL_TYPE_NAME, VINDASKOT_SYMBOL_TYPE_NAME_LEN},
-                                      {VINDASKOT_SYMBOL_COMMENT, VINDASKOT_SYMBOL_COMMENT_LEN}};
-const struct run field_strings[3] = {{VINDASKOT_FIELD_NAME, VINDASKOT_FIELD_NAME_LEN},
-                                     {VINDASKOT_FIELD_TYPE_NAME, VINDASKOT_FIELD_TYPE_NAME_LEN},
-                                     {VINDASKOT_FIELD_COMMENT, VINDASKOT_FIELD_COMMENT_LEN}};
-const struct run type_strings[3] = {{VINDASKOT_TYPE_NAME, VINDASKOT_TYPE_NAME_LEN},
-                                    {VINDASKOT_TYPE_TYPE_NAME, VINDASKOT_TYPE_TYPE_NAME_LEN},
-                                    {VINDASKOT_TYPE_COMMENT, VINDASKOT_TYPE_COMMENT_LEN}};
-const struct run symbol_attributes = {VINDASKOT_SYMBOL_ATTRIBUTES, VINDASKOT_SYMBOL_ATTRIBUTE_COUNT};
-const struct run symbol_refactors = {VINDASKOT_SYMBOL_REFACTORS, VINDASKOT_SYMBOL_REFACTOR_COUNT};
-const struct run field_attributes = {VINDASKOT_FIELD_ATTRIBUTES, VINDASKOT_FIELD_ATTRIBUTE_COUNT};
-const struct run type_attributes = {VINDASKOT_TYPE_ATTRIBUTES, VINDASKOT_TYPE_ATTRIBUTE_COUNT};
-const struct run attribute_name = {VINDASKOT_ATTRIBUTE_NAME, VINDASKOT_ATTRIBUTE_NAME_LEN};
-const struct run attribute_value = {VINDASKOT_ATTRIBUTE_VALUE, VINDASKOT_ATTRIBUTE_VALUE_LEN};
-const struct run refactor_name = {VINDASKOT_REFACTOR_NAME, VINDASKOT_REFACTOR_NAME_LEN};
+const struct run symbol_strings[3] = {{VINDASKOT_SYMBOL_NAME_AT, VINDASKOT_SYMBOL_NAME_LEN},
+                                      {VINDASKOT_SYMBOL_TYPE_NAME_AT, VINDASKOT_SYMBOL_TYPE_NAME_LEN},
+                                      {VINDASKOT_SYMBOL_COMMENT_AT, VINDASKOT_SYMBOL_COMMENT_LEN}};
+const struct run field_strings[3] = {{VINDASKOT_FIELD_NAME_AT, VINDASKOT_FIELD_NAME_LEN},
+                                     {VINDASKOT_FIELD_TYPE_NAME_AT, VINDASKOT_FIELD_TYPE_NAME_LEN},
+                                     {VINDASKOT_FIELD_COMMENT_AT, VINDASKOT_FIELD_COMMENT_LEN}};
+const struct run type_strings[3] = {{VINDASKOT_TYPE_NAME_AT, VINDASKOT_TYPE_NAME_LEN},
+                                    {VINDASKOT_TYPE_TYPE_NAME_AT, VINDASKOT_TYPE_TYPE_NAME_LEN},
+                                    {VINDASKOT_TYPE_COMMENT_AT, VINDASKOT_TYPE_COMMENT_LEN}};
+const struct run symbol_attributes = {VINDASKOT_SYMBOL_ATTRIBUTES_AT, VINDASKOT_SYMBOL_ATTRIBUTE_COUNT};
+const struct run symbol_refactors = {VINDASKOT_SYMBOL_REFACTORS_AT, VINDASKOT_SYMBOL_REFACTOR_COUNT};
+const struct run field_attributes = {VINDASKOT_FIELD_ATTRIBUTES_AT, VINDASKOT_FIELD_ATTRIBUTE_COUNT};
+const struct run type_attributes = {VINDASKOT_TYPE_ATTRIBUTES_AT, VINDASKOT_TYPE_ATTRIBUTE_COUNT};
+const struct run attribute_name = {VINDASKOT_ATTRIBUTE_NAME_AT, VINDASKOT_ATTRIBUTE_NAME_LEN};
+const struct run attribute_value = {VINDASKOT_ATTRIBUTE_VALUE_AT, VINDASKOT_ATTRIBUTE_VALUE_LEN};
+const struct run refactor_name = {VINDASKOT_REFACTOR_NAME_AT, VINDASKOT_REFACTOR_NAME_LEN};
 
 uint64_t number_at(struct bytes b, size_t at, size_t width)
 {
@@ -104,11 +104,11 @@ static struct told plain_attribute_at(struct bytes b, size_t at)
     size_t name = b.at[at], value = b.at[at + 1];
     if (left < name + value + 4)
         return refused(1, name + value + 4, left);
-    return (struct told){.slots = {[VINDASKOT_ATTRIBUTE_NAME] = at + 2,
+    return (struct told){.slots = {[VINDASKOT_ATTRIBUTE_NAME_AT] = at + 2,
                                    [VINDASKOT_ATTRIBUTE_NAME_LEN] = name,
-                                   [VINDASKOT_ATTRIBUTE_VALUE] = at + name + 3,
+                                   [VINDASKOT_ATTRIBUTE_VALUE_AT] = at + name + 3,
                                    [VINDASKOT_ATTRIBUTE_VALUE_LEN] = value,
-                                   [VINDASKOT_ATTRIBUTE_NEXT] = at + name + value + 4}};
+                                   [VINDASKOT_ATTRIBUTE_NEXT_AT] = at + name + value + 4}};
 }
 
 static struct told attribute_at(struct bytes b, size_t at)
@@ -122,9 +122,9 @@ struct told refactor_told(uint64_t count, size_t name, size_t len)
 {
     return (struct told){.slots = {[VINDASKOT_REFACTOR_COUNT] = count,
                                    [VINDASKOT_REFACTOR_HAS_NEXT] = (count & NEXT_BIT) != 0,
-                                   [VINDASKOT_REFACTOR_NAME] = name,
+                                   [VINDASKOT_REFACTOR_NAME_AT] = name,
                                    [VINDASKOT_REFACTOR_NAME_LEN] = len,
-                                   [VINDASKOT_REFACTOR_NEXT] = name + len + 1}};
+                                   [VINDASKOT_REFACTOR_NEXT_AT] = name + len + 1}};
 }
 
 static struct told plain_refactor_at(struct bytes b, size_t at)
@@ -150,7 +150,7 @@ static struct told chain_at(struct bytes b, size_t at)
         struct told record = refactor_at(b, at);
         if (record.status != VINDASKOT_DONE)
             return record;
-        at = (size_t)record.slots[VINDASKOT_REFACTOR_NEXT];
+        at = (size_t)record.slots[VINDASKOT_REFACTOR_NEXT_AT];
         if (!record.slots[VINDASKOT_REFACTOR_HAS_NEXT])
             return done(count, at);
     }
@@ -187,7 +187,7 @@ struct told model_chain_record(struct bytes b, size_t number)
         return chain;
     if (number >= chain.answer[0])
         return refused(14, chain.answer[0], number);
-    return nth(b, 0, number, VINDASKOT_REFACTOR_NEXT, refactor_at);
+    return nth(b, 0, number, VINDASKOT_REFACTOR_NEXT_AT, refactor_at);
 }
 
 struct told model_flags_read(struct bytes b, size_t width)
@@ -215,7 +215,7 @@ static struct list attributes_at(struct bytes e, size_t at, bool flagged)
         list.stopped = attribute_at(e, list.next);
         if (list.stopped.status != VINDASKOT_DONE)
             break;
-        list.next = (size_t)list.stopped.slots[VINDASKOT_ATTRIBUTE_NEXT];
+        list.next = (size_t)list.stopped.slots[VINDASKOT_ATTRIBUTE_NEXT_AT];
         list.count++;
         if (list.next >= e.len)
             break;
@@ -253,7 +253,7 @@ static size_t symbol_sections(struct bytes e, size_t at, struct told *told, stru
     uint64_t flags = s[VINDASKOT_SYMBOL_FLAGS];
     at = guid_of(e, at, (flags & VINDASKOT_SYMBOL_FLAG_TYPE_GUID) != 0, told, VINDASKOT_SYMBOL_HAS_GUID);
     struct list list = attributes_at(e, at, (flags & VINDASKOT_SYMBOL_FLAG_ATTRIBUTES) != 0);
-    s[VINDASKOT_SYMBOL_ATTRIBUTES] = list.first;
+    s[VINDASKOT_SYMBOL_ATTRIBUTES_AT] = list.first;
     s[VINDASKOT_SYMBOL_ATTRIBUTE_COUNT] = list.count;
     *refusal = list.stopped;
     if (refusal->status == 16)
@@ -264,7 +264,7 @@ static size_t symbol_sections(struct bytes e, size_t at, struct told *told, stru
         s[VINDASKOT_SYMBOL_EXTENDED_FLAGS] = number_at(e, at, 4);
         at += 4;
     }
-    s[VINDASKOT_SYMBOL_REFACTORS] = at;
+    s[VINDASKOT_SYMBOL_REFACTORS_AT] = at;
     if ((s[VINDASKOT_SYMBOL_EXTENDED_FLAGS] & VINDASKOT_SYMBOL2_FLAG_REFACTOR_INFO) != 0 && left_at(e, at) > 0) {
         *refusal = chain_at(e, at);
         if (refusal->status == VINDASKOT_DONE) {
@@ -343,7 +343,7 @@ static struct told field_entry(struct bytes e)
     struct list list = field_sections(e, at, &told);
     if (list.stopped.status != VINDASKOT_DONE)
         return list.stopped;
-    s[VINDASKOT_FIELD_ATTRIBUTES] = list.first;
+    s[VINDASKOT_FIELD_ATTRIBUTES_AT] = list.first;
     s[VINDASKOT_FIELD_ATTRIBUTE_COUNT] = list.count;
     return told;
 }
@@ -390,21 +390,21 @@ struct told model_symbol_attribute(struct bytes b, size_t number)
 {
     struct told read = model_symbol_read(b);
     return of_entry(entry_of(b, read, VINDASKOT_SYMBOL_LENGTH), read, symbol_attributes, number,
-                    VINDASKOT_ATTRIBUTE_NEXT, attribute_at);
+                    VINDASKOT_ATTRIBUTE_NEXT_AT, attribute_at);
 }
 
 struct told model_symbol_refactor_info(struct bytes b, size_t number)
 {
     struct told read = model_symbol_read(b);
-    return of_entry(entry_of(b, read, VINDASKOT_SYMBOL_LENGTH), read, symbol_refactors, number, VINDASKOT_REFACTOR_NEXT,
-                    refactor_at);
+    return of_entry(entry_of(b, read, VINDASKOT_SYMBOL_LENGTH), read, symbol_refactors, number,
+                    VINDASKOT_REFACTOR_NEXT_AT, refactor_at);
 }
 
 struct told model_field_attribute(struct bytes b, size_t number)
 {
     struct told read = model_field_read(b);
-    return of_entry(entry_of(b, read, VINDASKOT_FIELD_LENGTH), read, field_attributes, number, VINDASKOT_ATTRIBUTE_NEXT,
-                    attribute_at);
+    return of_entry(entry_of(b, read, VINDASKOT_FIELD_LENGTH), read, field_attributes, number,
+                    VINDASKOT_ATTRIBUTE_NEXT_AT, attribute_at);
 }
 
 /* The first of the attributes that an entry shows whose name is the one asked. */
@@ -418,7 +418,7 @@ static struct told first_named(struct bytes e, struct told read, struct run reco
         const uint64_t *s = one.slots;
         if (equal(part(e, (size_t)s[attribute_name.place], (size_t)s[attribute_name.len]), name))
             return one;
-        at = (size_t)s[VINDASKOT_ATTRIBUTE_NEXT];
+        at = (size_t)s[VINDASKOT_ATTRIBUTE_NEXT_AT];
     }
     return refused(13, 0, 0);
 }
@@ -519,7 +519,7 @@ static struct told type_front(struct bytes e, size_t depth)
     s[VINDASKOT_TYPE_LENGTH] = e.len;
     for (size_t i = 0; i < 7; i++)
         s[type_numbers[i]] = number_at(e, 4 + 4 * i, 4);
-    s[VINDASKOT_TYPE_ARRAYS] = at;
+    s[VINDASKOT_TYPE_ARRAYS_AT] = at;
     s[VINDASKOT_TYPE_ARRAY_COUNT] = arrays;
     s[VINDASKOT_TYPE_ITEM_COUNT] = number_at(e, 40, 2);
     return told;
@@ -543,8 +543,8 @@ static struct told type_item(struct bytes e, size_t at, size_t depth)
 static void open_entry(size_t depth, size_t place, struct told front, struct bytes e, uint64_t offset)
 {
     const uint64_t *s = front.slots;
-    way[depth] = (struct open){e, place, (size_t)s[VINDASKOT_TYPE_ARRAYS] + 8 * (size_t)s[VINDASKOT_TYPE_ARRAY_COUNT],
-                               offset, s[VINDASKOT_TYPE_ITEM_COUNT]};
+    size_t arrays_end = (size_t)s[VINDASKOT_TYPE_ARRAYS_AT] + 8 * (size_t)s[VINDASKOT_TYPE_ARRAY_COUNT];
+    way[depth] = (struct open){e, place, arrays_end, offset, s[VINDASKOT_TYPE_ITEM_COUNT]};
 }
 
 /* The sections of the entry that is open at that depth, whose sub-items are all read. */
@@ -554,7 +554,7 @@ static struct told close_entry(struct told told, size_t depth)
     struct list list = late_sections(o->e, o->next, &told, VINDASKOT_TYPE_HAS_GUID);
     if (list.stopped.status != VINDASKOT_DONE)
         return faulty(list.stopped.status == 16 ? IN_ATTRIBUTE_ENDS : IN_ATTRIBUTES, depth, list.stopped);
-    told.slots[VINDASKOT_TYPE_ATTRIBUTES] = list.first;
+    told.slots[VINDASKOT_TYPE_ATTRIBUTES_AT] = list.first;
     told.slots[VINDASKOT_TYPE_ATTRIBUTE_COUNT] = list.count;
     return told;
 }
@@ -612,7 +612,7 @@ struct told model_type_array(struct bytes b, size_t number)
         return read;
     if (number >= read.slots[VINDASKOT_TYPE_ARRAY_COUNT])
         return refused(14, read.slots[VINDASKOT_TYPE_ARRAY_COUNT], number);
-    size_t at = (size_t)read.slots[VINDASKOT_TYPE_ARRAYS] + 8 * number;
+    size_t at = (size_t)read.slots[VINDASKOT_TYPE_ARRAYS_AT] + 8 * number;
     return (struct told){
         .slots = {
             [VINDASKOT_ARRAY_LOWER_BOUND] = number_at(b, at, 4), [VINDASKOT_ARRAY_ELEMENTS] = number_at(b, at + 4, 4)}};
@@ -621,8 +621,8 @@ struct told model_type_array(struct bytes b, size_t number)
 struct told model_type_attribute(struct bytes b, size_t number)
 {
     struct told read = model_type_read(b);
-    return of_entry(entry_of(b, read, VINDASKOT_TYPE_LENGTH), read, type_attributes, number, VINDASKOT_ATTRIBUTE_NEXT,
-                    attribute_at);
+    return of_entry(entry_of(b, read, VINDASKOT_TYPE_LENGTH), read, type_attributes, number,
+                    VINDASKOT_ATTRIBUTE_NEXT_AT, attribute_at);
 }
 
 struct told model_type_attribute_named(struct bytes b, struct bytes name)
@@ -786,7 +786,7 @@ static struct told good_attributes(size_t count, struct bytes block)
         if (a.status != VINDASKOT_DONE || end_byte(block, s, attribute_name) != 0 ||
             end_byte(block, s, attribute_value) != 0)
             break;
-        at = (size_t)s[VINDASKOT_ATTRIBUTE_NEXT];
+        at = (size_t)s[VINDASKOT_ATTRIBUTE_NEXT_AT];
     }
     return good == count && at == block.len ? done(0, 0) : refused(9, count, good);
 }
@@ -802,7 +802,7 @@ static struct told good_refactors(size_t count, struct bytes block)
         if ((number_at(block, at, 4) & ~(uint64_t)COUNT_MASK) != 0 ||
             (s[VINDASKOT_REFACTOR_HAS_NEXT] != 0) != (good + 1 < count))
             break;
-        at = (size_t)s[VINDASKOT_REFACTOR_NEXT];
+        at = (size_t)s[VINDASKOT_REFACTOR_NEXT_AT];
     }
     return good == count && at == block.len ? done(0, 0) : refused(9, count, good);
 }

@@ -1,5 +1,6 @@
-/* Name indexes: built, searched by halving, and asked for a branch. What is expected is worked out here from the model's
- * steps, in the words of docs/FORMAT.md, "Name index"; names are compared by two alphabets and not by folding. */
+/* Names: found without an index, through one and by halving, and asked for a branch. What is expected is worked out here
+ * from the model's steps, in the words of docs/FORMAT.md, "Finding" and "Name index"; names are compared by two alphabets
+ * and not by folding. */
 #include <stdlib.h>
 
 #include "boundary.h"
@@ -8,18 +9,27 @@
 static const struct kind {
     stepping step;
     struct run name;
+    struct told (*index)(struct bytes bytes, struct room slots);
+    struct told (*find_walked)(struct bytes bytes, struct bytes name);
+    struct told (*find_indexed)(struct bytes bytes, struct bytes slots, struct bytes name);
     struct told (*build)(struct bytes bytes, struct room slots);
     struct told (*find)(struct bytes bytes, struct bytes slots, struct bytes name);
     struct told (*branch)(struct bytes bytes, struct bytes slots, struct bytes text, struct room out);
     struct told (*branch_ordered)(struct bytes bytes, struct bytes slots, struct bytes text, struct room out);
 } symbols = {model_symbol_step,
-             {VINDASKOT_SYMBOL_NAME, VINDASKOT_SYMBOL_NAME_LEN},
+             {VINDASKOT_SYMBOL_NAME_AT, VINDASKOT_SYMBOL_NAME_LEN},
+             call_index_build,
+             call_find,
+             call_find_indexed,
              call_name_index_build,
              call_find_ordered,
              call_branch,
              call_branch_ordered},
   types = {model_type_step,
-           {VINDASKOT_TYPE_NAME, VINDASKOT_TYPE_NAME_LEN},
+           {VINDASKOT_TYPE_NAME_AT, VINDASKOT_TYPE_NAME_LEN},
+           call_type_index_build,
+           call_type_find,
+           call_type_find_indexed,
            call_type_name_index_build,
            call_type_find_ordered,
            call_type_branch,
@@ -55,7 +65,7 @@ static bool begins_with(struct bytes name, struct bytes text)
     return i == text.len;
 }
 
-static bool has_letters(struct bytes name, struct bytes other)
+bool has_letters(struct bytes name, struct bytes other)
 {
     return name.len == other.len && begins_with(name, other);
 }
@@ -95,6 +105,15 @@ static struct told model_name_index(const struct kind *kind, struct bytes b)
     }
     qsort(ordered, count, sizeof *ordered, compare);
     return done(count, 0);
+}
+
+size_t name_starts(bool of_types, struct bytes b, uint32_t *starts)
+{
+    const struct told told = model_name_index(of_types ? &types : &symbols, b);
+    const size_t count = told.status == VINDASKOT_DONE ? (size_t)told.answer[0] : 0;
+    for (size_t i = 0; i < count; i++)
+        starts[i] = ordered[i].at;
+    return count;
 }
 
 /* Those of some slots at which an entry of the branch starts, in their order. */
@@ -170,6 +189,58 @@ static void hold_found_anywhere(const struct kind *kind, struct bytes b, const u
           "through other slots a name is found at %llu, which has it not", (unsigned long long)told.answer[0]);
 }
 
+/* Without an index: the first of the walk's steps that has the name; a zero claim that is met before refuses. */
+static void hold_walked(const struct kind *kind, struct bytes b, struct bytes from)
+{
+    struct bytes name = lay(NAME, from), own;
+    struct told want = refused(13, 0, 0);
+    enum group group = STARTS_WALKED;
+    for (size_t at = 0; at < b.len;) {
+        if (name_from(kind, b, at, &own) && has_letters(own, name)) {
+            want = done(at, 0);
+            break;
+        }
+        size_t next = kind->step(b, at).cursor;
+        if (next == at) {
+            want = refused(10, 1, 0);
+            group = STARTS_STOPPED;
+            break;
+        }
+        at = next;
+    }
+    SAME(group, kind->find_walked(b, name), want);
+}
+
+/* Through any slots: the first of them, in their order, that has the name. */
+static void hold_indexed(const struct kind *kind, struct bytes b, const uint32_t *slots, size_t count, struct bytes from)
+{
+    struct bytes name = lay(NAME, from), own;
+    size_t i = 0;
+    while (i < count && !(name_from(kind, b, slots[i], &own) && has_letters(own, name)))
+        i++;
+    SAME(STARTS_INDEXED, kind->find_indexed(b, slots_of(slots, count), name),
+         i == count ? refused(13, 0, 0) : done(slots[i], 0));
+}
+
+/* The index of the upload: the same starts as the name index has, ascending. Lent one slot too few and just enough. */
+static void hold_starts(const struct kind *kind, struct bytes b, const struct told *want)
+{
+    const size_t needed = want->status == VINDASKOT_DONE ? (size_t)want->answer[0] : 0;
+    if (needed > 0)
+        SAME(STARTS_BUILT, kind->index(b, lend(4 * (needed - 1))), refused(6, needed, needed - 1));
+    struct room out = lend(4 * needed);
+    SAME(STARTS_BUILT, kind->index(b, out), *want);
+    for (size_t at = 0, i = 0; want->status == VINDASKOT_DONE && at < b.len;) {
+        struct told told = kind->step(b, at);
+        if (told.status == VINDASKOT_DONE) {
+            uint32_t start;
+            memcpy(&start, out.at + 4 * i++, 4);
+            CHECK(STARTS_BUILT, start == at, "slot %zu of an index has another start", i - 1);
+        }
+        at = told.cursor;
+    }
+}
+
 /* ---- Branches ---- */
 
 typedef struct told (*branching)(struct bytes bytes, struct bytes slots, struct bytes text, struct room out);
@@ -225,13 +296,16 @@ static void try_name(const struct kind *kind, struct bytes b, const uint32_t *bu
     struct room changed = {other, from.len};
     memcpy(other, from.at, from.len);
     hold_found(kind, b, built, count, from);
+    hold_walked(kind, b, from);
     hold_branches(kind, b, built, count, from);
     recase(changed);
     struct bytes asked = {other, from.len};
     hold_found(kind, b, built, count, asked);
+    hold_walked(kind, b, asked);
     hold_branches(kind, b, built, count, part(asked, 0, below(from.len + 1)));
     miss_case(changed);
     hold_found(kind, b, built, count, asked);
+    hold_walked(kind, b, asked);
     hold_branches(kind, b, built, count, asked);
 }
 
@@ -254,6 +328,7 @@ static void try_other_slots(const struct kind *kind, struct bytes b, const uint3
         other[with] = slot;
     }
     hold_found_anywhere(kind, b, other, used, name);
+    hold_indexed(kind, b, other, used, name);
     hold_branches_anywhere(kind, b, other, used, name);
     hold_branches_anywhere(kind, b, other, used, part(name, 0, below(name.len + 1)));
 }
@@ -265,7 +340,9 @@ static void try_index(const struct kind *kind, struct bytes b)
     struct bytes none = {no_name, sizeof no_name - 1}, name = none;
     struct told want = hold_built(kind, b, built);
     size_t count = want.status == VINDASKOT_DONE ? (size_t)want.answer[0] : 0;
+    hold_starts(kind, b, &want);
     hold_found(kind, b, built, count, none);
+    hold_walked(kind, b, none);
     hold_branches(kind, b, built, count, none);
     hold_branches(kind, b, built, count, part(none, 0, 0));
     for (size_t i = 0; i < 2 && count > 0; i++) {
@@ -301,6 +378,9 @@ static void try_kind_limit(const struct kind *kind, size_t len)
     const uint32_t start = 0;
     SAME(LIMITS, kind->build(b, lend(4)), is_above ? above : done(1, 0));
     SAME(LIMITS, kind->find(b, slots_of(&start, 1), none), is_above ? above : done(0, 0));
+    SAME(LIMITS, kind->index(b, lend(4)), is_above ? above : done(1, 0));
+    SAME(LIMITS, kind->find_walked(b, none), is_above ? above : done(0, 0));
+    SAME(LIMITS, kind->find_indexed(b, slots_of(&start, 1), none), is_above ? above : done(0, 0));
     SAME(LIMITS, kind->branch(b, slots_of(&start, 1), none, lend(4)), is_above ? above : done(1, 0));
     SAME(LIMITS, kind->branch_ordered(b, slots_of(&start, 1), none, lend(4)), is_above ? above : done(1, 0));
     SAME(LIMITS, kind->branch(b, slots_of(&start, 1), none, lend(0)), is_above ? above : refused(6, 1, 0));

@@ -23,7 +23,7 @@ static struct bytes string_of(struct bytes e, const uint64_t *slots, struct run 
 static struct parts parts_of(struct bytes e, const struct told *told)
 {
     const uint64_t *s = told->slots;
-    size_t attributes = (size_t)s[VINDASKOT_SYMBOL_ATTRIBUTES], chain = (size_t)s[VINDASKOT_SYMBOL_REFACTORS];
+    size_t attributes = (size_t)s[VINDASKOT_SYMBOL_ATTRIBUTES_AT], chain = (size_t)s[VINDASKOT_SYMBOL_REFACTORS_AT];
     struct parts p = {
         .flags = (uint32_t)s[VINDASKOT_SYMBOL_FLAGS],
         .high = (uint16_t)s[VINDASKOT_SYMBOL_HIGH],
@@ -37,9 +37,9 @@ static struct parts parts_of(struct bytes e, const struct told *told)
     };
     for (size_t i = 0; i < 4; i++)
         p.numbers[i] = (uint32_t)s[symbol_numbers[i]];
-    size_t size = records_size(e, attributes, p.count, model_attribute_read, VINDASKOT_ATTRIBUTE_NEXT);
+    size_t size = records_size(e, attributes, p.count, model_attribute_read, VINDASKOT_ATTRIBUTE_NEXT_AT);
     p.block = part(e, attributes, size);
-    p.chain = part(e, chain, records_size(e, chain, p.links, model_refactor_read, VINDASKOT_REFACTOR_NEXT));
+    p.chain = part(e, chain, records_size(e, chain, p.links, model_refactor_read, VINDASKOT_REFACTOR_NEXT_AT));
     return p;
 }
 

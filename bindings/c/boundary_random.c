@@ -49,10 +49,10 @@ struct record {
     size_t next;
 };
 
-static const struct record an_attribute = {{VINDASKOT_ATTRIBUTE_VALUE, VINDASKOT_ATTRIBUTE_VALUE_LEN},
-                                           VINDASKOT_ATTRIBUTE_NEXT};
-static const struct record a_refactor = {{VINDASKOT_REFACTOR_NAME, VINDASKOT_REFACTOR_NAME_LEN},
-                                         VINDASKOT_REFACTOR_NEXT};
+static const struct record an_attribute = {{VINDASKOT_ATTRIBUTE_VALUE_AT, VINDASKOT_ATTRIBUTE_VALUE_LEN},
+                                           VINDASKOT_ATTRIBUTE_NEXT_AT};
+static const struct record a_refactor = {{VINDASKOT_REFACTOR_NAME_AT, VINDASKOT_REFACTOR_NAME_LEN},
+                                         VINDASKOT_REFACTOR_NEXT_AT};
 
 static bool ends_within(const uint64_t *slots, struct record record, uint64_t end)
 {
@@ -84,12 +84,12 @@ struct asked {
 static const struct asked of_symbol = {call_symbol_attribute_named,
                                        model_symbol_attribute_named,
                                        model_symbol_attribute,
-                                       {VINDASKOT_SYMBOL_ATTRIBUTES, VINDASKOT_SYMBOL_ATTRIBUTE_COUNT},
+                                       {VINDASKOT_SYMBOL_ATTRIBUTES_AT, VINDASKOT_SYMBOL_ATTRIBUTE_COUNT},
                                        VINDASKOT_SYMBOL_LENGTH};
 static const struct asked of_field = {call_field_attribute_named,
                                       model_field_attribute_named,
                                       model_field_attribute,
-                                      {VINDASKOT_FIELD_ATTRIBUTES, VINDASKOT_FIELD_ATTRIBUTE_COUNT},
+                                      {VINDASKOT_FIELD_ATTRIBUTES_AT, VINDASKOT_FIELD_ATTRIBUTE_COUNT},
                                       VINDASKOT_FIELD_LENGTH};
 
 static struct bytes string_of(struct bytes b, const uint64_t *slots, struct run string)
@@ -125,7 +125,7 @@ static void try_past(struct bytes b, const struct asked *of, const uint64_t *ent
 {
     uint64_t count = entry[of->attributes.len], at = entry[of->attributes.place], end = entry[of->length];
     if (count > 0)
-        at = of->by_number(b, (size_t)count - 1).slots[VINDASKOT_ATTRIBUTE_NEXT];
+        at = of->by_number(b, (size_t)count - 1).slots[VINDASKOT_ATTRIBUTE_NEXT_AT];
     if (at > end)
         return;
     struct bytes rest = part(b, (size_t)at, (size_t)(end - at));
@@ -259,7 +259,7 @@ static void try_symbol(struct bytes b)
     check_high(b, s);
     CHECK(PLACES,
           within(s, symbol_attributes, 4, length) && within(s, symbol_refactors, 7, length) &&
-              s[VINDASKOT_SYMBOL_REFACTORS] + s[VINDASKOT_SYMBOL_UNREAD] <= length,
+              s[VINDASKOT_SYMBOL_REFACTORS_AT] + s[VINDASKOT_SYMBOL_UNREAD] <= length,
           "a symbol tells records past its end");
 }
 
@@ -733,7 +733,7 @@ static void try_attribute_back(struct bytes name, struct bytes value)
     struct bytes e = lay(UPLOAD, (struct bytes){out.at, out.len});
     struct told told = call_attribute_read(e);
     CHECK(ROUND_TRIPS,
-          told.slots[VINDASKOT_ATTRIBUTE_NEXT] == e.len && holds(e, told.slots, attribute_name, name) &&
+          told.slots[VINDASKOT_ATTRIBUTE_NEXT_AT] == e.len && holds(e, told.slots, attribute_name, name) &&
               holds(e, told.slots, attribute_value, value),
           "an attribute is read as another");
 }
@@ -753,7 +753,7 @@ static void try_refactor_back(uint32_t count, bool has_next, struct bytes name)
     struct bytes e = lay(UPLOAD, (struct bytes){out.at, out.len});
     struct told told = call_refactor_read(e);
     CHECK(ROUND_TRIPS,
-          told.slots[VINDASKOT_REFACTOR_NEXT] == e.len && holds(e, told.slots, refactor_name, name) &&
+          told.slots[VINDASKOT_REFACTOR_NEXT_AT] == e.len && holds(e, told.slots, refactor_name, name) &&
               told.slots[VINDASKOT_REFACTOR_COUNT] == packed,
           "a refactor record is read as another");
 }
@@ -882,6 +882,8 @@ static void try_case(uint64_t number)
     try_made(make_narrow, try_room);
     try_made(make_types, try_tree);
     try_made(make_plain, try_plain_changed);
+    try_words(1 + (uint32_t)below(19), any(), any());
+    try_paths();
 }
 
 void try_random(uint64_t from, uint64_t cases, uint64_t seed_number)

@@ -94,7 +94,7 @@ static void try_attributes(struct bytes b, const uint64_t *s)
         if (told.status != VINDASKOT_DONE)
             continue;
         struct bytes own =
-            part(b, (size_t)told.slots[VINDASKOT_ATTRIBUTE_NAME], (size_t)told.slots[VINDASKOT_ATTRIBUTE_NAME_LEN]);
+            part(b, (size_t)told.slots[VINDASKOT_ATTRIBUTE_NAME_AT], (size_t)told.slots[VINDASKOT_ATTRIBUTE_NAME_LEN]);
         struct bytes name = lay(NAME, own);
         SAME(TYPES_ATTRIBUTES, call_type_attribute_named(b, name), model_type_attribute_named(b, name));
         name = lay(NAME, part(own, 0, own.len + 1));
@@ -383,7 +383,7 @@ static bool record_holds(struct bytes e, struct told told, const struct laid_out
     }
     return holds && s[VINDASKOT_TYPE_LENGTH] == number_at(e, 0, 4) && s[VINDASKOT_TYPE_FLAGS] == p.flags &&
            s[VINDASKOT_TYPE_HAS_GUID] == guid && memcmp(told.guid, guid ? p.guid.at : zeros, 16) == 0 &&
-           s[VINDASKOT_TYPE_ATTRIBUTE_COUNT] == p.count && s[VINDASKOT_TYPE_ARRAYS] == at &&
+           s[VINDASKOT_TYPE_ATTRIBUTE_COUNT] == p.count && s[VINDASKOT_TYPE_ARRAYS_AT] == at &&
            s[VINDASKOT_TYPE_ARRAY_COUNT] == own->arrays && s[VINDASKOT_TYPE_ITEM_COUNT] == own->items &&
            s[VINDASKOT_TYPE_MEMBER_COUNT] == own->below;
 }

@@ -159,7 +159,8 @@ static void check_shown(struct told why, struct told symbol)
               shown_of(of_chain, true) == s[VINDASKOT_SYMBOL_REFACTOR_COUNT],
           "the reasons say that other parts are shown than are");
     CHECK(WHY_SHOWN,
-          placed(of_attributes, s[VINDASKOT_SYMBOL_ATTRIBUTES], 2) && placed(of_chain, s[VINDASKOT_SYMBOL_REFACTORS], 0),
+          placed(of_attributes, s[VINDASKOT_SYMBOL_ATTRIBUTES_AT], 2) &&
+              placed(of_chain, s[VINDASKOT_SYMBOL_REFACTORS_AT], 0),
           "the reasons say that sections stand elsewhere");
 }
 

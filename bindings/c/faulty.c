@@ -25,6 +25,31 @@ uint32_t __real_vindaskot_symbol_why(EXPLAINS);
 uint32_t __real_vindaskot_sheet_export(EXPORTS);
 #endif
 
+#if FAULT > 365
+/* What the words of a refusal take, and the right ones. */
+#define TELLS uint32_t number, size_t expected, size_t got, uint8_t *output, size_t output_length, uint64_t *answer
+#define TOLD(number, expected, got) __real_vindaskot_refusal_text(number, expected, got, output, output_length, answer)
+uint32_t __real_vindaskot_refusal_text(TELLS);
+#endif
+
+#if FAULT > 373
+/* What the reader of a sheet takes is the same; and the right one. */
+#define IMPORTED __real_vindaskot_sheet_import(bytes, bytes_len, out, out_len, answer)
+uint32_t __real_vindaskot_sheet_import(EXPORTS);
+#endif
+
+#if FAULT > 383
+/* What binding takes, and the right one. */
+#define BINDS                                                                                                          \
+    const uint8_t *symbols, size_t symbols_len, bool checked, const uint32_t *symbol_starts, size_t symbol_count,      \
+        const uint8_t *types, size_t types_len, const uint32_t *type_starts, size_t type_count, const uint8_t *path,   \
+        size_t path_len, uint64_t *slots, uint64_t *answer
+#define BOUND(checked, symbol_count, path_len)                                                                         \
+    __real_vindaskot_bind_in(symbols, symbols_len, checked, symbol_starts, symbol_count, types, types_len,             \
+                             type_starts, type_count, path, path_len, slots, answer)
+uint32_t __real_vindaskot_bind_in(BINDS);
+#endif
+
 #if FAULT > 15 && FAULT < 20 && FAULT != 18
 /* The attributes that these look at: each call reads the entry anew, and there can be 65,535. */
 enum { FEW = 99 };
@@ -34,7 +59,7 @@ static bool begins(const uint8_t *bytes, const uint64_t *slots, const uint8_t *w
 {
     if (slots[VINDASKOT_ATTRIBUTE_NAME_LEN] < len)
         return false;
-    while (len > 0 && ((bytes[slots[VINDASKOT_ATTRIBUTE_NAME] + len - 1] ^ with[len - 1]) & mask) == 0)
+    while (len > 0 && ((bytes[slots[VINDASKOT_ATTRIBUTE_NAME_AT] + len - 1] ^ with[len - 1]) & mask) == 0)
         len--;
     return len == 0;
 }
@@ -408,11 +433,11 @@ static uint32_t attribute(struct tree *t, const uint8_t *e, size_t len, size_t a
     size_t name = e[at], value = e[at + 1], end = at + name + value + 4;
     if (end > len)
         return stop(t, 1, name + value + 4, left);
-    slots[VINDASKOT_ATTRIBUTE_NAME] = at + 2;
+    slots[VINDASKOT_ATTRIBUTE_NAME_AT] = at + 2;
     slots[VINDASKOT_ATTRIBUTE_NAME_LEN] = name;
-    slots[VINDASKOT_ATTRIBUTE_VALUE] = at + name + 3;
+    slots[VINDASKOT_ATTRIBUTE_VALUE_AT] = at + name + 3;
     slots[VINDASKOT_ATTRIBUTE_VALUE_LEN] = value;
-    slots[VINDASKOT_ATTRIBUTE_NEXT] = end;
+    slots[VINDASKOT_ATTRIBUTE_NEXT_AT] = end;
     if (looks && e[at + name + 2] != 0)
         return stop(t, 16, place + at + name + 2, e[at + name + 2]);
     if (looks && e[end - 1] != 0)
@@ -444,19 +469,19 @@ static uint32_t sections(struct tree *t, const uint8_t *e, size_t len, size_t at
         at = at <= len && size < len - at ? at + (size_t)size : len;
     if ((flags & VINDASKOT_TYPE_FLAG_METHOD_INFOS) != 0 && at <= len && len - at >= 2)
         at = skipped(e, len, at + 2, at_place(e, at, 2));
-    slots[VINDASKOT_TYPE_ATTRIBUTES] = at < len ? at : len;
+    slots[VINDASKOT_TYPE_ATTRIBUTES_AT] = at < len ? at : len;
     if ((flags & VINDASKOT_TYPE_FLAG_ATTRIBUTES) == 0 || at > len || len - at < 2)
         return VINDASKOT_DONE;
     uint64_t count = at_place(e, at, 2);
     at += 2;
-    slots[VINDASKOT_TYPE_ATTRIBUTES] = at;
+    slots[VINDASKOT_TYPE_ATTRIBUTES_AT] = at;
     for (uint64_t i = 0; i < count && (i == 0 || at < len); i++) {
         uint32_t status = attribute(t, e, len, at, looks, FAULT == 244 ? place : 0, own);
         if (FAULT == 246 && depth > 1 && (status == 1 || status == 2))
             return VINDASKOT_DONE;
         if (status != VINDASKOT_DONE)
             return status;
-        at = (size_t)own[VINDASKOT_ATTRIBUTE_NEXT];
+        at = (size_t)own[VINDASKOT_ATTRIBUTE_NEXT_AT];
         slots[VINDASKOT_TYPE_ATTRIBUTE_COUNT]++;
     }
     return VINDASKOT_DONE;
@@ -531,7 +556,7 @@ static uint32_t entry(struct tree *t, const uint8_t *e, size_t len, size_t place
     size_t at = 42;
     uint32_t status;
     for (size_t i = 0; i < 3; i++) {
-        own[VINDASKOT_TYPE_NAME + 2 * i] = at;
+        own[VINDASKOT_TYPE_NAME_AT + 2 * i] = at;
         own[VINDASKOT_TYPE_NAME_LEN + 2 * i] = at_place(e, 32 + 2 * i, 2);
         at += (size_t)own[VINDASKOT_TYPE_NAME_LEN + 2 * i] + 1;
     }
@@ -542,7 +567,7 @@ static uint32_t entry(struct tree *t, const uint8_t *e, size_t len, size_t place
     if (FAULT == 250 && next > len)
         return stop(t, 3, next, len);
     for (size_t i = 0; t->checked && !(FAULT == 247 && depth > 1) && i < 3; i++) {
-        size_t end = (size_t)(own[VINDASKOT_TYPE_NAME + 2 * i] + own[VINDASKOT_TYPE_NAME_LEN + 2 * i]);
+        size_t end = (size_t)(own[VINDASKOT_TYPE_NAME_AT + 2 * i] + own[VINDASKOT_TYPE_NAME_LEN + 2 * i]);
         if (e[end] != 0 && !(FAULT == 287 && i == 2))
             return stop(t, 16, FAULT == 244 ? place + end : end, e[end]);
     }
@@ -583,7 +608,7 @@ static uint32_t entry(struct tree *t, const uint8_t *e, size_t len, size_t place
         return status;
     for (size_t i = 0; i < 8; i++)
         own[VINDASKOT_TYPE_LENGTH + i] = i == 0 ? len : at_place(e, 4 * i, 4);
-    own[VINDASKOT_TYPE_ARRAYS] = FAULT == 233 && arrays == 0 ? 0 : at;
+    own[VINDASKOT_TYPE_ARRAYS_AT] = FAULT == 233 && arrays == 0 ? 0 : at;
     own[VINDASKOT_TYPE_ARRAY_COUNT] = arrays;
     own[VINDASKOT_TYPE_MEMBER_COUNT] = t->members - (depth == 1 ? 0 : number + 1);
     own[VINDASKOT_TYPE_ITEM_COUNT] = FAULT == 257 ? own[VINDASKOT_TYPE_MEMBER_COUNT] : items;
@@ -595,7 +620,7 @@ static uint32_t entry(struct tree *t, const uint8_t *e, size_t len, size_t place
         own[VINDASKOT_TYPE_MEMBER_COUNT] = t->members;
     if (FAULT == 173 && depth > 1)
         for (size_t i = 0; i < 3; i++)
-            own[VINDASKOT_TYPE_NAME + 2 * i] += place;
+            own[VINDASKOT_TYPE_NAME_AT + 2 * i] += place;
     if (t->slots != NULL && number == t->wanted) {
         memcpy(t->slots, own, sizeof own);
         if (t->guid != NULL && !((FAULT == 229 || FAULT == 297) && own[VINDASKOT_TYPE_HAS_GUID] == 0))
@@ -703,7 +728,7 @@ UNASKED static uint32_t type_step(ROOT, size_t *cursor, TELLS_TYPE)
         memcpy(slots, own, sizeof own);
         memcpy(guid, own_guid, 16);
         for (size_t i = 0; FAULT == 255 && i < 3; i++)
-            slots[VINDASKOT_TYPE_NAME + 2 * i] += at;
+            slots[VINDASKOT_TYPE_NAME_AT + 2 * i] += at;
     }
     return tell(&t, status, answer);
 }
@@ -720,7 +745,7 @@ UNASKED static uint32_t type_array(ROOT, size_t number, TELLS_PART)
     uint64_t count = own[VINDASKOT_TYPE_ARRAY_COUNT];
     if (number >= count)
         return past(FAULT == 292 ? count - 1 : count, number, answer);
-    size_t at = (size_t)own[VINDASKOT_TYPE_ARRAYS] + 8 * (FAULT == 232 ? count - 1 - number : number);
+    size_t at = (size_t)own[VINDASKOT_TYPE_ARRAYS_AT] + 8 * (FAULT == 232 ? count - 1 - number : number);
     uint64_t lower = at_place(bytes, at, 4), elements = at_place(bytes, at + 4, 4);
     if (FAULT == 231)
         lower = (uint64_t)(int64_t)(int32_t)(uint32_t)lower;
@@ -747,15 +772,16 @@ UNASKED static uint32_t of_type(ROOT, size_t number, const uint8_t *name, size_t
     if (status != VINDASKOT_DONE)
         return tell(&t, status, answer);
     uint64_t count = own[VINDASKOT_TYPE_ATTRIBUTE_COUNT];
-    size_t at = (size_t)own[VINDASKOT_TYPE_ATTRIBUTES];
+    size_t at = (size_t)own[VINDASKOT_TYPE_ATTRIBUTES_AT];
     if (!by_name && number >= count)
         return past(count, number, answer);
     for (uint64_t i = 0; i < count; i++) {
         attribute(&t, bytes, bytes_len, at, false, 0, found);
-        at = (size_t)found[VINDASKOT_ATTRIBUTE_NEXT];
+        at = (size_t)found[VINDASKOT_ATTRIBUTE_NEXT_AT];
         bool is = by_name ? (found[VINDASKOT_ATTRIBUTE_NAME_LEN] == name_len ||
                              (FAULT == 295 && found[VINDASKOT_ATTRIBUTE_NAME_LEN] > name_len)) &&
-                                (name_len == 0 || memcmp(bytes + found[VINDASKOT_ATTRIBUTE_NAME], name, name_len) == 0)
+                                (name_len == 0 ||
+                                 memcmp(bytes + found[VINDASKOT_ATTRIBUTE_NAME_AT], name, name_len) == 0)
                           : i == number;
         if (is && (!any || FAULT == 273)) {
             memcpy(best, found, sizeof best);
@@ -767,7 +793,7 @@ UNASKED static uint32_t of_type(ROOT, size_t number, const uint8_t *name, size_t
         return 13;
     }
     if (FAULT == 296)
-        best[VINDASKOT_ATTRIBUTE_NEXT] -= best[VINDASKOT_ATTRIBUTE_NAME] - 2;
+        best[VINDASKOT_ATTRIBUTE_NEXT_AT] -= best[VINDASKOT_ATTRIBUTE_NAME_AT] - 2;
     memcpy(slots, best, sizeof best);
     return tell(&t, VINDASKOT_DONE, answer);
 }
@@ -1105,9 +1131,9 @@ uint32_t __wrap_vindaskot_symbol_attribute_named(const uint8_t *bytes, size_t by
 {
     uint64_t one[VINDASKOT_ATTRIBUTE_SLOTS], own[2];
     uint32_t status = __real_vindaskot_symbol_attribute_named(bytes, bytes_len, name, name_len, slots, answer);
-    size_t next = status == VINDASKOT_DONE ? (size_t)slots[VINDASKOT_ATTRIBUTE_NEXT] : bytes_len;
+    size_t next = status == VINDASKOT_DONE ? (size_t)slots[VINDASKOT_ATTRIBUTE_NEXT_AT] : bytes_len;
     if (vindaskot_attribute_read(bytes + next, bytes_len - next, one, own) == VINDASKOT_DONE) {
-        slots[VINDASKOT_ATTRIBUTE_VALUE] = next + one[VINDASKOT_ATTRIBUTE_VALUE];
+        slots[VINDASKOT_ATTRIBUTE_VALUE_AT] = next + one[VINDASKOT_ATTRIBUTE_VALUE_AT];
         slots[VINDASKOT_ATTRIBUTE_VALUE_LEN] = one[VINDASKOT_ATTRIBUTE_VALUE_LEN];
     }
     return status;
@@ -1138,7 +1164,7 @@ uint32_t __wrap_vindaskot_symbol_attribute_named(const uint8_t *bytes, size_t by
 {
     uint32_t status = __real_vindaskot_symbol_attribute_named(bytes, bytes_len, name, name_len, slots, answer);
     if (status == 13)
-        slots[VINDASKOT_ATTRIBUTE_NEXT] = 0;
+        slots[VINDASKOT_ATTRIBUTE_NEXT_AT] = 0;
     return status;
 }
 
@@ -1258,7 +1284,7 @@ uint32_t __wrap_vindaskot_symbol_attribute_named(const uint8_t *bytes, size_t by
         size_t place = 0;
         if (vindaskot_symbol_attribute(bytes, bytes_len, i, one, own) != VINDASKOT_DONE)
             break;
-        const uint8_t *at = bytes + one[VINDASKOT_ATTRIBUTE_NAME];
+        const uint8_t *at = bytes + one[VINDASKOT_ATTRIBUTE_NAME_AT];
         while (place < name_len && place < one[VINDASKOT_ATTRIBUTE_NAME_LEN] && small(at[place]) == small(name[place]))
             place++;
         if (place == name_len && place == one[VINDASKOT_ATTRIBUTE_NAME_LEN]) {
@@ -1391,7 +1417,7 @@ uint32_t __wrap_vindaskot_field_read_in(BYTES, TELLS_ENTRY)
     uint64_t own[VINDASKOT_FIELD_SLOTS];
     uint8_t other[16];
     if (checked && __real_vindaskot_field_read_in(bytes, bytes_len, true, own, other, answer) == VINDASKOT_DONE) {
-        size_t at = (size_t)(own[VINDASKOT_FIELD_COMMENT] + own[VINDASKOT_FIELD_COMMENT_LEN]) + 1 +
+        size_t at = (size_t)(own[VINDASKOT_FIELD_COMMENT_AT] + own[VINDASKOT_FIELD_COMMENT_LEN]) + 1 +
                     8 * (size_t)(bytes[38] | bytes[39] << 8);
         uint64_t place =
             wrong_item(bytes, (size_t)own[VINDASKOT_FIELD_LENGTH], &at, (size_t)(bytes[40] | bytes[41] << 8));
@@ -1410,7 +1436,7 @@ uint32_t __wrap_vindaskot_field_read_in(BYTES, TELLS_ENTRY)
         (own[VINDASKOT_FIELD_FLAGS] & VINDASKOT_TYPE_FLAG_METHOD_INFOS) != 0 &&
         (own[VINDASKOT_FIELD_FLAGS] & VINDASKOT_TYPE_FLAG_COPY_MASK) == 0 && (bytes[38] | bytes[40]) == 0) {
         size_t len = (size_t)own[VINDASKOT_FIELD_LENGTH];
-        size_t at = (size_t)(own[VINDASKOT_FIELD_COMMENT] + own[VINDASKOT_FIELD_COMMENT_LEN]) + 1 +
+        size_t at = (size_t)(own[VINDASKOT_FIELD_COMMENT_AT] + own[VINDASKOT_FIELD_COMMENT_LEN]) + 1 +
                     16 * (size_t)own[VINDASKOT_FIELD_HAS_GUID];
         size_t count = at + 2 <= len ? (size_t)(bytes[at] | bytes[at + 1] << 8) : 0;
         at += 2;
@@ -1478,7 +1504,7 @@ uint32_t __wrap_vindaskot_symbol_step_in(BYTES, size_t *cursor, TELLS_ENTRY)
         (own[VINDASKOT_SYMBOL_FLAGS] & VINDASKOT_SYMBOL_FLAG_ATTRIBUTES) == 0)
         return __real_vindaskot_symbol_step_in(bytes, bytes_len, checked, cursor, slots, guid, answer);
     const uint8_t *entry = bytes + *cursor;
-    size_t at = (size_t)own[VINDASKOT_SYMBOL_ATTRIBUTES], len = (size_t)own[VINDASKOT_SYMBOL_LENGTH], left = 0;
+    size_t at = (size_t)own[VINDASKOT_SYMBOL_ATTRIBUTES_AT], len = (size_t)own[VINDASKOT_SYMBOL_LENGTH], left = 0;
     if (at >= 2 && at <= len)
         left = (size_t)(entry[at - 2] | entry[at - 1] << 8);
     for (; left > 0 && at < len; left--) {
@@ -1487,7 +1513,7 @@ uint32_t __wrap_vindaskot_symbol_step_in(BYTES, size_t *cursor, TELLS_ENTRY)
             *cursor = next;
             return status;
         }
-        at += (size_t)one[VINDASKOT_ATTRIBUTE_NEXT];
+        at += (size_t)one[VINDASKOT_ATTRIBUTE_NEXT_AT];
     }
     return __real_vindaskot_symbol_step_in(bytes, bytes_len, checked, cursor, slots, guid, answer);
 }
@@ -1502,10 +1528,10 @@ uint32_t __wrap_vindaskot_symbol_read_in(BYTES, TELLS_ENTRY)
     if (status != 16 || place < 30)
         return status;
     (void)vindaskot_symbol_read_2(bytes, bytes_len, own, other, answer);
-    if (place < own[VINDASKOT_SYMBOL_REFACTORS])
+    if (place < own[VINDASKOT_SYMBOL_REFACTORS_AT])
         return __real_vindaskot_symbol_read_in(bytes, bytes_len, checked, slots, guid, answer);
     own[VINDASKOT_SYMBOL_REFACTOR_COUNT] = 0;
-    own[VINDASKOT_SYMBOL_UNREAD] = own[VINDASKOT_SYMBOL_LENGTH] - own[VINDASKOT_SYMBOL_REFACTORS];
+    own[VINDASKOT_SYMBOL_UNREAD] = own[VINDASKOT_SYMBOL_LENGTH] - own[VINDASKOT_SYMBOL_REFACTORS_AT];
     memcpy(slots, own, sizeof own);
     memcpy(guid, other, sizeof other);
     return VINDASKOT_DONE;
@@ -1518,7 +1544,7 @@ uint32_t __wrap_vindaskot_symbol_read_in(BYTES, TELLS_ENTRY)
     uint8_t other[16];
     uint32_t status = __real_vindaskot_symbol_read_in(bytes, bytes_len, checked, slots, guid, answer);
     if (status != 16 || vindaskot_symbol_read_2(bytes, bytes_len, own, other, figures) != VINDASKOT_DONE ||
-        answer[0] < own[VINDASKOT_SYMBOL_REFACTORS] || own[VINDASKOT_SYMBOL_REFACTOR_COUNT] > 0)
+        answer[0] < own[VINDASKOT_SYMBOL_REFACTORS_AT] || own[VINDASKOT_SYMBOL_REFACTOR_COUNT] > 0)
         return status;
     return vindaskot_symbol_read_2(bytes, bytes_len, slots, guid, answer);
 }
@@ -1531,7 +1557,7 @@ uint32_t __wrap_vindaskot_symbol_step_in(BYTES, size_t *cursor, TELLS_ENTRY)
     size_t start = *cursor;
     uint32_t status = __real_vindaskot_symbol_step_in(bytes, bytes_len, checked, cursor, slots, guid, answer);
     if (status != 16 || vindaskot_symbol_read_2(bytes + start, bytes_len - start, own, other, figures) != 0 ||
-        answer[0] < own[VINDASKOT_SYMBOL_ATTRIBUTES] || answer[0] >= own[VINDASKOT_SYMBOL_REFACTORS])
+        answer[0] < own[VINDASKOT_SYMBOL_ATTRIBUTES_AT] || answer[0] >= own[VINDASKOT_SYMBOL_REFACTORS_AT])
         return status;
     return vindaskot_symbol_read_2(bytes + start, bytes_len - start, slots, guid, answer);
 }
@@ -1552,11 +1578,11 @@ uint32_t __wrap_vindaskot_chain_read_in(BYTES, uint64_t *answer)
     uint32_t status = __real_vindaskot_chain_read_in(bytes, bytes_len, checked, answer);
     for (size_t at = 0; status == 16;) {
         (void)vindaskot_refactor_read(bytes + at, bytes_len - at, one, figures);
-        if (at + one[VINDASKOT_REFACTOR_NEXT] > answer[0]) {
+        if (at + one[VINDASKOT_REFACTOR_NEXT_AT] > answer[0]) {
             answer[0] -= at;
             break;
         }
-        at += (size_t)one[VINDASKOT_REFACTOR_NEXT];
+        at += (size_t)one[VINDASKOT_REFACTOR_NEXT_AT];
     }
     return status;
 }
@@ -1568,8 +1594,8 @@ uint32_t __wrap_vindaskot_field_read_in(BYTES, TELLS_ENTRY)
     uint8_t other[16];
     uint32_t status = __real_vindaskot_field_read_in(bytes, bytes_len, checked, slots, guid, answer);
     if (status == 16 && vindaskot_field_read(bytes, bytes_len, own, other, figures) == VINDASKOT_DONE &&
-        answer[0] >= own[VINDASKOT_FIELD_ATTRIBUTES])
-        answer[0] -= own[VINDASKOT_FIELD_ATTRIBUTES];
+        answer[0] >= own[VINDASKOT_FIELD_ATTRIBUTES_AT])
+        answer[0] -= own[VINDASKOT_FIELD_ATTRIBUTES_AT];
     return status;
 }
 
@@ -1654,7 +1680,7 @@ uint32_t __wrap_vindaskot_attribute_read(const uint8_t *bytes, size_t bytes_len,
 {
     uint64_t one[VINDASKOT_ATTRIBUTE_SLOTS];
     uint32_t status = __real_vindaskot_attribute_read(bytes, bytes_len, one, answer);
-    size_t end = status == VINDASKOT_DONE ? (size_t)one[VINDASKOT_ATTRIBUTE_NEXT] - 1 : 0;
+    size_t end = status == VINDASKOT_DONE ? (size_t)one[VINDASKOT_ATTRIBUTE_NEXT_AT] - 1 : 0;
     if (status == VINDASKOT_DONE && bytes[end] != 0)
         return told_16(answer, end, bytes[end]);
     return __real_vindaskot_attribute_read(bytes, bytes_len, slots, answer);
@@ -1679,7 +1705,7 @@ uint32_t __wrap_vindaskot_field_step_in(BYTES, size_t *cursor, TELLS_ENTRY)
 {
     uint32_t status = __real_vindaskot_field_step_in(bytes, bytes_len, checked, cursor, slots, guid, answer);
     if (status == 16)
-        slots[VINDASKOT_FIELD_NAME] = 42;
+        slots[VINDASKOT_FIELD_NAME_AT] = 42;
     return status;
 }
 
@@ -1750,7 +1776,7 @@ uint32_t __wrap_vindaskot_chain_record_in(BYTES, size_t number, TELLS_RECORD)
     uint64_t one[VINDASKOT_REFACTOR_SLOTS], figures[2];
     uint32_t status = __real_vindaskot_chain_record_in(bytes, bytes_len, checked, number, slots, answer);
     if (status != 16 || vindaskot_chain_record(bytes, bytes_len, number, one, figures) != VINDASKOT_DONE ||
-        one[VINDASKOT_REFACTOR_NEXT] > answer[0])
+        one[VINDASKOT_REFACTOR_NEXT_AT] > answer[0])
         return status;
     return vindaskot_chain_record(bytes, bytes_len, number, slots, answer);
 }
@@ -1774,7 +1800,7 @@ uint32_t __wrap_vindaskot_symbol_attribute_named_in(BYTES, NAMED, TELLS_RECORD)
         __real_vindaskot_symbol_attribute_named_in(bytes, bytes_len, checked, name, name_len, slots, answer);
     if (status != 16 ||
         vindaskot_symbol_attribute_named(bytes, bytes_len, name, name_len, one, figures) != VINDASKOT_DONE ||
-        one[VINDASKOT_ATTRIBUTE_NEXT] > answer[0])
+        one[VINDASKOT_ATTRIBUTE_NEXT_AT] > answer[0])
         return status;
     return vindaskot_symbol_attribute_named(bytes, bytes_len, name, name_len, slots, answer);
 }
@@ -1860,7 +1886,7 @@ uint32_t __wrap_vindaskot_symbol_read_in(BYTES, TELLS_ENTRY)
     uint64_t own[VINDASKOT_SYMBOL_SLOTS], figures[2];
     uint8_t other[16];
     if (checked && __real_vindaskot_symbol_read_in(bytes, bytes_len, true, own, other, answer) == VINDASKOT_DONE) {
-        size_t at = (size_t)own[VINDASKOT_SYMBOL_REFACTORS], len = (size_t)own[VINDASKOT_SYMBOL_LENGTH];
+        size_t at = (size_t)own[VINDASKOT_SYMBOL_REFACTORS_AT], len = (size_t)own[VINDASKOT_SYMBOL_LENGTH];
         bool flagged = (own[VINDASKOT_SYMBOL_EXTENDED_FLAGS] & VINDASKOT_SYMBOL2_FLAG_REFACTOR_INFO) != 0;
         uint32_t status = flagged && at < len ? vindaskot_chain_read(bytes + at, len - at, figures) : VINDASKOT_DONE;
         if (status != VINDASKOT_DONE) {
@@ -2950,6 +2976,43 @@ uint32_t __wrap_vindaskot_type_find_ordered_in(BYTES, INDEX, NAMED, uint64_t *an
     return __real_vindaskot_type_find_ordered_in(bytes, bytes_len, !checked, starts, count, name, name_len, answer);
 }
 
+#elif FAULT == 370 /* data types are found without an index in the mode that was not asked for */
+uint32_t __real_vindaskot_type_find_in(BYTES, NAMED, uint64_t *answer);
+uint32_t __wrap_vindaskot_type_find_in(BYTES, NAMED, uint64_t *answer)
+{
+    return __real_vindaskot_type_find_in(bytes, bytes_len, !checked, name, name_len, answer);
+}
+
+#elif FAULT == 371 /* a data type is looked for without an index where a symbol has its name */
+uint32_t __wrap_vindaskot_type_find_in(BYTES, NAMED, uint64_t *answer)
+{
+    return vindaskot_find_in(bytes, bytes_len, checked, name, name_len, answer);
+}
+
+#elif FAULT == 372 /* a data type's slot is the second that has the name */
+uint32_t __real_vindaskot_type_find_indexed_in(BYTES, INDEX, NAMED, uint64_t *answer);
+uint32_t __wrap_vindaskot_type_find_indexed_in(BYTES, INDEX, NAMED, uint64_t *answer)
+{
+    uint64_t own[2];
+    uint32_t status = __real_vindaskot_type_find_indexed_in(bytes, bytes_len, checked, starts, count, name, name_len, answer);
+    for (size_t i = 0, met = 0; status == VINDASKOT_DONE && i < count; i++)
+        if (__real_vindaskot_type_find_indexed_in(bytes, bytes_len, checked, starts + i, 1, name, name_len, own) ==
+                VINDASKOT_DONE &&
+            met++ == 1)
+            answer[0] = starts[i];
+    return status;
+}
+
+#elif FAULT == 373 /* an index of data types leaves the first out */
+uint32_t __real_vindaskot_type_index_build_in(BYTES, uint32_t *starts, size_t count, uint64_t *answer);
+uint32_t __wrap_vindaskot_type_index_build_in(BYTES, uint32_t *starts, size_t count, uint64_t *answer)
+{
+    uint32_t status = __real_vindaskot_type_index_build_in(bytes, bytes_len, checked, starts, count, answer);
+    if (status == VINDASKOT_DONE && answer[0] > 1)
+        memmove(starts, starts + 1, 4 * (size_t)(answer[0] - 1));
+    return status;
+}
+
 #elif FAULT == 319 /* attributes without room are told as not flagged */
 uint32_t __wrap_vindaskot_symbol_why(EXPLAINS)
 {
@@ -3096,6 +3159,186 @@ uint32_t __wrap_vindaskot_sheet_export(EXPORTS)
         return status;
     answer[0] = 0, answer[1] = 5;
     return 17;
+}
+
+#elif FAULT == 366 /* the words of a refusal tell its figures exchanged */
+uint32_t __wrap_vindaskot_refusal_text(TELLS)
+{
+    return TOLD(number, got, expected);
+}
+
+#elif FAULT == 367 /* the words of a refusal have a zero byte behind them */
+uint32_t __wrap_vindaskot_refusal_text(TELLS)
+{
+    uint32_t status = TOLD(number, expected, got);
+    if (status == VINDASKOT_DONE && answer[0] < output_length)
+        output[answer[0]] = 0;
+    return status;
+}
+
+#elif FAULT == 368 /* the words of a refusal tell 32 bits of a figure */
+uint32_t __wrap_vindaskot_refusal_text(TELLS)
+{
+    return TOLD(number, (uint32_t)expected, got);
+}
+
+#elif FAULT == 369 /* the words of a refusal are cut where too little is lent */
+uint32_t __wrap_vindaskot_refusal_text(TELLS)
+{
+    uint32_t status = TOLD(number, expected, got);
+    if (status != VINDASKOT_REFUSED_OUTPUT_TOO_SMALL || output_length == 0)
+        return status;
+    answer[0] = output_length, answer[1] = 0;
+    memset(output, ' ', output_length);
+    return VINDASKOT_DONE;
+}
+
+#elif FAULT == 380 /* a number above those of the refusals has the words of the last */
+uint32_t __wrap_vindaskot_refusal_text(TELLS)
+{
+    return TOLD(number > VINDASKOT_REFUSED_TOO_MANY_ALIASES ? VINDASKOT_REFUSED_TOO_MANY_ALIASES : number, expected, got);
+}
+
+#elif FAULT == 381 /* the words of a refusal are looked up by a byte of its number */
+uint32_t __wrap_vindaskot_refusal_text(TELLS)
+{
+    return TOLD(number % 256, expected, got);
+}
+
+#elif FAULT == 382 /* an end byte above 255 has no words */
+uint32_t __wrap_vindaskot_refusal_text(TELLS)
+{
+    if (number != VINDASKOT_REFUSED_END_BYTE || got < 256)
+        return TOLD(number, expected, got);
+    return TOLD(0, expected, got);
+}
+
+#elif FAULT == 383 /* a number that no refusal has is not found by its name */
+uint32_t __wrap_vindaskot_refusal_text(TELLS)
+{
+    uint32_t status = TOLD(number, expected, got);
+    if (status != VINDASKOT_REFUSED_NO_SUCH_NUMBER)
+        return status;
+    answer[0] = answer[1] = 0;
+    return VINDASKOT_REFUSED_NAME_NOT_FOUND;
+}
+
+#elif FAULT == 374 /* a sheet's rows count from the first below the header */
+uint32_t __wrap_vindaskot_sheet_import(EXPORTS)
+{
+    uint32_t status = IMPORTED;
+    answer[0] -= status == 18 && answer[0] > 1;
+    return status;
+}
+
+#elif FAULT == 375 /* a bad cell of a sheet is a row of the wrong shape */
+uint32_t __wrap_vindaskot_sheet_import(EXPORTS)
+{
+    uint32_t status = IMPORTED;
+    if (status == 18)
+        answer[1] = 0;
+    return status;
+}
+
+#elif FAULT == 376 /* a fault of a sheet's text is told a place too early */
+uint32_t __wrap_vindaskot_sheet_import(EXPORTS)
+{
+    uint32_t status = IMPORTED;
+    answer[0] -= status == 11;
+    return status;
+}
+
+#elif FAULT == 377 /* the last end byte of an imported upload is not written */
+uint32_t __wrap_vindaskot_sheet_import(EXPORTS)
+{
+    uint8_t before = out_len > 0 ? out[0] : 0;
+    uint32_t status = IMPORTED;
+    if (status == VINDASKOT_DONE && answer[0] > 0 && out_len > 0)
+        out[answer[0] - 1] = before;
+    return status;
+}
+
+#elif FAULT == 378 /* a string that is too long is told as too long an upload */
+uint32_t __wrap_vindaskot_sheet_import(EXPORTS)
+{
+    uint32_t status = IMPORTED;
+    return status == 7 ? 5 : status;
+}
+
+#elif FAULT == 379 /* what is lent is looked at before a sheet's rows */
+uint32_t __wrap_vindaskot_sheet_import(EXPORTS)
+{
+    uint32_t status = IMPORTED;
+    if (status != 18 || out_len > 0)
+        return status;
+    answer[0] = 33, answer[1] = 0;
+    return 6;
+}
+
+#elif FAULT == 384 /* a bit of an address is told of its byte's high end */
+uint32_t __wrap_vindaskot_bind_in(BINDS)
+{
+    uint32_t status = BOUND(checked, symbol_count, path_len);
+    if (status == VINDASKOT_DONE && slots[VINDASKOT_ADDRESS_BIT] != 0)
+        slots[VINDASKOT_ADDRESS_BIT] = 7 - slots[VINDASKOT_ADDRESS_BIT];
+    return status;
+}
+
+#elif FAULT == 385 /* an address tells its size in bits as one in bytes */
+uint32_t __wrap_vindaskot_bind_in(BINDS)
+{
+    uint32_t status = BOUND(checked, symbol_count, path_len);
+    if (status == VINDASKOT_DONE)
+        slots[VINDASKOT_ADDRESS_SIZE_IN_BITS] = 0;
+    return status;
+}
+
+#elif FAULT == 386 /* an address tells the place of its type's name in the upload and not in the entry */
+uint32_t __wrap_vindaskot_bind_in(BINDS)
+{
+    uint32_t status = BOUND(checked, symbol_count, path_len);
+    if (status == VINDASKOT_DONE)
+        slots[VINDASKOT_ADDRESS_TYPE_NAME_AT] += slots[VINDASKOT_ADDRESS_ENTRY_AT];
+    return status;
+}
+
+#elif FAULT == 387 /* binding reads both uploads in the present mode, whatever is asked */
+uint32_t __wrap_vindaskot_bind_in(BINDS)
+{
+    (void)checked;
+    return BOUND(false, symbol_count, path_len);
+}
+
+#elif FAULT == 388 /* binding leaves out the last of the symbols */
+uint32_t __wrap_vindaskot_bind_in(BINDS)
+{
+    return BOUND(checked, symbol_count - (symbol_count > 0), path_len);
+}
+
+#elif FAULT == 389 /* binding does not see the last byte of a path that a bracket ends */
+uint32_t __wrap_vindaskot_bind_in(BINDS)
+{
+    return BOUND(checked, symbol_count, path_len - (path_len > 0 && path[path_len - 1] == '['));
+}
+
+#elif FAULT == 390 /* a subscript outside its bounds is told with the figures exchanged */
+uint32_t __wrap_vindaskot_bind_in(BINDS)
+{
+    uint32_t status = BOUND(checked, symbol_count, path_len);
+    const uint64_t first = answer[0];
+    if (status != VINDASKOT_REFUSED_NO_SUCH_NUMBER)
+        return status;
+    answer[0] = answer[1], answer[1] = first;
+    return status;
+}
+
+#elif FAULT == 391 /* a refused path has cleared the size */
+uint32_t __wrap_vindaskot_bind_in(BINDS)
+{
+    uint32_t status = BOUND(checked, symbol_count, path_len);
+    if (status != VINDASKOT_DONE)
+        slots[VINDASKOT_ADDRESS_SIZE] = 0;
+    return status;
 }
 
 #elif FAULT == 0

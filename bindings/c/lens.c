@@ -24,37 +24,13 @@ struct index {
     size_t len;
 };
 
-/* By number; a number that has no words here, as 15, is unknown. */
-static const char *in_words(uint32_t refusal)
+/* What was refused, in the library's words. */
+static void print_refusal(const char *what, uint32_t refusal, const uint64_t figures[VINDASKOT_FIGURES])
 {
-    static const char *const words[] = {
-        [1] = "unexpected length",
-        [2] = "too short",
-        [3] = "an entry's length does not match",
-        [4] = "an entry claims less than its header",
-        [5] = "too large",
-        [6] = "lent output too small",
-        [7] = "string or count too long",
-        [8] = "flags and sections disagree",
-        [9] = "not a block of good records",
-        [10] = "an entry of length zero stops the walk",
-        [11] = "text that can't be converted",
-        [12] = "bad hexadecimal line",
-        [13] = "name not found",
-        [14] = "no such attribute",
-        [16] = "an end byte is not 0",
-        [17] = "a symbol that a sheet can't hold",
-        [18] = "a bad row of a sheet",
-        [19] = "not in plain form",
-    };
-    bool known = refusal < sizeof words / sizeof *words && words[refusal] != NULL;
-    return known ? words[refusal] : "unknown status";
-}
-
-static void print_refusal(const char *what, uint32_t refusal, const uint64_t answer[2])
-{
-    fprintf(stderr, "%s: refused, %s (number %u: expected %llu, got %llu)\n", what, in_words(refusal),
-            (unsigned)refusal, (unsigned long long)answer[0], (unsigned long long)answer[1]);
+    uint8_t text[VINDASKOT_REFUSAL_TEXT_MOST];
+    uint64_t answer[VINDASKOT_FIGURES] = {0};
+    vindaskot_refusal_text(refusal, figures[0], figures[1], text, sizeof text, answer);
+    fprintf(stderr, "%s: refusal %u, %.*s\n", what, (unsigned)refusal, (int)answer[0], (const char *)text);
 }
 
 static void *room_for(size_t bytes)
@@ -88,10 +64,10 @@ static bool read_upload(FILE *file, struct upload *upload)
     return !ferror(file);
 }
 
-/* Slots are set aside by the upload's length alone; the index then says how many of them it has used. */
+/* Starts are set aside by the upload's length alone; the index then says how many of them it has. */
 static bool build_index(const struct upload *upload, struct index *index)
 {
-    uint64_t answer[2];
+    uint64_t answer[VINDASKOT_FIGURES];
     uint32_t status = vindaskot_room(upload->len, answer);
     size_t room = status == VINDASKOT_DONE ? (size_t)answer[0] : 0;
     index->starts = room_for(room * sizeof *index->starts);
@@ -107,7 +83,7 @@ static bool build_index(const struct upload *upload, struct index *index)
 /* The controller's text is Windows-1252; each byte of it takes at most 3 bytes of UTF-8. */
 static void print_text(const char *label, const uint8_t *text, size_t len)
 {
-    uint64_t answer[2];
+    uint64_t answer[VINDASKOT_FIGURES];
     char *utf8 = room_for(3 * len);
     uint32_t status = vindaskot_decode(text, len, (uint8_t *)utf8, 3 * len, answer);
     if (status == VINDASKOT_DONE)
@@ -120,7 +96,7 @@ static void print_text(const char *label, const uint8_t *text, size_t len)
 /* Places count from the start of the entry: entry + place. */
 static bool print_attribute(const uint8_t *entry, size_t len, const char *name)
 {
-    uint64_t slots[VINDASKOT_ATTRIBUTE_SLOTS], answer[2];
+    uint64_t slots[VINDASKOT_ATTRIBUTE_SLOTS], answer[VINDASKOT_FIGURES];
     uint32_t status =
         vindaskot_symbol_attribute_named(entry, len, (const uint8_t *)name, strlen(name), slots, answer);
     if (status != VINDASKOT_DONE) {
@@ -128,14 +104,14 @@ static bool print_attribute(const uint8_t *entry, size_t len, const char *name)
         return false;
     }
     printf("%s = ", name);
-    print_text("", entry + slots[VINDASKOT_ATTRIBUTE_VALUE], (size_t)slots[VINDASKOT_ATTRIBUTE_VALUE_LEN]);
+    print_text("", entry + slots[VINDASKOT_ATTRIBUTE_VALUE_AT], (size_t)slots[VINDASKOT_ATTRIBUTE_VALUE_LEN]);
     return true;
 }
 
 static bool print_lens(const struct upload *upload, const struct index *index)
 {
-    uint64_t slots[VINDASKOT_SYMBOL_SLOTS], answer[2];
-    uint8_t guid[16];
+    uint64_t slots[VINDASKOT_SYMBOL_SLOTS], answer[VINDASKOT_FIGURES];
+    uint8_t guid[VINDASKOT_GUID_BYTES];
     uint32_t status = vindaskot_find_indexed(upload->bytes, upload->len, index->starts, index->len,
                                              (const uint8_t *)LENS_TABLE, strlen(LENS_TABLE), answer);
     if (status != VINDASKOT_DONE) {
@@ -151,8 +127,8 @@ static bool print_lens(const struct upload *upload, const struct index *index)
     }
     printf("%s: %u bytes at group 0x%X, offset 0x%X\n", LENS_TABLE, (unsigned)slots[VINDASKOT_SYMBOL_SIZE],
            (unsigned)slots[VINDASKOT_SYMBOL_INDEX_GROUP], (unsigned)slots[VINDASKOT_SYMBOL_INDEX_OFFSET]);
-    print_text("type: ", entry + slots[VINDASKOT_SYMBOL_TYPE_NAME], (size_t)slots[VINDASKOT_SYMBOL_TYPE_NAME_LEN]);
-    print_text("comment: ", entry + slots[VINDASKOT_SYMBOL_COMMENT], (size_t)slots[VINDASKOT_SYMBOL_COMMENT_LEN]);
+    print_text("type: ", entry + slots[VINDASKOT_SYMBOL_TYPE_NAME_AT], (size_t)slots[VINDASKOT_SYMBOL_TYPE_NAME_LEN]);
+    print_text("comment: ", entry + slots[VINDASKOT_SYMBOL_COMMENT_AT], (size_t)slots[VINDASKOT_SYMBOL_COMMENT_LEN]);
     return print_attribute(entry, len, CURVE_END);
 }
 
