@@ -2,16 +2,18 @@
 
 #[cfg(feature = "alloc")]
 use alloc::vec::Vec;
+use core::fmt;
 use core::iter::FusedIterator;
 
 use crate::block::{Block, Filling};
 use crate::mode::Mode;
 use crate::refusal::Refusal;
 use crate::sys;
+use crate::text::Text;
 use crate::told::{done, needed, part};
 
 /// An attribute: a name and a value, both Windows-1252.
-#[derive(Debug, Clone, Copy, PartialEq, Eq, Hash)]
+#[derive(Clone, Copy, PartialEq, Eq, Hash)]
 pub struct AdsAttribute<'a> {
     name: &'a [u8],
     value: &'a [u8],
@@ -33,12 +35,18 @@ impl<'a> AdsAttribute<'a> {
         self.value
     }
 
-    /// Reads the attribute at the start of `data`. Refusals: 5, 2, 1.
+    /// Reads the attribute at the start of `data`.
+    ///
+    /// # Errors
+    ///
+    /// [`TooLarge`](crate::RefusalKind::TooLarge), [`TooShort`](crate::RefusalKind::TooShort),
+    /// [`UnexpectedLength`](crate::RefusalKind::UnexpectedLength).
     pub fn try_from_slice(data: &'a [u8]) -> Result<Self, Refusal> {
         Ok(Self::read(data)?.0)
     }
 
-    /// The same in a mode: the checked one refuses with 16 last, for the name's end byte, then the value's.
+    /// The same in a mode: the checked one refuses with [`EndByte`](crate::RefusalKind::EndByte) last, for the name's
+    /// end byte, then the value's.
     pub fn try_from_slice_in(data: &'a [u8], mode: Mode) -> Result<Self, Refusal> {
         let read = Self::asked(data, |slots, answer| {
             // SAFETY: data's own pointer and length; slots and answer are lent for the call.
@@ -80,19 +88,23 @@ impl<'a> AdsAttribute<'a> {
         let attribute = Self {
             name: part(
                 data,
-                slots[sys::ATTRIBUTE_NAME],
+                slots[sys::ATTRIBUTE_NAME_AT],
                 slots[sys::ATTRIBUTE_NAME_LEN],
             ),
             value: part(
                 data,
-                slots[sys::ATTRIBUTE_VALUE],
+                slots[sys::ATTRIBUTE_VALUE_AT],
                 slots[sys::ATTRIBUTE_VALUE_LEN],
             ),
         };
-        (attribute, slots[sys::ATTRIBUTE_NEXT] as usize)
+        (attribute, slots[sys::ATTRIBUTE_NEXT_AT] as usize)
     }
 
-    /// Writes the record from `out[0]` on and answers its length. Refusals: 7 (name, value), 6.
+    /// Writes the record from `out[0]` on and answers its length.
+    ///
+    /// # Errors
+    ///
+    /// [`TooLong`](crate::RefusalKind::TooLong) (name, value), [`OutputTooSmall`](crate::RefusalKind::OutputTooSmall).
     pub fn write(&self, out: &mut [u8]) -> Result<usize, Refusal> {
         let Self { name, value } = self;
         let mut answer = [0; 2];
@@ -111,12 +123,20 @@ impl<'a> AdsAttribute<'a> {
         Ok(done(status, answer)?[0])
     }
 
-    /// The length of the record written. Refusal: 7.
+    /// The length of the record written.
+    ///
+    /// # Errors
+    ///
+    /// [`TooLong`](crate::RefusalKind::TooLong).
     pub fn wire_size(&self) -> Result<usize, Refusal> {
         needed(|out| self.write(out))
     }
 
-    /// The record written. Refusal: 7.
+    /// The record written.
+    ///
+    /// # Errors
+    ///
+    /// [`TooLong`](crate::RefusalKind::TooLong).
     #[cfg(feature = "alloc")]
     pub fn to_vec(&self) -> Result<Vec<u8>, Refusal> {
         crate::told::filled(|out| self.write(out))
@@ -131,8 +151,17 @@ impl<'a> TryFrom<&'a [u8]> for AdsAttribute<'a> {
     }
 }
 
+/// Name and value as text.
+impl fmt::Debug for AdsAttribute<'_> {
+    fn fmt(&self, f: &mut fmt::Formatter<'_>) -> fmt::Result {
+        let mut told = f.debug_struct("AdsAttribute");
+        told.field("name", &Text(self.name));
+        told.field("value", &Text(self.value)).finish()
+    }
+}
+
 /// The attributes that an entry shows, in order.
-#[derive(Debug, Clone)]
+#[derive(Clone)]
 pub struct AdsAttributes<'a> {
     rest: &'a [u8],
     left: usize,
@@ -142,6 +171,13 @@ impl<'a> AdsAttributes<'a> {
     /// `left` attributes at the start of `rest`, which the entry's reading has counted.
     pub(crate) fn new(rest: &'a [u8], left: usize) -> Self {
         Self { rest, left }
+    }
+}
+
+/// The attributes that are left.
+impl fmt::Debug for AdsAttributes<'_> {
+    fn fmt(&self, f: &mut fmt::Formatter<'_>) -> fmt::Result {
+        f.debug_list().entries(self.clone()).finish()
     }
 }
 
@@ -177,7 +213,10 @@ impl<'o> AttributeWriter<'o> {
     }
 
     /// Adds an attribute. A refused one changes nothing; the figures of 6 are of the room that is left.
-    /// Refusals: 7 (name, value), 6.
+    ///
+    /// # Errors
+    ///
+    /// [`TooLong`](crate::RefusalKind::TooLong) (name, value), [`OutputTooSmall`](crate::RefusalKind::OutputTooSmall).
     pub fn push(&mut self, attribute: &AdsAttribute<'_>) -> Result<(), Refusal> {
         self.0.push(|out| attribute.write(out))
     }

@@ -12,6 +12,7 @@ use crate::flags::AdsTypeFlags;
 use crate::mode::Mode;
 use crate::refusal::Refusal;
 use crate::sys;
+use crate::text::Text;
 use crate::told::{done, part, refused, rest_from};
 use crate::walk::Steps;
 
@@ -63,7 +64,7 @@ const PLACES: usize = DEPTH_MOST - 1;
 ///     Ok(())
 /// }
 /// ```
-#[derive(Debug, Clone, Copy, PartialEq, Eq, Hash)]
+#[derive(Clone, Copy, PartialEq, Eq, Hash)]
 pub struct DataType<'a> {
     entry: &'a [u8],
     numbers: FieldNumbers,
@@ -82,15 +83,24 @@ pub struct DataType<'a> {
 impl<'a> DataType<'a> {
     /// Reads the entry at the start of `data`; what follows it is not looked at.
     ///
-    /// Refusals: 5, 2, 3, 4, 3 for the strings, 3 for the array records; for each sub-item in order 15, 2, 3, 4 and those
-    /// of its own reading, whose figures count from its own start; then those of an attribute. Whatever refuses a sub-item
-    /// refuses the data type.
+    /// # Errors
+    ///
+    /// [`TooLarge`](crate::RefusalKind::TooLarge), [`TooShort`](crate::RefusalKind::TooShort),
+    /// [`EntryLengthMismatch`](crate::RefusalKind::EntryLengthMismatch),
+    /// [`ClaimBelowHeader`](crate::RefusalKind::ClaimBelowHeader),
+    /// [`EntryLengthMismatch`](crate::RefusalKind::EntryLengthMismatch) for the strings,
+    /// [`EntryLengthMismatch`](crate::RefusalKind::EntryLengthMismatch) for the array records; for each sub-item in
+    /// order [`TooDeep`](crate::RefusalKind::TooDeep), [`TooShort`](crate::RefusalKind::TooShort),
+    /// [`EntryLengthMismatch`](crate::RefusalKind::EntryLengthMismatch),
+    /// [`ClaimBelowHeader`](crate::RefusalKind::ClaimBelowHeader) and those of its own reading, whose figures count
+    /// from its own start; then those of an attribute. Whatever refuses a sub-item refuses the data type.
     pub fn try_from_slice(data: &'a [u8]) -> Result<Self, Refusal> {
         Self::try_from_slice_in(data, Mode::Present)
     }
 
-    /// The same in a mode: the checked one refuses with 16 after the lengths of the strings of each entry, for the end
-    /// bytes of the name, the type and the comment, and after those of each attribute.
+    /// The same in a mode: the checked one refuses with [`EndByte`](crate::RefusalKind::EndByte) after the lengths of
+    /// the strings of each entry, for the end bytes of the name, the type and the comment, and after those of each
+    /// attribute.
     pub fn try_from_slice_in(data: &'a [u8], mode: Mode) -> Result<Self, Refusal> {
         let mut slots = [0; sys::TYPE_SLOTS];
         let mut guid = [0; 16];
@@ -126,13 +136,13 @@ impl<'a> DataType<'a> {
         Self {
             entry,
             numbers,
-            name: string(sys::TYPE_NAME, sys::TYPE_NAME_LEN),
-            type_name: string(sys::TYPE_TYPE_NAME, sys::TYPE_TYPE_NAME_LEN),
-            comment: string(sys::TYPE_COMMENT, sys::TYPE_COMMENT_LEN),
+            name: string(sys::TYPE_NAME_AT, sys::TYPE_NAME_LEN),
+            type_name: string(sys::TYPE_TYPE_NAME_AT, sys::TYPE_TYPE_NAME_LEN),
+            comment: string(sys::TYPE_COMMENT_AT, sys::TYPE_COMMENT_LEN),
             guid: (slots[sys::TYPE_HAS_GUID] == 1).then_some(guid),
-            attributes: slots[sys::TYPE_ATTRIBUTES],
+            attributes: slots[sys::TYPE_ATTRIBUTES_AT],
             attribute_count: slots[sys::TYPE_ATTRIBUTE_COUNT] as usize,
-            arrays: slots[sys::TYPE_ARRAYS],
+            arrays: slots[sys::TYPE_ARRAYS_AT],
             array_count: slots[sys::TYPE_ARRAY_COUNT] as usize,
             sub_item_count: slots[sys::TYPE_ITEM_COUNT] as usize,
             member_count: slots[sys::TYPE_MEMBER_COUNT] as usize,
@@ -211,13 +221,21 @@ impl<'a> DataType<'a> {
         AdsAttributes::new(rest_from(self.entry, self.attributes), self.attribute_count)
     }
 
-    /// The attribute of that number, from 0. It reads the entry again, members too. Refusal: 14.
+    /// The attribute of that number, from 0. It reads the entry again, members too.
+    ///
+    /// # Errors
+    ///
+    /// [`NoSuchNumber`](crate::RefusalKind::NoSuchNumber).
     pub fn attribute(&self, number: usize) -> Result<AdsAttribute<'a>, Refusal> {
         self.attribute_in(number, Mode::Present)
     }
 
-    /// The same of the entry's bytes read again in a mode. Refusals: those of
-    /// [`try_from_slice_in`](Self::try_from_slice_in), then 14.
+    /// The same of the entry's bytes read again in a mode.
+    ///
+    /// # Errors
+    ///
+    /// Those of [`try_from_slice_in`](Self::try_from_slice_in), then
+    /// [`NoSuchNumber`](crate::RefusalKind::NoSuchNumber).
     pub fn attribute_in(&self, number: usize, mode: Mode) -> Result<AdsAttribute<'a>, Refusal> {
         let entry = self.entry;
         let read = AdsAttribute::asked(entry, |slots, answer| {
@@ -236,14 +254,28 @@ impl<'a> DataType<'a> {
         Ok(read?.0)
     }
 
-    /// The first attribute of that name. Names are equal if their bytes are. Refusal: 13.
-    pub fn attribute_named(&self, name: &[u8]) -> Result<AdsAttribute<'a>, Refusal> {
+    /// The first attribute of that name. Names are equal if their bytes are.
+    ///
+    /// # Errors
+    ///
+    /// [`NameNotFound`](crate::RefusalKind::NameNotFound).
+    pub fn attribute_named(&self, name: impl AsRef<[u8]>) -> Result<AdsAttribute<'a>, Refusal> {
+        let name = name.as_ref();
         self.attribute_named_in(name, Mode::Present)
     }
 
-    /// The same of the entry's bytes read again in a mode. Refusals: those of
-    /// [`try_from_slice_in`](Self::try_from_slice_in), then 13.
-    pub fn attribute_named_in(&self, name: &[u8], mode: Mode) -> Result<AdsAttribute<'a>, Refusal> {
+    /// The same of the entry's bytes read again in a mode.
+    ///
+    /// # Errors
+    ///
+    /// Those of [`try_from_slice_in`](Self::try_from_slice_in), then
+    /// [`NameNotFound`](crate::RefusalKind::NameNotFound).
+    pub fn attribute_named_in(
+        &self,
+        name: impl AsRef<[u8]>,
+        mode: Mode,
+    ) -> Result<AdsAttribute<'a>, Refusal> {
+        let name = name.as_ref();
         let entry = self.entry;
         let read = AdsAttribute::asked(entry, |slots, answer| {
             // SAFETY: each pointer stands with its slice's own length; slots and answer are lent for the call.
@@ -270,13 +302,21 @@ impl<'a> DataType<'a> {
         }
     }
 
-    /// The array record of that number, from 0. It reads the entry again, members too. Refusal: 14.
+    /// The array record of that number, from 0. It reads the entry again, members too.
+    ///
+    /// # Errors
+    ///
+    /// [`NoSuchNumber`](crate::RefusalKind::NoSuchNumber).
     pub fn array(&self, number: usize) -> Result<ArrayInfo, Refusal> {
         self.array_in(number, Mode::Present)
     }
 
-    /// The same of the entry's bytes read again in a mode. Refusals: those of
-    /// [`try_from_slice_in`](Self::try_from_slice_in), then 14.
+    /// The same of the entry's bytes read again in a mode.
+    ///
+    /// # Errors
+    ///
+    /// Those of [`try_from_slice_in`](Self::try_from_slice_in), then
+    /// [`NoSuchNumber`](crate::RefusalKind::NoSuchNumber).
     pub fn array_in(&self, number: usize, mode: Mode) -> Result<ArrayInfo, Refusal> {
         let mut slots = [0; sys::ARRAY_SLOTS];
         let mut answer = [0; 2];
@@ -310,13 +350,20 @@ impl<'a> DataType<'a> {
 
     /// The member of that number, from 0: parents before their members, and the first sub-item with all of its members
     /// before the second. It reads the entry again; for all members [`members`](Self::members) reads it once.
-    /// Refusal: 14.
+    ///
+    /// # Errors
+    ///
+    /// [`NoSuchNumber`](crate::RefusalKind::NoSuchNumber).
     pub fn member(&self, number: usize) -> Result<Member<'a>, Refusal> {
         self.member_in(number, Mode::Present)
     }
 
-    /// The same of the entry's bytes read again in a mode. Refusals: those of
-    /// [`try_from_slice_in`](Self::try_from_slice_in), then 14.
+    /// The same of the entry's bytes read again in a mode.
+    ///
+    /// # Errors
+    ///
+    /// Those of [`try_from_slice_in`](Self::try_from_slice_in), then
+    /// [`NoSuchNumber`](crate::RefusalKind::NoSuchNumber).
     pub fn member_in(&self, number: usize, mode: Mode) -> Result<Member<'a>, Refusal> {
         let mut slots = [0; sys::TYPE_SLOTS];
         let mut guid = [0; 16];
@@ -339,15 +386,24 @@ impl<'a> DataType<'a> {
         Ok(Member::told(self.entry, &slots, guid, &path))
     }
 
-    /// All members, in the order of their numbers, in one pass over the entry: where each stands, how deep, and its offset
-    /// from the start, in [`MEMBER_SLOTS`] of the lent slots a member. What stands behind them in `slots` is as it was.
-    /// Refusal: 6 (slots), not where there are [`member_count`](Self::member_count) times `MEMBER_SLOTS`.
+    /// All members, in the order of their numbers, in one pass over the entry: where each stands, how deep, and its
+    /// offset from the start, in [`MEMBER_SLOTS`] of the lent slots a member. What stands behind them in `slots` is as
+    /// it was.
+    ///
+    /// # Errors
+    ///
+    /// [`OutputTooSmall`](crate::RefusalKind::OutputTooSmall) (slots), not where there are
+    /// [`member_count`](Self::member_count) times `MEMBER_SLOTS`.
     pub fn members<'s>(&self, slots: &'s mut [u64]) -> Result<Members<'a, 's>, Refusal> {
         self.members_in(slots, Mode::Present)
     }
 
-    /// The same of the entry's bytes read again in a mode. Refusals: those of
-    /// [`try_from_slice_in`](Self::try_from_slice_in), then 6.
+    /// The same of the entry's bytes read again in a mode.
+    ///
+    /// # Errors
+    ///
+    /// Those of [`try_from_slice_in`](Self::try_from_slice_in), then
+    /// [`OutputTooSmall`](crate::RefusalKind::OutputTooSmall).
     pub fn members_in<'s>(
         &self,
         slots: &'s mut [u64],
@@ -379,8 +435,11 @@ impl<'a> DataType<'a> {
         self.members_to_vec_in(Mode::Present)
     }
 
-    /// The same of the entry's bytes read again in a mode. Refusals: those of
-    /// [`try_from_slice_in`](Self::try_from_slice_in).
+    /// The same of the entry's bytes read again in a mode.
+    ///
+    /// # Errors
+    ///
+    /// Those of [`try_from_slice_in`](Self::try_from_slice_in).
     #[cfg(feature = "alloc")]
     pub fn members_to_vec_in(&self, mode: Mode) -> Result<Vec<MemberPlace<'a>>, Refusal> {
         let mut slots = vec![0; MEMBER_SLOTS * self.member_count];
@@ -396,6 +455,22 @@ impl<'a> TryFrom<&'a [u8]> for DataType<'a> {
 
     fn try_from(data: &'a [u8]) -> Result<Self, Refusal> {
         Self::try_from_slice(data)
+    }
+}
+
+/// What it tells, strings as text; of its members how many there are.
+impl fmt::Debug for DataType<'_> {
+    fn fmt(&self, f: &mut fmt::Formatter<'_>) -> fmt::Result {
+        let mut told = f.debug_struct("DataType");
+        told.field("name", &Text(self.name));
+        told.field("type_name", &Text(self.type_name));
+        told.field("comment", &Text(self.comment));
+        told.field("numbers", &self.numbers);
+        told.field("guid", &self.guid);
+        told.field("arrays", &self.arrays());
+        told.field("attributes", &self.attributes());
+        told.field("sub_item_count", &self.sub_item_count);
+        told.field("member_count", &self.member_count).finish()
     }
 }
 
@@ -423,7 +498,7 @@ const ARRAY_RECORD: usize = 8;
 ///
 /// The two numbers of a record are taken from its bytes, which the entry's reading has found and counted: to ask for each
 /// of them by its number would read the entry, with all of its members, as often.
-#[derive(Debug, Clone)]
+#[derive(Clone)]
 pub struct ArrayInfos<'a> {
     records: &'a [u8],
 }
@@ -435,6 +510,13 @@ impl ArrayInfos<'_> {
             lower_bound: i32::from_le_bytes([a, b, c, d]),
             elements: u32::from_le_bytes(elements),
         }
+    }
+}
+
+/// The array records that are left.
+impl fmt::Debug for ArrayInfos<'_> {
+    fn fmt(&self, f: &mut fmt::Formatter<'_>) -> fmt::Result {
+        f.debug_list().entries(self.clone()).finish()
     }
 }
 
@@ -570,7 +652,11 @@ impl<'a> MemberPlace<'a> {
         self.read_in(Mode::Present)
     }
 
-    /// The same in a mode. Refusals: those of [`try_from_slice_in`](DataType::try_from_slice_in).
+    /// The same in a mode.
+    ///
+    /// # Errors
+    ///
+    /// Those of [`try_from_slice_in`](DataType::try_from_slice_in).
     pub fn read_in(&self, mode: Mode) -> Result<DataType<'a>, Refusal> {
         DataType::try_from_slice_in(rest_from(self.root, self.place as u64), mode)
     }
@@ -638,7 +724,8 @@ pub fn parse_next_entry<'a>(
     parse_next_entry_in(data, cursor, Mode::Present)
 }
 
-/// The same in a mode: in the checked one an entry is also refused with 16, and the cursor moves past it.
+/// The same in a mode: in the checked one an entry is also refused with [`EndByte`](crate::RefusalKind::EndByte), and
+/// the cursor moves past it.
 pub fn parse_next_entry_in<'a>(
     data: &'a [u8],
     cursor: &mut usize,

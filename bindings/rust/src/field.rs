@@ -2,6 +2,7 @@
 
 #[cfg(feature = "alloc")]
 use alloc::vec::Vec;
+use core::fmt;
 use core::iter::{self, FusedIterator};
 
 use crate::attributes::{AdsAttribute, AdsAttributes};
@@ -10,13 +11,14 @@ use crate::flags::AdsTypeFlags;
 use crate::mode::Mode;
 use crate::refusal::Refusal;
 use crate::sys;
+use crate::text::Text;
 use crate::told::{done, needed, part, refused, rest_from};
 use crate::walk::Steps;
 
 /// A field of an upload: its numbers, and its strings and attributes as parts of the upload's bytes.
 ///
 /// Strings are Windows-1252; [`text::decode`](crate::text::decode) makes UTF-8 of them.
-#[derive(Debug, Clone, Copy, PartialEq, Eq, Hash)]
+#[derive(Clone, Copy, PartialEq, Eq, Hash)]
 pub struct AdsFieldInfo<'a> {
     entry: &'a [u8],
     numbers: FieldNumbers,
@@ -29,8 +31,14 @@ pub struct AdsFieldInfo<'a> {
 }
 
 impl<'a> AdsFieldInfo<'a> {
-    /// Reads the entry at the start of `data`; what follows it is not looked at. A refused attribute refuses the
-    /// field. Refusals: 5, 2, 3, 4, 3, then those of an attribute.
+    /// Reads the entry at the start of `data`; what follows it is not looked at. A refused attribute refuses the field.
+    ///
+    /// # Errors
+    ///
+    /// [`TooLarge`](crate::RefusalKind::TooLarge), [`TooShort`](crate::RefusalKind::TooShort),
+    /// [`EntryLengthMismatch`](crate::RefusalKind::EntryLengthMismatch),
+    /// [`ClaimBelowHeader`](crate::RefusalKind::ClaimBelowHeader),
+    /// [`EntryLengthMismatch`](crate::RefusalKind::EntryLengthMismatch), then those of an attribute.
     pub fn try_from_slice(data: &'a [u8]) -> Result<Self, Refusal> {
         Self::asked(data, |slots, guid, answer| {
             // SAFETY: data's own pointer and length; slots, guid and answer are lent for the call.
@@ -38,8 +46,9 @@ impl<'a> AdsFieldInfo<'a> {
         })
     }
 
-    /// The same in a mode: the checked one refuses with 16 after the lengths of the strings, for the end bytes of the
-    /// name, the type and the comment, and then each attribute in order with 2, 1 and 16.
+    /// The same in a mode: the checked one refuses with [`EndByte`](crate::RefusalKind::EndByte) after the lengths of
+    /// the strings, for the end bytes of the name, the type and the comment, and then each attribute in order with 2, 1
+    /// and 16.
     pub fn try_from_slice_in(data: &'a [u8], mode: Mode) -> Result<Self, Refusal> {
         Self::asked(data, |slots, guid, answer| {
             // SAFETY: data's own pointer and length; slots, guid and answer are lent for the call.
@@ -59,7 +68,11 @@ impl<'a> AdsFieldInfo<'a> {
     /// What a call tells that reads the entry at the start of `data`.
     fn asked(
         data: &'a [u8],
-        call: impl FnOnce(&mut [u64; sys::FIELD_SLOTS], &mut [u8; 16], &mut [u64; 2]) -> u32,
+        call: impl FnOnce(
+            &mut [u64; sys::FIELD_SLOTS],
+            &mut [u8; sys::GUID_BYTES],
+            &mut [u64; sys::FIGURES],
+        ) -> u32,
     ) -> Result<Self, Refusal> {
         let mut slots = [0; sys::FIELD_SLOTS];
         let mut guid = [0; 16];
@@ -85,11 +98,11 @@ impl<'a> AdsFieldInfo<'a> {
         Self {
             entry,
             numbers,
-            name: string(sys::FIELD_NAME, sys::FIELD_NAME_LEN),
-            type_name: string(sys::FIELD_TYPE_NAME, sys::FIELD_TYPE_NAME_LEN),
-            comment: string(sys::FIELD_COMMENT, sys::FIELD_COMMENT_LEN),
+            name: string(sys::FIELD_NAME_AT, sys::FIELD_NAME_LEN),
+            type_name: string(sys::FIELD_TYPE_NAME_AT, sys::FIELD_TYPE_NAME_LEN),
+            comment: string(sys::FIELD_COMMENT_AT, sys::FIELD_COMMENT_LEN),
             guid: (slots[sys::FIELD_HAS_GUID] == 1).then_some(guid),
-            attributes: slots[sys::FIELD_ATTRIBUTES],
+            attributes: slots[sys::FIELD_ATTRIBUTES_AT],
             attribute_count: slots[sys::FIELD_ATTRIBUTE_COUNT] as usize,
         }
     }
@@ -160,7 +173,11 @@ impl<'a> AdsFieldInfo<'a> {
         AdsAttributes::new(rest_from(self.entry, self.attributes), self.attribute_count)
     }
 
-    /// The attribute of that number, from 0. Refusal: 14.
+    /// The attribute of that number, from 0.
+    ///
+    /// # Errors
+    ///
+    /// [`NoSuchNumber`](crate::RefusalKind::NoSuchNumber).
     pub fn attribute(&self, number: usize) -> Result<AdsAttribute<'a>, Refusal> {
         Ok(self.numbered_attribute(number)?.0)
     }
@@ -175,8 +192,12 @@ impl<'a> AdsFieldInfo<'a> {
         })
     }
 
-    /// The same of the entry's bytes read again in a mode. Refusals: those of
-    /// [`try_from_slice_in`](Self::try_from_slice_in), then 14.
+    /// The same of the entry's bytes read again in a mode.
+    ///
+    /// # Errors
+    ///
+    /// Those of [`try_from_slice_in`](Self::try_from_slice_in), then
+    /// [`NoSuchNumber`](crate::RefusalKind::NoSuchNumber).
     pub fn attribute_in(&self, number: usize, mode: Mode) -> Result<AdsAttribute<'a>, Refusal> {
         let entry = self.entry;
         let read = AdsAttribute::asked(entry, |slots, answer| {
@@ -195,8 +216,13 @@ impl<'a> AdsFieldInfo<'a> {
         Ok(read?.0)
     }
 
-    /// The first attribute of that name. Names are equal if their bytes are. Refusal: 13.
-    pub fn attribute_named(&self, name: &[u8]) -> Result<AdsAttribute<'a>, Refusal> {
+    /// The first attribute of that name. Names are equal if their bytes are.
+    ///
+    /// # Errors
+    ///
+    /// [`NameNotFound`](crate::RefusalKind::NameNotFound).
+    pub fn attribute_named(&self, name: impl AsRef<[u8]>) -> Result<AdsAttribute<'a>, Refusal> {
+        let name = name.as_ref();
         let entry = self.entry;
         let read = AdsAttribute::asked(entry, |slots, answer| {
             // SAFETY: each pointer stands with its slice's own length; slots and answer are lent for the call.
@@ -214,9 +240,18 @@ impl<'a> AdsFieldInfo<'a> {
         Ok(read?.0)
     }
 
-    /// The same of the entry's bytes read again in a mode. Refusals: those of
-    /// [`try_from_slice_in`](Self::try_from_slice_in), then 13.
-    pub fn attribute_named_in(&self, name: &[u8], mode: Mode) -> Result<AdsAttribute<'a>, Refusal> {
+    /// The same of the entry's bytes read again in a mode.
+    ///
+    /// # Errors
+    ///
+    /// Those of [`try_from_slice_in`](Self::try_from_slice_in), then
+    /// [`NameNotFound`](crate::RefusalKind::NameNotFound).
+    pub fn attribute_named_in(
+        &self,
+        name: impl AsRef<[u8]>,
+        mode: Mode,
+    ) -> Result<AdsAttribute<'a>, Refusal> {
+        let name = name.as_ref();
         let entry = self.entry;
         let read = AdsAttribute::asked(entry, |slots, answer| {
             // SAFETY: each pointer stands with its slice's own length; slots and answer are lent for the call.
@@ -273,6 +308,19 @@ impl<'a> TryFrom<&'a [u8]> for AdsFieldInfo<'a> {
     }
 }
 
+/// What it tells, strings as text.
+impl fmt::Debug for AdsFieldInfo<'_> {
+    fn fmt(&self, f: &mut fmt::Formatter<'_>) -> fmt::Result {
+        let mut told = f.debug_struct("AdsFieldInfo");
+        told.field("name", &Text(self.name));
+        told.field("type_name", &Text(self.type_name));
+        told.field("comment", &Text(self.comment));
+        told.field("numbers", &self.numbers);
+        told.field("guid", &self.guid);
+        told.field("attributes", &self.attributes()).finish()
+    }
+}
+
 /// One step of the walk over an upload of fields: `None` at the end, else the entry at the cursor or its refusal.
 ///
 /// The cursor moves as in [`symbol::parse_next_entry`](crate::symbol::parse_next_entry): a claim of 0 gives 2 (42, 0)
@@ -287,7 +335,8 @@ pub fn parse_next_entry<'a>(
     })
 }
 
-/// The same in a mode: in the checked one an entry is also refused with 16, and the cursor moves past it.
+/// The same in a mode: in the checked one an entry is also refused with [`EndByte`](crate::RefusalKind::EndByte), and
+/// the cursor moves past it.
 pub fn parse_next_entry_in<'a>(
     data: &'a [u8],
     cursor: &mut usize,
@@ -313,7 +362,12 @@ pub fn parse_next_entry_in<'a>(
 fn stepped<'a>(
     data: &'a [u8],
     cursor: &mut usize,
-    call: impl FnOnce(&mut usize, &mut [u64; sys::FIELD_SLOTS], &mut [u8; 16], &mut [u64; 2]) -> u32,
+    call: impl FnOnce(
+        &mut usize,
+        &mut [u64; sys::FIELD_SLOTS],
+        &mut [u8; sys::GUID_BYTES],
+        &mut [u64; sys::FIGURES],
+    ) -> u32,
 ) -> Option<Result<AdsFieldInfo<'a>, Refusal>> {
     let start = *cursor;
     let mut slots = [0; sys::FIELD_SLOTS];
@@ -411,7 +465,12 @@ pub struct FieldParts<'a> {
 }
 
 impl FieldNumbers {
-    /// Writes the entry from `out[0]` on and answers its length. Refusals: 7, 9, 5, 6.
+    /// Writes the entry from `out[0]` on and answers its length.
+    ///
+    /// # Errors
+    ///
+    /// [`TooLong`](crate::RefusalKind::TooLong), [`BadBlock`](crate::RefusalKind::BadBlock),
+    /// [`TooLarge`](crate::RefusalKind::TooLarge), [`OutputTooSmall`](crate::RefusalKind::OutputTooSmall).
     pub fn write(&self, parts: &FieldParts<'_>, out: &mut [u8]) -> Result<usize, Refusal> {
         let guid = parts.guid.as_slice().as_flattened();
         let mut answer = [0; 2];
@@ -444,12 +503,22 @@ impl FieldNumbers {
         Ok(done(status, answer)?[0])
     }
 
-    /// The length of the entry written. Refusals: 7, 9, 5.
+    /// The length of the entry written.
+    ///
+    /// # Errors
+    ///
+    /// [`TooLong`](crate::RefusalKind::TooLong), [`BadBlock`](crate::RefusalKind::BadBlock),
+    /// [`TooLarge`](crate::RefusalKind::TooLarge).
     pub fn wire_size(&self, parts: &FieldParts<'_>) -> Result<usize, Refusal> {
         needed(|out| self.write(parts, out))
     }
 
-    /// The entry written. Refusals: 7, 9, 5.
+    /// The entry written.
+    ///
+    /// # Errors
+    ///
+    /// [`TooLong`](crate::RefusalKind::TooLong), [`BadBlock`](crate::RefusalKind::BadBlock),
+    /// [`TooLarge`](crate::RefusalKind::TooLarge).
     #[cfg(feature = "alloc")]
     pub fn to_vec(&self, parts: &FieldParts<'_>) -> Result<Vec<u8>, Refusal> {
         crate::told::filled(|out| self.write(parts, out))

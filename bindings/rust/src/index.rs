@@ -2,6 +2,8 @@
 
 #[cfg(feature = "alloc")]
 use alloc::{vec, vec::Vec};
+use core::iter::FusedIterator;
+use core::slice;
 
 use crate::mode::Mode;
 use crate::refusal::Refusal;
@@ -15,8 +17,14 @@ pub struct Index<'s> {
 }
 
 impl<'s> Index<'s> {
-    /// Stores the start of every accepted symbol of `data` in `slots`. Refusals: 5, 10, 6; not 6 where there are as many
-    /// slots as [`room`] tells for the length of `data`.
+    /// Stores the start of every accepted symbol of `data` in `slots`.
+    ///
+    /// # Errors
+    ///
+    /// [`TooLarge`](crate::RefusalKind::TooLarge), [`ZeroEntryLength`](crate::RefusalKind::ZeroEntryLength),
+    /// [`OutputTooSmall`](crate::RefusalKind::OutputTooSmall); not
+    /// [`OutputTooSmall`](crate::RefusalKind::OutputTooSmall) where there are as many slots as [`room`] tells for the
+    /// length of `data`.
     pub fn build(data: &[u8], slots: &'s mut [u32]) -> Result<Self, Refusal> {
         let used = fill(data, slots)?;
         let starts = &slots[..used];
@@ -41,9 +49,29 @@ impl<'s> Index<'s> {
         self.starts
     }
 
+    /// How many symbols it has.
+    pub const fn len(&self) -> usize {
+        self.starts.len()
+    }
+
+    /// Whether it has none.
+    pub const fn is_empty(&self) -> bool {
+        self.starts.is_empty()
+    }
+
+    /// Where each symbol starts, in order.
+    pub fn iter(&self) -> Starts<'s> {
+        Starts(self.starts.iter())
+    }
+
     /// Where the first symbol of that name starts in `data`, by the starts in order. Names are compared as [`find`]
-    /// compares them. Refusals: 5, 13.
-    pub fn find(&self, data: &[u8], name: &[u8]) -> Result<usize, Refusal> {
+    /// compares them.
+    ///
+    /// # Errors
+    ///
+    /// [`TooLarge`](crate::RefusalKind::TooLarge), [`NameNotFound`](crate::RefusalKind::NameNotFound).
+    pub fn find(&self, data: &[u8], name: impl AsRef<[u8]>) -> Result<usize, Refusal> {
+        let name = name.as_ref();
         let starts = self.starts;
         let mut answer = [0; 2];
         // SAFETY: each pointer stands with its slice's own length; answer is lent for the call.
@@ -63,7 +91,13 @@ impl<'s> Index<'s> {
 
     /// The same in a mode: in the checked one a symbol that is refused for an end byte is passed over, also where the
     /// starts were stored in the present one.
-    pub fn find_in(&self, data: &[u8], name: &[u8], mode: Mode) -> Result<usize, Refusal> {
+    pub fn find_in(
+        &self,
+        data: &[u8],
+        name: impl AsRef<[u8]>,
+        mode: Mode,
+    ) -> Result<usize, Refusal> {
+        let name = name.as_ref();
         let starts = self.starts;
         let mut answer = [0; 2];
         // SAFETY: each pointer stands with its slice's own length; answer is lent for the call.
@@ -82,6 +116,50 @@ impl<'s> Index<'s> {
         Ok(done(status, answer)?[0])
     }
 }
+
+impl<'s> IntoIterator for Index<'s> {
+    type Item = usize;
+    type IntoIter = Starts<'s>;
+
+    fn into_iter(self) -> Starts<'s> {
+        self.iter()
+    }
+}
+
+impl<'s> IntoIterator for &Index<'s> {
+    type Item = usize;
+    type IntoIter = Starts<'s>;
+
+    fn into_iter(self) -> Starts<'s> {
+        self.iter()
+    }
+}
+
+/// Where each entry of an index starts, in its order.
+#[derive(Debug, Clone)]
+pub struct Starts<'s>(pub(crate) slice::Iter<'s, u32>);
+
+impl Iterator for Starts<'_> {
+    type Item = usize;
+
+    fn next(&mut self) -> Option<usize> {
+        Some(*self.0.next()? as usize)
+    }
+
+    fn size_hint(&self) -> (usize, Option<usize>) {
+        self.0.size_hint()
+    }
+}
+
+impl DoubleEndedIterator for Starts<'_> {
+    fn next_back(&mut self) -> Option<usize> {
+        Some(*self.0.next_back()? as usize)
+    }
+}
+
+impl ExactSizeIterator for Starts<'_> {}
+
+impl FusedIterator for Starts<'_> {}
 
 fn fill(data: &[u8], slots: &mut [u32]) -> Result<usize, Refusal> {
     let mut answer = [0; 2];
@@ -120,7 +198,7 @@ pub const ROOM_MOST: usize = sys::ROOM_MOST;
 /// How many slots the index of an upload of that length can need, so that they can be set aside before it is read: one
 /// for every 33 bytes, rounded down. Lent that many or more, [`Index::build`] and [`Index::build_in`] are never refused
 /// with 6, in either mode and whatever the bytes are; 5 and 10 stay. No smaller number will do: some upload of that
-/// length needs all of them. Refusal: 5.
+/// length needs all of them.
 ///
 /// How many an upload that is there needs, [`slots_needed`] tells, which walks it.
 ///
@@ -141,6 +219,10 @@ pub const ROOM_MOST: usize = sys::ROOM_MOST;
 ///     Ok(())
 /// }
 /// ```
+///
+/// # Errors
+///
+/// [`TooLarge`](crate::RefusalKind::TooLarge).
 pub fn room(length: usize) -> Result<usize, Refusal> {
     let mut answer = [0; 2];
     // SAFETY: the call takes a number; answer is lent for it.
@@ -148,7 +230,11 @@ pub fn room(length: usize) -> Result<usize, Refusal> {
     Ok(done(status, answer)?[0])
 }
 
-/// How many slots the index of an upload needs. Refusals: 5, 10.
+/// How many slots the index of an upload needs.
+///
+/// # Errors
+///
+/// [`TooLarge`](crate::RefusalKind::TooLarge), [`ZeroEntryLength`](crate::RefusalKind::ZeroEntryLength).
 pub fn slots_needed(data: &[u8]) -> Result<usize, Refusal> {
     needed(|slots| fill(data, slots))
 }
@@ -158,7 +244,11 @@ pub fn slots_needed_in(data: &[u8], mode: Mode) -> Result<usize, Refusal> {
     needed(|slots| fill_in(data, slots, mode))
 }
 
-/// The starts of an upload's accepted symbols, for [`Index::over`]. Refusals: 5, 10.
+/// The starts of an upload's accepted symbols, for [`Index::over`].
+///
+/// # Errors
+///
+/// [`TooLarge`](crate::RefusalKind::TooLarge), [`ZeroEntryLength`](crate::RefusalKind::ZeroEntryLength).
 #[cfg(feature = "alloc")]
 pub fn starts_to_vec(data: &[u8]) -> Result<Vec<u32>, Refusal> {
     starts_of(data.len(), |slots| fill(data, slots))
@@ -186,12 +276,17 @@ fn starts_of(
 }
 
 /// Where the first accepted symbol of that name starts, without an index. A match before a zero claim is answered.
-/// Refusals: 5, 10, 13.
 ///
 /// A to Z equal a to z; every other byte, accented letters too, equals only itself. Of symbols whose names differ in
 /// case alone the first is answered, also where a later one has the very bytes asked. The symbol's own name, as it was
 /// sent, is [`name`](crate::AdsSymbolInfo::name) of what is read there.
-pub fn find(data: &[u8], name: &[u8]) -> Result<usize, Refusal> {
+///
+/// # Errors
+///
+/// [`TooLarge`](crate::RefusalKind::TooLarge), [`ZeroEntryLength`](crate::RefusalKind::ZeroEntryLength),
+/// [`NameNotFound`](crate::RefusalKind::NameNotFound).
+pub fn find(data: &[u8], name: impl AsRef<[u8]>) -> Result<usize, Refusal> {
+    let name = name.as_ref();
     let mut answer = [0; 2];
     // SAFETY: each pointer stands with its slice's own length; answer is lent for the call.
     let status = unsafe {
@@ -207,7 +302,8 @@ pub fn find(data: &[u8], name: &[u8]) -> Result<usize, Refusal> {
 }
 
 /// The same in a mode: in the checked one a symbol that is refused for an end byte is passed over.
-pub fn find_in(data: &[u8], name: &[u8], mode: Mode) -> Result<usize, Refusal> {
+pub fn find_in(data: &[u8], name: impl AsRef<[u8]>, mode: Mode) -> Result<usize, Refusal> {
+    let name = name.as_ref();
     let mut answer = [0; 2];
     // SAFETY: each pointer stands with its slice's own length; answer is lent for the call.
     let status = unsafe {

@@ -8,10 +8,6 @@ use crate::told::done;
 /// that [`SymbolNumbers::write`](crate::SymbolNumbers::write) gives for its
 /// [`numbers`](crate::AdsSymbolInfo::numbers) and [`parts`](crate::AdsSymbolInfo::parts). Nothing is written for it.
 ///
-/// Refusals, at the first entry that is not so: 5, 2, 3 or 10 where it is not read; else 19, whose first figure is the
-/// place in `data` of the first byte that is not what would be written, or the entry's start where the writer refuses
-/// what was read.
-///
 /// ```
 /// use vindaskot::{Refusal, RefusalKind, SymbolNumbers, SymbolParts, check_plain};
 ///
@@ -27,6 +23,14 @@ use crate::told::done;
 ///     Ok(())
 /// }
 /// ```
+///
+/// # Errors
+///
+/// At the first entry that is not so: [`TooLarge`](crate::RefusalKind::TooLarge),
+/// [`TooShort`](crate::RefusalKind::TooShort), [`EntryLengthMismatch`](crate::RefusalKind::EntryLengthMismatch) or
+/// [`ZeroEntryLength`](crate::RefusalKind::ZeroEntryLength) where it is not read; else
+/// [`NotPlain`](crate::RefusalKind::NotPlain), whose first figure is the place in `data` of the first byte that is not
+/// what would be written, or the entry's start where the writer refuses what was read.
 pub fn check_plain(data: &[u8]) -> Result<(), Refusal> {
     let mut answer = [0; 2];
     // SAFETY: data's own pointer and length; answer is lent for the call.

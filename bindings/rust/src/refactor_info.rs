@@ -2,16 +2,18 @@
 
 #[cfg(feature = "alloc")]
 use alloc::vec::Vec;
+use core::fmt;
 use core::iter::FusedIterator;
 
 use crate::block::{Block, Filling};
 use crate::mode::Mode;
 use crate::refusal::Refusal;
 use crate::sys;
+use crate::text::Text;
 use crate::told::{done, needed, part};
 
 /// A refactor record: a count, whether another record follows, and a former name in Windows-1252.
-#[derive(Debug, Clone, Copy, PartialEq, Eq, Hash)]
+#[derive(Clone, Copy, PartialEq, Eq, Hash)]
 pub struct AdsRefactorInfo<'a> {
     refactor_count: u32,
     next_refactor_info: bool,
@@ -52,7 +54,11 @@ impl<'a> AdsRefactorInfo<'a> {
         }
     }
 
-    /// Reads the record at the start of `data`; with it, how many bytes it takes. Refusals: 5, 2.
+    /// Reads the record at the start of `data`; with it, how many bytes it takes.
+    ///
+    /// # Errors
+    ///
+    /// [`TooLarge`](crate::RefusalKind::TooLarge), [`TooShort`](crate::RefusalKind::TooShort).
     pub fn try_from_slice(data: &'a [u8]) -> Result<(Self, usize), Refusal> {
         Self::asked(data, |slots, answer| {
             // SAFETY: data's own pointer and length; slots and answer are lent for the call.
@@ -60,7 +66,7 @@ impl<'a> AdsRefactorInfo<'a> {
         })
     }
 
-    /// The same in a mode: the checked one refuses with 16 last.
+    /// The same in a mode: the checked one refuses with [`EndByte`](crate::RefusalKind::EndByte) last.
     pub fn try_from_slice_in(data: &'a [u8], mode: Mode) -> Result<(Self, usize), Refusal> {
         Self::asked(data, |slots, answer| {
             // SAFETY: data's own pointer and length; slots and answer are lent for the call.
@@ -95,14 +101,18 @@ impl<'a> AdsRefactorInfo<'a> {
             next_refactor_info: slots[sys::REFACTOR_HAS_NEXT] == 1,
             name: part(
                 data,
-                slots[sys::REFACTOR_NAME],
+                slots[sys::REFACTOR_NAME_AT],
                 slots[sys::REFACTOR_NAME_LEN],
             ),
         };
-        (info, slots[sys::REFACTOR_NEXT] as usize)
+        (info, slots[sys::REFACTOR_NEXT_AT] as usize)
     }
 
-    /// Reads the chain at the start of `data`: its records, and how many bytes they take. Refusals: 5, 2.
+    /// Reads the chain at the start of `data`: its records, and how many bytes they take.
+    ///
+    /// # Errors
+    ///
+    /// [`TooLarge`](crate::RefusalKind::TooLarge), [`TooShort`](crate::RefusalKind::TooShort).
     pub fn parse_chain(data: &'a [u8]) -> Result<(AdsRefactorInfos<'a>, usize), Refusal> {
         let mut answer = [0; 2];
         // SAFETY: data's own pointer and length; answer is lent for the call.
@@ -126,8 +136,11 @@ impl<'a> AdsRefactorInfo<'a> {
         Ok((AdsRefactorInfos::new(data, count), next))
     }
 
-    /// The record of that number, from 0, of the chain at the start of `data`. Refusals: those of
-    /// [`parse_chain`](Self::parse_chain), then 14.
+    /// The record of that number, from 0, of the chain at the start of `data`.
+    ///
+    /// # Errors
+    ///
+    /// Those of [`parse_chain`](Self::parse_chain), then [`NoSuchNumber`](crate::RefusalKind::NoSuchNumber).
     pub fn chain_record(data: &'a [u8], number: usize) -> Result<Self, Refusal> {
         let read = Self::asked(data, |slots, answer| {
             // SAFETY: data's own pointer and length; slots and answer are lent for the call.
@@ -136,7 +149,11 @@ impl<'a> AdsRefactorInfo<'a> {
         Ok(read?.0)
     }
 
-    /// The same in a mode. Refusals: those of [`parse_chain_in`](Self::parse_chain_in), then 14.
+    /// The same in a mode.
+    ///
+    /// # Errors
+    ///
+    /// Those of [`parse_chain_in`](Self::parse_chain_in), then [`NoSuchNumber`](crate::RefusalKind::NoSuchNumber).
     pub fn chain_record_in(data: &'a [u8], number: usize, mode: Mode) -> Result<Self, Refusal> {
         let read = Self::asked(data, |slots, answer| {
             // SAFETY: data's own pointer and length; slots and answer are lent for the call.
@@ -154,10 +171,14 @@ impl<'a> AdsRefactorInfo<'a> {
         Ok(read?.0)
     }
 
-    /// Writes the record from `out[0]` on and answers its length. Refusals: 7, 6.
+    /// Writes the record from `out[0]` on and answers its length.
     ///
     /// `has_next` says whether another follows. The follower bit is also written where the count has it, so a record
     /// that was read before another is not one to put last.
+    ///
+    /// # Errors
+    ///
+    /// [`TooLong`](crate::RefusalKind::TooLong), [`OutputTooSmall`](crate::RefusalKind::OutputTooSmall).
     pub fn write_with_next(&self, has_next: bool, out: &mut [u8]) -> Result<usize, Refusal> {
         let mut answer = [0; 2];
         // SAFETY: each pointer stands with its slice's own length; out is borrowed alone, so it overlaps none.
@@ -175,12 +196,21 @@ impl<'a> AdsRefactorInfo<'a> {
         Ok(done(status, answer)?[0])
     }
 
-    /// The length of the record written. Refusal: 7.
+    /// The length of the record written.
+    ///
+    /// # Errors
+    ///
+    /// [`TooLong`](crate::RefusalKind::TooLong).
     pub fn wire_size(&self) -> Result<usize, Refusal> {
         needed(|out| self.write_with_next(false, out))
     }
 
-    /// Writes a block of records with its count in front, as 2 bytes, and answers the length. Refusals: 7, 9, 5, 6.
+    /// Writes a block of records with its count in front, as 2 bytes, and answers the length.
+    ///
+    /// # Errors
+    ///
+    /// [`TooLong`](crate::RefusalKind::TooLong), [`BadBlock`](crate::RefusalKind::BadBlock),
+    /// [`TooLarge`](crate::RefusalKind::TooLarge), [`OutputTooSmall`](crate::RefusalKind::OutputTooSmall).
     pub fn write_entries(entries: Block<'_>, out: &mut [u8]) -> Result<usize, Refusal> {
         let Block { count, bytes } = entries;
         let mut answer = [0; 2];
@@ -198,14 +228,22 @@ impl<'a> AdsRefactorInfo<'a> {
         Ok(done(status, answer)?[0])
     }
 
-    /// The record written. Refusal: 7.
+    /// The record written.
+    ///
+    /// # Errors
+    ///
+    /// [`TooLong`](crate::RefusalKind::TooLong).
     #[cfg(feature = "alloc")]
     pub fn to_vec_with_next(&self, has_next: bool) -> Result<Vec<u8>, Refusal> {
         crate::told::filled(|out| self.write_with_next(has_next, out))
     }
 
     /// The records written as a chain, a follower after each but the last, with their count in front.
-    /// Refusals: 7, 9, 5.
+    ///
+    /// # Errors
+    ///
+    /// [`TooLong`](crate::RefusalKind::TooLong), [`BadBlock`](crate::RefusalKind::BadBlock),
+    /// [`TooLarge`](crate::RefusalKind::TooLarge).
     #[cfg(feature = "alloc")]
     pub fn entries_to_vec(entries: &[Self]) -> Result<Vec<u8>, Refusal> {
         let mut chain = Vec::new();
@@ -228,8 +266,18 @@ impl<'a> TryFrom<&'a [u8]> for AdsRefactorInfo<'a> {
     }
 }
 
+/// The name as text.
+impl fmt::Debug for AdsRefactorInfo<'_> {
+    fn fmt(&self, f: &mut fmt::Formatter<'_>) -> fmt::Result {
+        let mut told = f.debug_struct("AdsRefactorInfo");
+        told.field("refactor_count", &self.refactor_count);
+        told.field("next_refactor_info", &self.next_refactor_info);
+        told.field("name", &self.name().map(Text)).finish()
+    }
+}
+
 /// The refactor records of a chain, in order.
-#[derive(Debug, Clone)]
+#[derive(Clone)]
 pub struct AdsRefactorInfos<'a> {
     rest: &'a [u8],
     left: usize,
@@ -239,6 +287,13 @@ impl<'a> AdsRefactorInfos<'a> {
     /// `left` records at the start of `rest`, which a reading has counted.
     pub(crate) fn new(rest: &'a [u8], left: usize) -> Self {
         Self { rest, left }
+    }
+}
+
+/// The records that are left.
+impl fmt::Debug for AdsRefactorInfos<'_> {
+    fn fmt(&self, f: &mut fmt::Formatter<'_>) -> fmt::Result {
+        f.debug_list().entries(self.clone()).finish()
     }
 }
 
@@ -274,7 +329,11 @@ impl<'o> RefactorWriter<'o> {
     }
 
     /// Adds a record; `has_next` is true for all but the last. A refused one changes nothing; the figures of 6 are of
-    /// the room that is left. Refusals: 7, 6.
+    /// the room that is left.
+    ///
+    /// # Errors
+    ///
+    /// [`TooLong`](crate::RefusalKind::TooLong), [`OutputTooSmall`](crate::RefusalKind::OutputTooSmall).
     pub fn push(&mut self, info: &AdsRefactorInfo<'_>, has_next: bool) -> Result<(), Refusal> {
         self.0.push(|out| info.write_with_next(has_next, out))
     }

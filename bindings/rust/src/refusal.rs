@@ -4,6 +4,7 @@ use core::error::Error;
 use core::fmt;
 
 use crate::sys;
+use crate::told::done;
 
 /// The largest input, and the largest entry that is written, in bytes.
 pub const LIMIT: usize = sys::LIMIT;
@@ -11,7 +12,7 @@ pub const LIMIT: usize = sys::LIMIT;
 /// Why a call was refused: a number and its two figures.
 ///
 /// A refusal changes no lent buffer.
-#[derive(Debug, Clone, Copy, PartialEq, Eq, PartialOrd, Ord, Hash)]
+#[derive(Clone, Copy, PartialEq, Eq, PartialOrd, Ord, Hash)]
 pub struct Refusal {
     /// The refusal's number, as [`RefusalKind`] has them. [`kind`](Self::kind) names it.
     pub number: u32,
@@ -24,51 +25,67 @@ pub struct Refusal {
 /// What a refusal's number means, and what its figures, expected and got, are.
 #[derive(Debug, Clone, Copy, PartialEq, Eq, PartialOrd, Ord, Hash)]
 #[non_exhaustive]
+#[repr(u32)]
 pub enum RefusalKind {
     /// Another length than the one wanted: needed, present.
-    UnexpectedLength = 1,
+    UnexpectedLength = sys::REFUSED_UNEXPECTED_LENGTH,
     /// Too few bytes: needed, present.
-    TooShort = 2,
+    TooShort = sys::REFUSED_TOO_SHORT,
     /// An entry's length does not match: claimed or needed, available.
-    EntryLengthMismatch = 3,
+    EntryLengthMismatch = sys::REFUSED_ENTRY_LENGTH_MISMATCH,
     /// A direct read, or that of a data type, met a header whose claim is below it: 30 or 42, claim.
-    ClaimBelowHeader = 4,
+    ClaimBelowHeader = sys::REFUSED_CLAIM_BELOW_HEADER,
     /// An input or a written entry above [`LIMIT`]: the limit, its length.
-    TooLarge = 5,
+    TooLarge = sys::REFUSED_TOO_LARGE,
     /// The lent output is too small: bytes or slots needed, lent.
-    OutputTooSmall = 6,
+    OutputTooSmall = sys::REFUSED_OUTPUT_TOO_SMALL,
     /// A string or a count is too long for its field: 255 or 65,535, actual.
-    TooLong = 7,
+    TooLong = sys::REFUSED_TOO_LONG,
     /// A symbol's flags and sections disagree: section (1 GUID, 2 attributes, 3 extended flags, 4 chain), 0.
-    SectionsDisagree = 8,
+    SectionsDisagree = sys::REFUSED_SECTIONS_DISAGREE,
     /// A block isn't exactly its count of good records: count, good records at its start.
-    BadBlock = 9,
+    BadBlock = sys::REFUSED_BAD_BLOCK,
     /// A zero entry length stops the walk: 1, 0.
-    ZeroEntryLength = 10,
+    ZeroEntryLength = sys::REFUSED_ZERO_ENTRY_LENGTH,
     /// Text that can't be converted: byte place, 1 not UTF-8 or 2 no Windows-1252 byte.
-    BadText = 11,
+    BadText = sys::REFUSED_BAD_TEXT,
     /// A bad hexadecimal line, which only the listing program refuses: 0, 0.
-    BadHexadecimal = 12,
-    /// No accepted symbol, or no attribute of the entry, has that name: 0, 0.
-    NameNotFound = 13,
-    /// No attribute, refactor record, array record or member has that number: how many there are, number asked.
-    NoSuchNumber = 14,
+    BadHexadecimal = sys::REFUSED_BAD_HEXADECIMAL,
+    /// No accepted symbol, or no attribute of the entry, has that name: 0, 0. Of a path, no member has the name of the part
+    /// at that place, or no data type that of its type: the place, 1 for a member, 2 for a type.
+    NameNotFound = sys::REFUSED_NAME_NOT_FOUND,
+    /// No attribute, refactor record, array record or member has that number: how many there are, number asked. Of a path,
+    /// a subscript is outside its bounds: the elements of its dimension, the place of the subscript.
+    NoSuchNumber = sys::REFUSED_NO_SUCH_NUMBER,
     /// Data type entries stand in each other deeper than 16, the outermost at depth 1: 16, 17.
-    TooDeep = 15,
+    TooDeep = sys::REFUSED_TOO_DEEP,
     /// In the [checked mode](crate::Mode::Checked), an end byte that is not 0: its place in the entry, or in a record or
     /// chain that is read by itself; the byte.
-    EndByte = 16,
+    EndByte = sys::REFUSED_END_BYTE,
     /// A symbol that a sheet can't hold: which entry of the upload, from 0; the first that applies of 1 GUID, 2 attributes
     /// or 3 extended flags flagged, 5 unread bytes or an end byte that is not 0.
-    NotInSheet = 17,
+    NotInSheet = sys::REFUSED_NOT_IN_SHEET,
     /// A bad row of a sheet: the row, the header being 1; 0 for its shape, else the column from 1.
-    BadSheet = 18,
+    BadSheet = sys::REFUSED_BAD_SHEET,
     /// An upload that is not in plain form: the place in the upload of the first byte that departs, 0.
-    NotPlain = 19,
+    NotPlain = sys::REFUSED_NOT_PLAIN,
+    /// A text that is no path of a variable: the place in the path of the fault, 0.
+    BadPath = sys::REFUSED_BAD_PATH,
+    /// Subscripts of a path that are not as many as there are dimensions: their place in the path, how many dimensions
+    /// there are.
+    WrongDimensions = sys::REFUSED_WRONG_DIMENSIONS,
+    /// A part of a path that has no offset: its place in the path; 0x2 it is below a symbol of a bit, 0x4 a reference,
+    /// 0x40 a property, 0x20000 a static member.
+    NoOffset = sys::REFUSED_NO_OFFSET,
+    /// An index offset above 32 bits: 4,294,967,295, the offset.
+    OffsetTooLarge = sys::REFUSED_OFFSET_TOO_LARGE,
+    /// Data types, one behind another, of which each only names the next: the place in the path of the part below them,
+    /// 16 at most.
+    TooManyAliases = sys::REFUSED_TOO_MANY_ALIASES,
 }
 
 impl RefusalKind {
-    const ALL: [Self; 19] = [
+    const ALL: [Self; 24] = [
         Self::UnexpectedLength,
         Self::TooShort,
         Self::EntryLengthMismatch,
@@ -88,6 +105,11 @@ impl RefusalKind {
         Self::NotInSheet,
         Self::BadSheet,
         Self::NotPlain,
+        Self::BadPath,
+        Self::WrongDimensions,
+        Self::NoOffset,
+        Self::OffsetTooLarge,
+        Self::TooManyAliases,
     ];
 
     /// The number of refusals of this kind.
@@ -127,6 +149,11 @@ impl RefusalKind {
             Self::NotInSheet => ("not for a sheet", "", ""),
             Self::BadSheet => ("bad sheet", "", ""),
             Self::NotPlain => ("not in plain form", "", ""),
+            Self::BadPath => ("no path of a variable", "", ""),
+            Self::WrongDimensions => ("wrong dimensions", "", ""),
+            Self::NoOffset => ("no offset", "", ""),
+            Self::OffsetTooLarge => ("index offset too large", "at most", "here"),
+            Self::TooManyAliases => ("too many aliases", "", ""),
         }
     }
 }
@@ -141,6 +168,44 @@ impl Refusal {
     /// Whether the refusal is of that kind.
     pub const fn is(&self, kind: RefusalKind) -> bool {
         self.number == kind.number()
+    }
+}
+
+/// How many bytes [`Refusal::text`] writes at most.
+pub const TEXT_MOST: usize = sys::REFUSAL_TEXT_MOST;
+
+impl Refusal {
+    /// The refusal's words and figures as the archive has them, from `out[0]` on: English in ASCII, at most [`TEXT_MOST`]
+    /// bytes. What the refusal is displayed by says a little more.
+    ///
+    /// ```
+    /// use vindaskot::AdsSymbolInfo;
+    /// use vindaskot::refusal::TEXT_MOST;
+    ///
+    /// let why = AdsSymbolInfo::try_from_slice(&[0; 29]).unwrap_err();
+    /// let mut out = [0; TEXT_MOST];
+    /// assert_eq!(why.text(&mut out), Ok("too short: 30 needed, 29 present"));
+    /// ```
+    ///
+    /// # Errors
+    ///
+    /// [`NoSuchNumber`](RefusalKind::NoSuchNumber) where the number stands for no refusal, then
+    /// [`OutputTooSmall`](RefusalKind::OutputTooSmall).
+    pub fn text<'o>(&self, out: &'o mut [u8]) -> Result<&'o str, Refusal> {
+        let mut answer = [0; sys::FIGURES];
+        // SAFETY: out's own pointer and length, borrowed alone; answer is lent for the call.
+        let status = unsafe {
+            sys::vindaskot_refusal_text(
+                self.number,
+                self.expected,
+                self.got,
+                out.as_mut_ptr(),
+                out.len(),
+                &mut answer,
+            )
+        };
+        let [written, _] = done(status, answer)?;
+        Ok(core::str::from_utf8(&out[..written]).expect("words are ASCII"))
     }
 }
 
@@ -172,6 +237,29 @@ fn left_out(reason: usize) -> &'static str {
     }
 }
 
+fn mark(flag: usize) -> &'static str {
+    match flag {
+        0x2 => "below a symbol of a bit",
+        0x4 => "a reference",
+        0x40 => "a property",
+        0x20000 => "a static member",
+        _ => "unknown",
+    }
+}
+
+/// Its kind and its figures; of a number that stands for no kind, the number.
+impl fmt::Debug for Refusal {
+    fn fmt(&self, f: &mut fmt::Formatter<'_>) -> fmt::Result {
+        let mut told = f.debug_struct("Refusal");
+        match self.kind() {
+            Some(kind) => told.field("kind", &kind),
+            None => told.field("number", &self.number),
+        };
+        told.field("expected", &self.expected);
+        told.field("got", &self.got).finish()
+    }
+}
+
 impl fmt::Display for Refusal {
     fn fmt(&self, f: &mut fmt::Formatter<'_>) -> fmt::Result {
         let Self {
@@ -194,7 +282,20 @@ impl fmt::Display for Refusal {
             RefusalKind::NotInSheet => write!(f, ": entry {expected}, {}", left_out(got)),
             RefusalKind::BadSheet => write!(f, ": row {expected}, column {got}"),
             RefusalKind::NotPlain => write!(f, ": byte {expected} departs"),
-            RefusalKind::BadHexadecimal | RefusalKind::NameNotFound => Ok(()),
+            RefusalKind::BadPath => write!(f, ": fault at byte {expected}"),
+            RefusalKind::WrongDimensions => {
+                write!(f, ": subscripts at byte {expected}, {got} dimensions there")
+            }
+            RefusalKind::NoOffset => write!(f, ": {} at byte {expected}", mark(got)),
+            RefusalKind::TooManyAliases => {
+                write!(f, ": more than {got} in a row at byte {expected}")
+            }
+            RefusalKind::NameNotFound => match got {
+                1 => write!(f, ": no member at byte {expected} of the path"),
+                2 => write!(f, ": no data type at byte {expected} of the path"),
+                _ => Ok(()),
+            },
+            RefusalKind::BadHexadecimal => Ok(()),
             _ => write!(f, ": {expected} {first}, {got} {second}"),
         }
     }

@@ -119,7 +119,7 @@ impl fmt::Debug for Salvage<'_, '_> {
 }
 
 /// Copies every accepted symbol of a damaged upload to `out`, from its start on, and lists in `runs` what is dropped.
-/// What stands behind either in its buffer is as it was. Refusals: 5, 6 for `out` (bytes), 6 for `runs` (slots).
+/// What stands behind either in its buffer is as it was.
 ///
 /// An `out` as long as `data` is always enough, and then 6 is about the slots, of which a run takes three. Where nothing
 /// is dropped none is needed.
@@ -145,6 +145,11 @@ impl fmt::Debug for Salvage<'_, '_> {
 ///     Ok(())
 /// }
 /// ```
+///
+/// # Errors
+///
+/// [`TooLarge`](crate::RefusalKind::TooLarge), [`OutputTooSmall`](crate::RefusalKind::OutputTooSmall) for `out`
+/// (bytes), [`OutputTooSmall`](crate::RefusalKind::OutputTooSmall) for `runs` (slots).
 pub fn salvage<'o, 's>(
     data: &[u8],
     out: &'o mut [u8],
@@ -218,7 +223,11 @@ pub struct Salvaged {
     pub runs: Vec<Run>,
 }
 
-/// What can be kept of a damaged upload, and what was dropped. Refusal: 5.
+/// What can be kept of a damaged upload, and what was dropped.
+///
+/// # Errors
+///
+/// [`TooLarge`](crate::RefusalKind::TooLarge).
 #[cfg(feature = "alloc")]
 pub fn salvage_to_vec(data: &[u8]) -> Result<Salvaged, Refusal> {
     salvaged(data, |out, runs| fill(data, out, runs))

@@ -2,6 +2,7 @@
 
 #[cfg(feature = "alloc")]
 use alloc::vec::Vec;
+use core::fmt;
 use core::iter::{self, FusedIterator};
 
 use crate::attributes::{AdsAttribute, AdsAttributes};
@@ -11,13 +12,14 @@ use crate::mode::Mode;
 use crate::refactor_info::{AdsRefactorInfo, AdsRefactorInfos};
 use crate::refusal::Refusal;
 use crate::sys;
+use crate::text::Text;
 use crate::told::{done, needed, part, refused, rest_from};
 use crate::walk::Steps;
 
 /// A symbol of an upload: its numbers, and its strings and records as parts of the upload's bytes.
 ///
 /// Strings are Windows-1252; [`text::decode`](crate::text::decode) makes UTF-8 of them.
-#[derive(Debug, Clone, Copy, PartialEq, Eq, Hash)]
+#[derive(Clone, Copy, PartialEq, Eq, Hash)]
 pub struct AdsSymbolInfo<'a> {
     entry: &'a [u8],
     index_group: IndexGroup,
@@ -39,7 +41,14 @@ pub struct AdsSymbolInfo<'a> {
 }
 
 impl<'a> AdsSymbolInfo<'a> {
-    /// Reads the entry at the start of `data`; what follows it is not looked at. Refusals: 5, 2, 3, 4, 3.
+    /// Reads the entry at the start of `data`; what follows it is not looked at.
+    ///
+    /// # Errors
+    ///
+    /// [`TooLarge`](crate::RefusalKind::TooLarge), [`TooShort`](crate::RefusalKind::TooShort),
+    /// [`EntryLengthMismatch`](crate::RefusalKind::EntryLengthMismatch),
+    /// [`ClaimBelowHeader`](crate::RefusalKind::ClaimBelowHeader),
+    /// [`EntryLengthMismatch`](crate::RefusalKind::EntryLengthMismatch).
     pub fn try_from_slice(data: &'a [u8]) -> Result<Self, Refusal> {
         Self::asked(data, |slots, guid, answer| {
             // SAFETY: data's own pointer and length; slots, guid and answer are lent for the call.
@@ -47,8 +56,9 @@ impl<'a> AdsSymbolInfo<'a> {
         })
     }
 
-    /// The same in a mode: the checked one refuses with 16 last, for the end bytes of the name, the type and the
-    /// comment, of the attributes up to one that is short, of the chain up to a record that is short.
+    /// The same in a mode: the checked one refuses with [`EndByte`](crate::RefusalKind::EndByte) last, for the end
+    /// bytes of the name, the type and the comment, of the attributes up to one that is short, of the chain up to a
+    /// record that is short.
     pub fn try_from_slice_in(data: &'a [u8], mode: Mode) -> Result<Self, Refusal> {
         Self::asked(data, |slots, guid, answer| {
             // SAFETY: data's own pointer and length; slots, guid and answer are lent for the call.
@@ -68,7 +78,11 @@ impl<'a> AdsSymbolInfo<'a> {
     /// What a call tells that reads the entry at the start of `data`.
     fn asked(
         data: &'a [u8],
-        call: impl FnOnce(&mut [u64; sys::SYMBOL_SLOTS], &mut [u8; 16], &mut [u64; 2]) -> u32,
+        call: impl FnOnce(
+            &mut [u64; sys::SYMBOL_SLOTS],
+            &mut [u8; sys::GUID_BYTES],
+            &mut [u64; sys::FIGURES],
+        ) -> u32,
     ) -> Result<Self, Refusal> {
         let mut slots = [0; sys::SYMBOL_SLOTS];
         let mut guid = [0; 16];
@@ -92,13 +106,13 @@ impl<'a> AdsSymbolInfo<'a> {
             flags: AdsSymbolFlags(slots[sys::SYMBOL_FLAGS] as u16),
             high: slots[sys::SYMBOL_HIGH] as u16,
             extended_flags: (slots[sys::SYMBOL_HAS_EXTENDED] == 1).then_some(extended),
-            name: string(sys::SYMBOL_NAME, sys::SYMBOL_NAME_LEN),
-            type_name: string(sys::SYMBOL_TYPE_NAME, sys::SYMBOL_TYPE_NAME_LEN),
-            comment: string(sys::SYMBOL_COMMENT, sys::SYMBOL_COMMENT_LEN),
+            name: string(sys::SYMBOL_NAME_AT, sys::SYMBOL_NAME_LEN),
+            type_name: string(sys::SYMBOL_TYPE_NAME_AT, sys::SYMBOL_TYPE_NAME_LEN),
+            comment: string(sys::SYMBOL_COMMENT_AT, sys::SYMBOL_COMMENT_LEN),
             guid: (slots[sys::SYMBOL_HAS_GUID] == 1).then_some(guid),
-            attributes: slots[sys::SYMBOL_ATTRIBUTES],
+            attributes: slots[sys::SYMBOL_ATTRIBUTES_AT],
             attribute_count: slots[sys::SYMBOL_ATTRIBUTE_COUNT] as usize,
-            refactors: slots[sys::SYMBOL_REFACTORS],
+            refactors: slots[sys::SYMBOL_REFACTORS_AT],
             refactor_count: slots[sys::SYMBOL_REFACTOR_COUNT] as usize,
             unread: slots[sys::SYMBOL_UNREAD] as usize,
         }
@@ -170,7 +184,11 @@ impl<'a> AdsSymbolInfo<'a> {
         AdsAttributes::new(rest_from(self.entry, self.attributes), self.attribute_count)
     }
 
-    /// The attribute of that number, from 0. Refusal: 14.
+    /// The attribute of that number, from 0.
+    ///
+    /// # Errors
+    ///
+    /// [`NoSuchNumber`](crate::RefusalKind::NoSuchNumber).
     pub fn attribute(&self, number: usize) -> Result<AdsAttribute<'a>, Refusal> {
         Ok(self.numbered_attribute(number)?.0)
     }
@@ -185,8 +203,12 @@ impl<'a> AdsSymbolInfo<'a> {
         })
     }
 
-    /// The same of the entry's bytes read again in a mode. Refusals: those of
-    /// [`try_from_slice_in`](Self::try_from_slice_in), then 14.
+    /// The same of the entry's bytes read again in a mode.
+    ///
+    /// # Errors
+    ///
+    /// Those of [`try_from_slice_in`](Self::try_from_slice_in), then
+    /// [`NoSuchNumber`](crate::RefusalKind::NoSuchNumber).
     pub fn attribute_in(&self, number: usize, mode: Mode) -> Result<AdsAttribute<'a>, Refusal> {
         let entry = self.entry;
         let read = AdsAttribute::asked(entry, |slots, answer| {
@@ -205,8 +227,13 @@ impl<'a> AdsSymbolInfo<'a> {
         Ok(read?.0)
     }
 
-    /// The first attribute shown of that name. Names are equal if their bytes are. Refusal: 13.
-    pub fn attribute_named(&self, name: &[u8]) -> Result<AdsAttribute<'a>, Refusal> {
+    /// The first attribute shown of that name. Names are equal if their bytes are.
+    ///
+    /// # Errors
+    ///
+    /// [`NameNotFound`](crate::RefusalKind::NameNotFound).
+    pub fn attribute_named(&self, name: impl AsRef<[u8]>) -> Result<AdsAttribute<'a>, Refusal> {
+        let name = name.as_ref();
         let entry = self.entry;
         let read = AdsAttribute::asked(entry, |slots, answer| {
             // SAFETY: each pointer stands with its slice's own length; slots and answer are lent for the call.
@@ -224,9 +251,18 @@ impl<'a> AdsSymbolInfo<'a> {
         Ok(read?.0)
     }
 
-    /// The same of the entry's bytes read again in a mode. Refusals: those of
-    /// [`try_from_slice_in`](Self::try_from_slice_in), then 13.
-    pub fn attribute_named_in(&self, name: &[u8], mode: Mode) -> Result<AdsAttribute<'a>, Refusal> {
+    /// The same of the entry's bytes read again in a mode.
+    ///
+    /// # Errors
+    ///
+    /// Those of [`try_from_slice_in`](Self::try_from_slice_in), then
+    /// [`NameNotFound`](crate::RefusalKind::NameNotFound).
+    pub fn attribute_named_in(
+        &self,
+        name: impl AsRef<[u8]>,
+        mode: Mode,
+    ) -> Result<AdsAttribute<'a>, Refusal> {
+        let name = name.as_ref();
         let entry = self.entry;
         let read = AdsAttribute::asked(entry, |slots, answer| {
             // SAFETY: each pointer stands with its slice's own length; slots and answer are lent for the call.
@@ -261,7 +297,11 @@ impl<'a> AdsSymbolInfo<'a> {
         AdsRefactorInfos::new(rest_from(self.entry, self.refactors), self.refactor_count)
     }
 
-    /// The refactor record of that number, from 0. Refusal: 14.
+    /// The refactor record of that number, from 0.
+    ///
+    /// # Errors
+    ///
+    /// [`NoSuchNumber`](crate::RefusalKind::NoSuchNumber).
     pub fn refactor_info(&self, number: usize) -> Result<AdsRefactorInfo<'a>, Refusal> {
         Ok(self.numbered_refactor_info(number)?.0)
     }
@@ -285,8 +325,12 @@ impl<'a> AdsSymbolInfo<'a> {
         })
     }
 
-    /// The same of the entry's bytes read again in a mode. Refusals: those of
-    /// [`try_from_slice_in`](Self::try_from_slice_in), then 14.
+    /// The same of the entry's bytes read again in a mode.
+    ///
+    /// # Errors
+    ///
+    /// Those of [`try_from_slice_in`](Self::try_from_slice_in), then
+    /// [`NoSuchNumber`](crate::RefusalKind::NoSuchNumber).
     pub fn refactor_info_in(
         &self,
         number: usize,
@@ -365,6 +409,27 @@ impl<'a> TryFrom<&'a [u8]> for AdsSymbolInfo<'a> {
     }
 }
 
+/// What it tells, strings as text.
+impl fmt::Debug for AdsSymbolInfo<'_> {
+    fn fmt(&self, f: &mut fmt::Formatter<'_>) -> fmt::Result {
+        let mut told = f.debug_struct("AdsSymbolInfo");
+        told.field("name", &Text(self.name));
+        told.field("type_name", &Text(self.type_name));
+        told.field("comment", &Text(self.comment));
+        told.field("index_group", &self.index_group);
+        told.field("index_offset", &self.index_offset);
+        told.field("size", &self.size);
+        told.field("data_type_id", &self.data_type_id);
+        told.field("flags", &self.flags);
+        told.field("high", &self.high);
+        told.field("extended_flags", &self.extended_flags);
+        told.field("guid", &self.guid);
+        told.field("attributes", &self.attributes());
+        told.field("refactor_infos", &self.refactor_infos());
+        told.field("unread", &self.unread).finish()
+    }
+}
+
 /// One step of the walk over an upload of symbols: `None` at the end, else the entry at the cursor or its refusal.
 ///
 /// The cursor moves past the entry, and to the end after a refusal that leaves no next entry: 5, 3 for a claim beyond
@@ -382,7 +447,8 @@ pub fn parse_next_entry<'a>(
     })
 }
 
-/// The same in a mode: in the checked one an entry is also refused with 16, and the cursor moves past it.
+/// The same in a mode: in the checked one an entry is also refused with [`EndByte`](crate::RefusalKind::EndByte), and
+/// the cursor moves past it.
 pub fn parse_next_entry_in<'a>(
     data: &'a [u8],
     cursor: &mut usize,
@@ -408,7 +474,12 @@ pub fn parse_next_entry_in<'a>(
 fn stepped<'a>(
     data: &'a [u8],
     cursor: &mut usize,
-    call: impl FnOnce(&mut usize, &mut [u64; sys::SYMBOL_SLOTS], &mut [u8; 16], &mut [u64; 2]) -> u32,
+    call: impl FnOnce(
+        &mut usize,
+        &mut [u64; sys::SYMBOL_SLOTS],
+        &mut [u8; sys::GUID_BYTES],
+        &mut [u64; sys::FIGURES],
+    ) -> u32,
 ) -> Option<Result<AdsSymbolInfo<'a>, Refusal>> {
     let start = *cursor;
     let mut slots = [0; sys::SYMBOL_SLOTS];
@@ -534,7 +605,13 @@ pub struct SymbolParts<'a> {
 }
 
 impl SymbolNumbers {
-    /// Writes the entry from `out[0]` on and answers its length. Refusals: 7, 9, 8, 5, 6.
+    /// Writes the entry from `out[0]` on and answers its length.
+    ///
+    /// # Errors
+    ///
+    /// [`TooLong`](crate::RefusalKind::TooLong), [`BadBlock`](crate::RefusalKind::BadBlock),
+    /// [`SectionsDisagree`](crate::RefusalKind::SectionsDisagree), [`TooLarge`](crate::RefusalKind::TooLarge),
+    /// [`OutputTooSmall`](crate::RefusalKind::OutputTooSmall).
     pub fn write(&self, parts: &SymbolParts<'_>, out: &mut [u8]) -> Result<usize, Refusal> {
         let guid = parts.guid.as_slice().as_flattened();
         let mut answer = [0; 2];
@@ -570,12 +647,22 @@ impl SymbolNumbers {
         Ok(done(status, answer)?[0])
     }
 
-    /// The length of the entry written. Refusals: 7, 9, 8, 5.
+    /// The length of the entry written.
+    ///
+    /// # Errors
+    ///
+    /// [`TooLong`](crate::RefusalKind::TooLong), [`BadBlock`](crate::RefusalKind::BadBlock),
+    /// [`SectionsDisagree`](crate::RefusalKind::SectionsDisagree), [`TooLarge`](crate::RefusalKind::TooLarge).
     pub fn wire_size(&self, parts: &SymbolParts<'_>) -> Result<usize, Refusal> {
         needed(|out| self.write(parts, out))
     }
 
-    /// The entry written. Refusals: 7, 9, 8, 5.
+    /// The entry written.
+    ///
+    /// # Errors
+    ///
+    /// [`TooLong`](crate::RefusalKind::TooLong), [`BadBlock`](crate::RefusalKind::BadBlock),
+    /// [`SectionsDisagree`](crate::RefusalKind::SectionsDisagree), [`TooLarge`](crate::RefusalKind::TooLarge).
     #[cfg(feature = "alloc")]
     pub fn to_vec(&self, parts: &SymbolParts<'_>) -> Result<Vec<u8>, Refusal> {
         crate::told::filled(|out| self.write(parts, out))

@@ -48,7 +48,7 @@ pub enum WalkEnd {
     Finished,
     /// It has used its steps and is not at the end.
     OutOfSteps,
-    /// Refusal 10: a zero entry length, that step counted.
+    /// Refusal [`ZeroEntryLength`](crate::RefusalKind::ZeroEntryLength): a zero entry length, that step counted.
     Refused(Refusal),
 }
 

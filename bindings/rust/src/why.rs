@@ -149,8 +149,11 @@ pub struct Reasons {
 }
 
 impl Reasons {
-    /// Those of the entry at the start of `data`. Refusals: those of
-    /// [`AdsSymbolInfo::try_from_slice`].
+    /// Those of the entry at the start of `data`.
+    ///
+    /// # Errors
+    ///
+    /// Those of [`AdsSymbolInfo::try_from_slice`].
     pub fn try_from_slice(data: &[u8]) -> Result<Self, Refusal> {
         let mut told = [[0; sys::WHY_SLOTS]; 4];
         let mut answer = [0; 2];

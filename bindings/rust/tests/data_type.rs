@@ -1075,7 +1075,7 @@ fn the_walk_over_the_sample() {
         .with_starts()
         .map(|(start, item)| (start, item.unwrap()))
         .collect();
-    assert_eq!(names.len(), 7);
+    assert_eq!(names.len(), 11);
     for (start, item) in names {
         assert_eq!(place(&upload, item.name()), start + 42);
     }

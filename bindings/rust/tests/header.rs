@@ -26,8 +26,8 @@ fn c_words(source: &str) -> String {
     words.join(" ")
 }
 
-/// A C parameter as Rust declares it.
-fn c_parameter(parameter: &str) -> String {
+/// A C parameter as Rust declares it, the constants in its brackets by their values.
+fn c_parameter(parameter: &str, constants: &BTreeMap<String, u64>) -> String {
     let (kind, name) = parameter.trim().rsplit_once([' ', '*']).unwrap();
     let pointer = parameter.contains('*');
     let kind = kind.trim_end_matches([' ', '*']);
@@ -37,7 +37,8 @@ fn c_parameter(parameter: &str) -> String {
         _ => kind.replace("uint", "u").replace("_t", ""),
     };
     if let Some(length) = name.strip_suffix(']') {
-        // uint64_t slots[VINDASKOT_AT_LEAST 20]: the name ends before the bracket.
+        // uint64_t slots[VINDASKOT_AT_LEAST VINDASKOT_SYMBOL_SLOTS]: the name ends before the bracket.
+        let length = constants[length.strip_prefix("VINDASKOT_").unwrap()];
         let (kind, name) = kind.split_once('[').unwrap().0.split_once(' ').unwrap();
         return format!("{name}: &mut [{}; {length}]", rust(kind));
     }
@@ -50,13 +51,15 @@ fn c_parameter(parameter: &str) -> String {
 }
 
 /// The functions that the header declares, each with its parameters.
-fn c_functions(words: &str) -> BTreeMap<String, Vec<String>> {
+fn c_functions(source: &str) -> BTreeMap<String, Vec<String>> {
+    let words = &c_words(source);
+    let constants = c_constants(source, words);
     let declarations = words.split("uint32_t vindaskot_").skip(1);
     let function = |declaration: &str| {
         let (name, rest) = declaration.split_once('(').unwrap();
         let parameters = rest.split_once(')').unwrap().0;
         let parameters = parameters.split(',').filter(|&part| part != "void");
-        let parameters = parameters.map(c_parameter);
+        let parameters = parameters.map(|part| c_parameter(part, &constants));
         (format!("vindaskot_{name}"), parameters.collect())
     };
     declarations.map(function).collect()
@@ -117,7 +120,7 @@ fn rust_constants(source: &str) -> BTreeMap<String, u64> {
 
 #[test]
 fn the_functions_are_those_of_the_header() {
-    let c = c_functions(&c_words(&file("../c/vindaskot.h")));
+    let c = c_functions(&file("../c/vindaskot.h"));
     let rust = rust_functions(&file("src/sys.rs"));
     assert!(!c.is_empty());
     assert_eq!(rust, c);
@@ -131,7 +134,19 @@ fn the_constants_are_those_of_the_header() {
     assert_eq!(rust_constants(&file("src/sys.rs")), c);
 }
 
-/// The flags that have a constant, by their names in the proved crate.
+/// The flags of a word, by their names, as the proved crate has them.
+fn proved_flags(module: &str, word: &str) -> BTreeMap<String, u64> {
+    let source = file(&format!("../../crates/flags/src/{module}.rt"));
+    let (_, flags) = source.split_once(word).unwrap();
+    let (flags, _) = flags.split_once("\n    }").unwrap();
+    let flag = |declaration: &str| {
+        let (name, bits) = declaration.split_once(" = ").unwrap();
+        let (bits, _) = bits.split_once(';').unwrap();
+        (name.to_string(), number(bits))
+    };
+    flags.split("const ").skip(1).map(flag).collect()
+}
+
 #[test]
 fn the_flags_are_those_of_the_proved_crate() {
     let constants = rust_constants(&file("src/sys.rs"));
@@ -144,21 +159,15 @@ fn the_flags_are_those_of_the_proved_crate() {
         ),
         ("TYPE_FLAG_", "type_flags", "impl AdsTypeFlags: u32 {"),
     ];
-    let mut held = 0;
     for (prefix, module, word) in words {
-        let source = file(&format!("../../crates/flags/src/{module}.rt"));
-        let (_, flags) = source.split_once(word).unwrap();
-        let (flags, _) = flags.split_once("\n    }").unwrap();
-        for (name, value) in &constants {
-            if let Some(flag) = name.strip_prefix(prefix) {
-                let (_, bits) = flags.split_once(&format!("const {flag} = ")).unwrap();
-                let (bits, _) = bits.split_once(';').unwrap();
-                assert_eq!(number(bits), *value, "{name}");
-                held += 1;
-            }
-        }
+        let named = constants.iter().filter_map(|(name, &value)| {
+            let flag = name.strip_prefix(prefix)?;
+            Some((flag.to_string(), value))
+        });
+        let proved = proved_flags(module, word);
+        assert!(!proved.is_empty());
+        assert_eq!(named.collect::<BTreeMap<_, _>>(), proved, "{word}");
     }
-    assert_eq!(held, 12);
 }
 
 /// The header's number, the name that the linker asks for and the archive's own answer are of one interface.

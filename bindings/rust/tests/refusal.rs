@@ -39,7 +39,17 @@ const TOLD: &str = "\
 17 3 5 not for a sheet: entry 3, it has unread bytes, or an end byte that is not 0
 18 2 5 bad sheet: row 2, column 5
 19 1455 0 not in plain form: byte 1455 departs
-20 1 2 expected 1, got 2
+20 7 0 no path of a variable: fault at byte 7
+13 12 1 name not found: no member at byte 12 of the path
+13 12 2 name not found: no data type at byte 12 of the path
+21 14 1 wrong dimensions: subscripts at byte 14, 1 dimensions there
+22 5 2 no offset: below a symbol of a bit at byte 5
+22 6 4 no offset: a reference at byte 6
+22 7 64 no offset: a property at byte 7
+22 8 131072 no offset: a static member at byte 8
+23 4294967295 4294967296 index offset too large: 4294967295 at most, 4294967296 here
+24 9 16 too many aliases: more than 16 in a row at byte 9
+25 1 2 expected 1, got 2
 99 1 2 expected 1, got 2";
 
 #[test]
@@ -55,7 +65,7 @@ fn words_and_figures() {
 
 #[test]
 fn kinds_by_number() {
-    for number in 1..=19 {
+    for number in 1..=24 {
         let why = refusal(number, 0, 0);
         let kind = why.kind().unwrap();
         assert_eq!(kind.number(), number);
@@ -66,7 +76,8 @@ fn kinds_by_number() {
     assert_eq!(refusal(15, 0, 0).kind(), Some(RefusalKind::TooDeep));
     assert_eq!(refusal(16, 0, 0).kind(), Some(RefusalKind::EndByte));
     assert_eq!(refusal(19, 0, 0).kind(), Some(RefusalKind::NotPlain));
-    for number in [0, 20] {
+    assert_eq!(refusal(24, 0, 0).kind(), Some(RefusalKind::TooManyAliases));
+    for number in [0, 25] {
         assert_eq!(refusal(number, 0, 0).kind(), None);
     }
 }

@@ -304,7 +304,7 @@ fn kinds_of_runs() {
         (1, Some(K::UnexpectedLength)),
         (5, Some(K::TooLarge)),
         (15, Some(K::TooDeep)),
-        (20, None),
+        (25, None),
         (u32::MAX, None),
     ] {
         assert_eq!(Run { number, ..runs[0] }.kind(), kind, "{number}");

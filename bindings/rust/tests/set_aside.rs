@@ -92,7 +92,12 @@ fn the_slots_of_all_members_are_set_aside_at_once() {
             counts.push(members);
         }
     }
-    assert_eq!(counts, [4, 4, 7, 7, 20, 20, 0, 0, 0, 0, 1, 1, 9, 9]);
+    assert_eq!(
+        counts,
+        [
+            4, 4, 7, 7, 20, 20, 0, 0, 0, 0, 1, 1, 9, 9, 0, 0, 7, 7, 12, 12, 11, 11
+        ]
+    );
 }
 
 /// Reading, lists, members by number and in lent slots: all of it stands in the upload, the slots and the records.
@@ -119,6 +124,6 @@ fn a_data_type_asks_for_no_memory() {
         Ok(Vec::<()>::new())
     });
     assert_eq!(asked, []);
-    // Of 41 members, arrays of five dimensions and 13 attributes.
-    assert_eq!(seen, 41 + 5 + 13);
+    // Of 71 members, arrays of five dimensions and 16 attributes.
+    assert_eq!(seen, 71 + 5 + 16);
 }

@@ -57,7 +57,7 @@ fn the_rig_names_its_axes_and_its_lens() {
     assert_eq!(symbols[0].name(), b"MAIN.stPedestal");
     assert_eq!(symbols[0].comment(), b"S\xE4ule");
     let lens = symbols.iter().find(|s| s.name() == b"MAIN.stLens").unwrap();
-    assert_eq!((lens.type_name(), lens.size()), (&b"ST_BoxLens"[..], 128));
+    assert_eq!((lens.type_name(), lens.size()), (&b"ST_BoxLens"[..], 848));
     assert!(lens.guid().is_some());
     let attributes: Vec<_> = lens.attributes().map(|a| (a.name(), a.value())).collect();
     let expected: [(&[u8], &[u8]); 3] = [
