@@ -4,7 +4,8 @@
     tools/rig_sample.py        writes samples/rig.bin, and samples/rig.hex, the same as one hexadecimal line
 
 The entries are those that a controller would send: GUIDs beside structured types, attributes, extended flags, the former
-names of renamed symbols, comments in German. Some have a high, bytes 22 and 23, that is not 0: of two unlike bytes, so that
+names of renamed symbols, comments in German. Members lie in their structure, where samples/types.bin has them
+(tools/types_sample.py). Some have a high, bytes 22 and 23, that is not 0: of two unlike bytes, so that
 exchanging them shows, and of bits that among the flags would mean a GUID and attributes.
 """
 import struct
@@ -35,7 +36,7 @@ def chain(names):
     return out
 
 
-def entry(offset, name, kind, comment="", size=None, attributes=(), former=(), high=0):
+def entry(offset, name, kind, comment="", size=None, place=None, attributes=(), former=(), high=0):
     type_id, length = TYPES.get(kind, (STRUCT, size))
     flags, tail = 0, b""
     if type_id == STRUCT:
@@ -53,34 +54,50 @@ def entry(offset, name, kind, comment="", size=None, attributes=(), former=(), h
     return head + struct.pack("<HHH", len(name), len(kind), len(comment)) + body, length
 
 
+def members(owner, names):
+    """The members of a structure, which follow one another in it, a number at a multiple of its own length."""
+    place = 0
+    for name, kind, comment, more in names:
+        length = TYPES[kind][1] if kind in TYPES else more["size"]
+        align = 1 if kind.startswith("STRING") else 4 if kind not in TYPES else length
+        place = (place + align - 1) // align * align
+        yield f"{owner}.{name}", kind, comment, dict(more, place=place)
+        place += length
+
+
 def symbols():
     lens = [("ZoomCurveStart", "0.0625"), ("ZoomCurveEnd", "0.9375"), ("LensTable", "27x6.5")]
     yield "MAIN.stPedestal", "ST_Pedestal", "Säule", dict(size=64)
-    for axis in ("fHeight", "fHeightSpeed", "fDriveX", "fDriveY", "fSteer"):
-        yield f"MAIN.stPedestal.{axis}", "LREAL", "", {}
-    yield "MAIN.stPedestal.nBalance", "INT", "Druck für den Ausgleich", dict(attributes=[("unit", "kPa")])
-    yield "MAIN.stPedestal.bBrake", "BOOL", "", dict(former=["bPark"])
+    yield from members("MAIN.stPedestal", [
+        *((axis, "LREAL", "", {}) for axis in ("fHeight", "fHeightSpeed", "fDriveX", "fDriveY", "fSteer")),
+        ("nBalance", "INT", "Druck für den Ausgleich", dict(attributes=[("unit", "kPa")])),
+        ("bBrake", "BOOL", "", dict(former=["bPark"])),
+    ])
     yield "MAIN.stJib", "ST_Jib", "Kranarm", dict(size=96, attributes=[("Reach", "7.2"), ("unit", "m")])
-    for axis in ("fSwing", "fBoom", "fPan", "fTilt", "fRoll"):
-        yield f"MAIN.stJib.{axis}", "LREAL", "", dict(attributes=[("unit", "°")])
-        yield f"MAIN.stJib.{axis}Speed", "LREAL", "", {}
-    yield "MAIN.stJib.nCounterweight", "UINT", "Gegengewicht über dem Lager", dict(former=["nWeight", "nBallast"], high=0x00FF)
-    yield "MAIN.stJib.bTrackLock", "BOOL", "", dict(high=0x8000)
-    yield "MAIN.stLens", "ST_BoxLens", "Kastenobjektiv, geprüft", dict(size=128, attributes=lens, former=["stOptic"], high=0x0102)
-    for axis in ("fZoom", "fFocus", "fIris"):
-        yield f"MAIN.stLens.{axis}", "REAL", "", {}
-        yield f"MAIN.stLens.{axis}Raw", "DINT", "", dict(attributes=[("encoder", "1")])
-    yield "MAIN.stLens.aTable", "ARRAY [0..31] OF ST_LensPoint", "Stützpunkte", dict(size=512, attributes=lens[:2])
-    yield "MAIN.stLens.bExtender", "BOOL", "", dict(former=["bDoubler"])
-    yield "MAIN.stLens.sSerial", "STRING(31)", "", dict(high=0x1008)
+    axes = [[(axis, "LREAL", "", dict(attributes=[("unit", "°")])), (f"{axis}Speed", "LREAL", "", {})]
+            for axis in ("fSwing", "fBoom", "fPan", "fTilt", "fRoll")]
+    yield from members("MAIN.stJib", [
+        *(one for pair in axes for one in pair),
+        ("nCounterweight", "UINT", "Gegengewicht über dem Lager", dict(former=["nWeight", "nBallast"], high=0x00FF)),
+        ("bTrackLock", "BOOL", "", dict(high=0x8000)),
+    ])
+    yield "MAIN.stLens", "ST_BoxLens", "Kastenobjektiv, geprüft", dict(size=848, attributes=lens, former=["stOptic"], high=0x0102)
+    drives = [[(axis, "REAL", "", {}), (f"{axis}Raw", "DINT", "", dict(attributes=[("encoder", "1")]))] for axis in ("fZoom", "fFocus", "fIris")]
+    yield from members("MAIN.stLens", [
+        *(one for pair in drives for one in pair),
+        ("aTable", "ARRAY [0..31] OF ST_LensPoint", "Stützpunkte", dict(size=512, attributes=lens[:2])),
+        ("bExtender", "BOOL", "", dict(former=["bDoubler"])),
+        ("sSerial", "STRING(31)", "", dict(high=0x1008)),
+    ])
     yield "MAIN.nState", "DINT", "", {}
 
 
 def main():
-    out, offset = b"", 0x5000
+    out, start, behind = b"", 0x5000, 0x5000
     for name, kind, comment, more in symbols():
-        data, length = entry(offset, name, kind, comment, **more)
-        out, offset = out + data, offset + length
+        start = start if "place" in more else behind
+        data, length = entry(start + more.get("place", 0), name, kind, comment, **more)
+        out, behind = out + data, behind if "place" in more else start + length
     assert len(out) <= 16384
     folder = Path(__file__).resolve().parent.parent / "samples"
     folder.mkdir(exist_ok=True)

@@ -1,19 +1,22 @@
 #!/usr/bin/env python3
-"""A sample upload of data types: those of a box lens and of its table.
+"""A sample upload of data types: those of a box lens and of its table, and of the rig whose symbols samples/rig.bin has.
 
     tools/types_sample.py      writes samples/types.bin, and samples/types.hex, the same as one hexadecimal line
 
 A structure's members stand in its entry as sub-items, and a member that is a structure has its own in it again: so the lens
 table tells every number of the curve with its offset. Arrays begin at 0, above it and below it. The end of the zoom curve has
-the attribute that the renderer asks for. One entry has a copy mask, one methods, and one bytes that no reader knows. Of the last
-type two members are bits, and one each static, a property and a reference, whose own members lie where it leads.
+the attribute that the renderer asks for. One entry has a copy mask, one methods, and one bytes that no reader knows. Of the lens
+panel two members are bits, and one each static, a property and a reference, whose own members lie where it leads. The
+rig's structures (tools/rig_sample.py) name the types of their members and do not hold these members' members, as most
+controllers send it, so a path leads from type to type by name.
 """
 import struct
 import uuid
 import zlib
 from pathlib import Path
 
-TYPES = {"BOOL": (33, 1), "INT": (2, 2), "DINT": (3, 4), "REAL": (4, 4), "LREAL": (5, 8), "STRING(31)": (30, 32), "BIT": (33, 1)}
+TYPES = {"BOOL": (33, 1), "INT": (2, 2), "DINT": (3, 4), "REAL": (4, 4), "LREAL": (5, 8), "UINT": (18, 2), "STRING(31)": (30, 32),
+         "BIT": (33, 1)}
 STRUCT = 65
 DATA_TYPE, DATA_ITEM = 0x0001, 0x0002
 REFERENCE_TO, BIT_VALUES, PROP_ITEM, STATIC = 0x0004, 0x0020, 0x0040, 0x20000
@@ -98,6 +101,36 @@ def panel():
     ]
 
 
+def pedestal():
+    axes = ("fHeight", "fHeightSpeed", "fDriveX", "fDriveY", "fSteer")
+    return [
+        *(entry(axis, "LREAL", offset=8 * number) for number, axis in enumerate(axes)),
+        entry("nBalance", "INT", "Druck für den Ausgleich", 40, attributes=[("unit", "kPa")]),
+        entry("bBrake", "BOOL", "", 42),
+    ]
+
+
+def jib():
+    axes = [name for axis in ("fSwing", "fBoom", "fPan", "fTilt", "fRoll") for name in (axis, f"{axis}Speed")]
+    return [
+        *(entry(axis, "LREAL", offset=8 * number) for number, axis in enumerate(axes)),
+        entry("nCounterweight", "UINT", "Gegengewicht über dem Lager", 80),
+        entry("bTrackLock", "BOOL", "", 82),
+    ]
+
+
+def lens():
+    drives = [(axis + raw, kind) for axis in ("fZoom", "fFocus", "fIris") for raw, kind in (("", "REAL"), ("Raw", "DINT"))]
+    return [
+        *(entry(name, kind, offset=4 * number) for number, (name, kind) in enumerate(drives)),
+        entry("aTable", "ARRAY [0..31] OF ST_LensPoint", "Stützpunkte", 24, 512),
+        entry("bExtender", "BOOL", "", 536),
+        entry("sSerial", "STRING(31)", "", 537),
+        entry("stZoom", "ST_LensCurve", "Zoom", 572, 136, attributes=[("Axis", "Zoom")]),
+        entry("stFocus", "ST_LensCurve", "Schärfe", 708, 136, attributes=[("Axis", "Focus")]),
+    ]
+
+
 def types():
     yield whole("ST_LensPoint", size=16, items=point(), guid=True)
     yield whole("ST_LensCurve", size=136, items=curve("1"), guid=True)
@@ -107,6 +140,10 @@ def types():
     yield whole("FB_LensDrive", size=24, items=[entry("bBusy", "BOOL", "", 16)], methods=[b"Home", b"Park\0"], guid=True,
                 attributes=[("hide", "")], more=b"\x01\x02\x03")
     yield whole("FB_LensPanel", size=24, items=panel())
+    yield entry("ARRAY [0..31] OF ST_LensPoint", "ST_LensPoint", size=512, arrays=[(0, 32)], flags=DATA_TYPE)
+    yield whole("ST_Pedestal", size=64, items=pedestal(), guid=True)
+    yield whole("ST_Jib", size=96, items=jib(), guid=True)
+    yield whole("ST_BoxLens", comment="Kastenobjektiv, geprüft", size=848, items=lens(), guid=True)
 
 
 def main():

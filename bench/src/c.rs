@@ -77,6 +77,13 @@ pub fn symbol_step_in(
     unsafe { sys::vindaskot_symbol_step_in(start, len, checked, cursor, slots, guid, answer) }
 }
 
+/// Looks whether an upload is in plain form. Where it is not, the run ends.
+pub fn plain(bytes: &[u8]) {
+    let mut answer = [0; 2];
+    let status = unsafe { sys::vindaskot_plain(bytes.as_ptr(), bytes.len(), &mut answer) };
+    done("plain", status, answer);
+}
+
 pub fn field_read(bytes: &[u8], told: &mut Told<{ sys::FIELD_SLOTS }>) {
     let (slots, guid, answer) = (&mut told.slots, &mut told.guid, &mut told.answer);
     let status =

@@ -51,14 +51,14 @@ fn check_numbers(s: &Symbol, told: &Told<{ sys::SYMBOL_SLOTS }>) {
 
 fn check_records(s: &Symbol, entry: &[u8], told: &Told<{ sys::SYMBOL_SLOTS }>) {
     let mut record = Told::<{ sys::ATTRIBUTE_SLOTS }>::new();
-    let mut left = &entry[told.number(sys::SYMBOL_ATTRIBUTES)..];
+    let mut left = &entry[told.number(sys::SYMBOL_ATTRIBUTES_AT)..];
     for (name, value) in &s.attributes {
         c::attribute_read(left, &mut record);
         let strings = (part(left, &record, 0), part(left, &record, 2));
         same(&strings, &(&name[..], &value[..]), "attribute", &s.name);
         left = &left[record.number(4)..];
     }
-    let mut left = &entry[told.number(sys::SYMBOL_REFACTORS)..];
+    let mut left = &entry[told.number(sys::SYMBOL_REFACTORS_AT)..];
     for (_, name) in &s.former {
         c::refactor_read(left, &mut record);
         same(
@@ -81,19 +81,19 @@ fn check_ours(s: &Symbol, entry: &[u8], told: &Told<{ sys::SYMBOL_SLOTS }>) {
         &s.name,
     );
     same(
-        &part(entry, told, sys::SYMBOL_NAME),
+        &part(entry, told, sys::SYMBOL_NAME_AT),
         &&s.name[..],
         "name",
         &s.name,
     );
     same(
-        &part(entry, told, sys::SYMBOL_TYPE_NAME),
+        &part(entry, told, sys::SYMBOL_TYPE_NAME_AT),
         &&s.type_name[..],
         "type name",
         &s.name,
     );
     same(
-        &part(entry, told, sys::SYMBOL_COMMENT),
+        &part(entry, told, sys::SYMBOL_COMMENT_AT),
         &&s.comment[..],
         "comment",
         &s.name,

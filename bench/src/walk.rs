@@ -113,15 +113,15 @@ fn decoded(bytes: &[u8], slots: &[u64], [place, len]: [usize; 2], out: &mut [u8]
 
 /// The same of so many attributes from a place on.
 pub fn attributes_text(entry: &[u8], first: usize, count: usize, out: &mut [u8]) -> u64 {
-    const NAME: [usize; 2] = [sys::ATTRIBUTE_NAME, sys::ATTRIBUTE_NAME_LEN];
-    const VALUE: [usize; 2] = [sys::ATTRIBUTE_VALUE, sys::ATTRIBUTE_VALUE_LEN];
+    const NAME: [usize; 2] = [sys::ATTRIBUTE_NAME_AT, sys::ATTRIBUTE_NAME_LEN];
+    const VALUE: [usize; 2] = [sys::ATTRIBUTE_VALUE_AT, sys::ATTRIBUTE_VALUE_LEN];
     let mut record = Told::<{ sys::ATTRIBUTE_SLOTS }>::new();
     let mut left = &entry[first..];
     let mut sum = 0;
     for _ in 0..count {
         c::attribute_read(left, &mut record);
         sum += decoded(left, &record.slots, NAME, out) + decoded(left, &record.slots, VALUE, out);
-        left = &left[record.number(sys::ATTRIBUTE_NEXT)..];
+        left = &left[record.number(sys::ATTRIBUTE_NEXT_AT)..];
     }
     sum
 }
@@ -134,21 +134,21 @@ pub fn strings_text(entry: &[u8], slots: &[u64], strings: [[usize; 2]; 3], out: 
 
 fn ours_text_of(entry: &[u8], told: &Told<{ sys::SYMBOL_SLOTS }>, out: &mut [u8]) -> u64 {
     const STRINGS: [[usize; 2]; 3] = [
-        [sys::SYMBOL_NAME, sys::SYMBOL_NAME_LEN],
-        [sys::SYMBOL_TYPE_NAME, sys::SYMBOL_TYPE_NAME_LEN],
-        [sys::SYMBOL_COMMENT, sys::SYMBOL_COMMENT_LEN],
+        [sys::SYMBOL_NAME_AT, sys::SYMBOL_NAME_LEN],
+        [sys::SYMBOL_TYPE_NAME_AT, sys::SYMBOL_TYPE_NAME_LEN],
+        [sys::SYMBOL_COMMENT_AT, sys::SYMBOL_COMMENT_LEN],
     ];
-    const FORMER: [usize; 2] = [sys::REFACTOR_NAME, sys::REFACTOR_NAME_LEN];
-    let attributes = told.number(sys::SYMBOL_ATTRIBUTES);
+    const FORMER: [usize; 2] = [sys::REFACTOR_NAME_AT, sys::REFACTOR_NAME_LEN];
+    let attributes = told.number(sys::SYMBOL_ATTRIBUTES_AT);
     let count = told.number(sys::SYMBOL_ATTRIBUTE_COUNT);
     let mut sum = strings_text(entry, &told.slots, STRINGS, out);
     sum += attributes_text(entry, attributes, count, out);
     let mut record = Told::<{ sys::REFACTOR_SLOTS }>::new();
-    let mut left = &entry[told.number(sys::SYMBOL_REFACTORS)..];
+    let mut left = &entry[told.number(sys::SYMBOL_REFACTORS_AT)..];
     for _ in 0..told.slots[sys::SYMBOL_REFACTOR_COUNT] {
         c::refactor_read(left, &mut record);
         sum += decoded(left, &record.slots, FORMER, out);
-        left = &left[record.number(sys::REFACTOR_NEXT)..];
+        left = &left[record.number(sys::REFACTOR_NEXT_AT)..];
     }
     sum
 }
@@ -185,6 +185,19 @@ fn modes(report: &Report, upload: &[u8], entries: usize) {
     report.row(argument, entries, times[2], times[0]);
 }
 
+/// Plain form, beside the walk: the rig was written, so it is plain, and a pass that finds it so ends in the walk's sum.
+fn plain_form(report: &Report, upload: &[u8], entries: usize) {
+    let what = "plain form (the walk, text left as bytes, in place of the Rust)";
+    let sum = ours(upload);
+    let held = || {
+        c::plain(black_box(upload));
+        sum
+    };
+    let runs = vec![plain(held), plain(|| ours(upload))];
+    let times = race(report.allowed, what, runs);
+    report.row(what, entries, times[0], times[1]);
+}
+
 pub fn rows(report: &mut Report, rig: &Rig) {
     let (upload, entries) = (rig.upload.as_slice(), rig.symbols.len());
     report.heading("walking", "ns an entry");
@@ -199,6 +212,7 @@ pub fn rows(report: &mut Report, rig: &Rig) {
         report.before("the same", entries, &times);
     }
     modes(report, upload, entries);
+    plain_form(report, upload, entries);
     let what = "walk, all text as UTF-8 on both sides";
     let mut out = vec![0; 4096];
     let runs = vec![

@@ -154,15 +154,15 @@ fn theirs_read(fields: &[Field]) -> u64 {
 /// Every string of every field decoded, where the Rust has it as a `String`. The sum is that of the lengths in UTF-8.
 fn ours_read_text(fields: &[Field], out: &mut [u8]) -> u64 {
     const STRINGS: [[usize; 2]; 3] = [
-        [sys::FIELD_NAME, sys::FIELD_NAME_LEN],
-        [sys::FIELD_TYPE_NAME, sys::FIELD_TYPE_NAME_LEN],
-        [sys::FIELD_COMMENT, sys::FIELD_COMMENT_LEN],
+        [sys::FIELD_NAME_AT, sys::FIELD_NAME_LEN],
+        [sys::FIELD_TYPE_NAME_AT, sys::FIELD_TYPE_NAME_LEN],
+        [sys::FIELD_COMMENT_AT, sys::FIELD_COMMENT_LEN],
     ];
     let mut told = Told::<{ sys::FIELD_SLOTS }>::new();
     let mut sum = 0;
     for f in fields {
         c::field_read(black_box(&f.bytes), &mut told);
-        let attributes = told.number(sys::FIELD_ATTRIBUTES);
+        let attributes = told.number(sys::FIELD_ATTRIBUTES_AT);
         let count = told.number(sys::FIELD_ATTRIBUTE_COUNT);
         sum += strings_text(&f.bytes, &told.slots, STRINGS, out);
         sum += attributes_text(&f.bytes, attributes, count, out);

@@ -2,7 +2,7 @@
 
 mod common;
 
-use common::{fed, program, repository, sample, symbol};
+use common::{Session, fed, program, repository, sample, symbol};
 
 /// What a subcommand writes of an upload that it is fed, and its status.
 fn written(words: &[&str], upload: &[u8]) -> (Vec<String>, Option<i32>) {
@@ -108,4 +108,72 @@ fn a_zero_length_has_no_order() {
         let (lines, status) = written(words, &upload);
         assert_eq!((lines.len(), status), (0, Some(1)), "{words:?}");
     }
+}
+
+/// Entries in no order: a name that stands twice, once more in another case, and begins others; one with accents, which have
+/// no case here; no name; and two that are refused, one between the others and one at the end.
+fn few() -> Vec<u8> {
+    let mut upload = Vec::new();
+    for name in ["MAIN.stLens", "GVL.b", "main.stlens"] {
+        upload.extend(symbol(name.as_bytes(), b"REAL", 7, &[]));
+    }
+    upload.extend([31, 0, 0, 0].iter().chain(&[0xFF; 27]));
+    for name in [
+        "MAIN.stLens",
+        "",
+        "Main.stLens.fZoom",
+        "MAIN.stLen",
+        "gvl.A",
+    ] {
+        upload.extend(symbol(name.as_bytes(), b"INT", 9, &[]));
+    }
+    upload.extend(symbol(b"MAIN.\xC4hre", b"INT", 9, &[]));
+    upload.extend(symbol(b"MAIN.\xE4hre", b"INT", 9, &[]));
+    upload.extend([40, 0, 0, 0, 0]);
+    upload
+}
+
+/// An upload of which the walk stays at a length of 0 behind an entry.
+fn stood() -> Vec<u8> {
+    let mut upload = symbol(b"MAIN.a", b"INT", 9, &[]);
+    upload.extend([0; 4]);
+    upload
+}
+
+#[test]
+fn a_branch_in_words() {
+    let mut session = Session::new(repository());
+    session.run(&["branch", "samples/rig.bin", "MAIN.stLens"]);
+    session.run(&["branch", "samples/rig.hex", "main.STLENS.a", "--json"]);
+    for text in [
+        "main.ST",
+        "MAIN.stLens",
+        "gvl.",
+        "MAIN.Ä",
+        "MAIN.ä",
+        "",
+        "MAIN.stLensX",
+        "MAIN.Ω",
+    ] {
+        session.run_on(&["branch", "-", text], &few());
+    }
+    for text in ["mAiN.sTlEnS", ""] {
+        session.run_on(&["branch", "--json", "-", text], &few());
+    }
+    session.run_on(&["branch", "--json", "-", "main.stlensx"], &few());
+    session.run_on(&["branch", "-", ""], b"");
+    session.run_on(&["branch", "-", "MAIN."], &stood());
+    session.hold("branch.txt");
+}
+
+#[test]
+fn a_sorted_list_in_words() {
+    let mut session = Session::new(repository());
+    session.run(&["list", "--sorted", "samples/rig.bin"]);
+    session.run_on(&["list", "--sorted", "-"], &few());
+    session.run_on(&["list", "--sorted", "--json", "-"], &few());
+    session.run_on(&["list", "--sorted", "--json", "-"], b"");
+    session.run_on(&["list", "--sorted", "-"], &stood());
+    session.run_on(&["list", "--sorted", "--json", "-"], &stood());
+    session.hold("list-sorted.txt");
 }

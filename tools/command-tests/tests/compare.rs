@@ -54,8 +54,8 @@ fn written(change: impl FnOnce(&mut Lens)) -> Vec<u8> {
     }
     let numbers = SymbolNumbers {
         index_group: IndexGroup(0x4040),
-        index_offset: IndexOffset(0x511E),
-        size: 128,
+        index_offset: IndexOffset(0x50A0),
+        size: 848,
         data_type_id: 65,
         flags: flags(&lens),
         high: 0x0102,

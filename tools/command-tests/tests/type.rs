@@ -243,7 +243,7 @@ fn a_member_that_was_cut() {
         b"",
     );
     let plain = String::from_utf8(plain.stdout).unwrap();
-    let plain = plain.replacen("3,374 bytes)", "3,374 bytes, checked)", 1);
+    let plain = plain.replacen("5,574 bytes)", "5,574 bytes, checked)", 1);
     assert_eq!(String::from_utf8(checked.stdout).unwrap(), plain);
 }
 
@@ -448,12 +448,13 @@ fn the_tree_of_json_is_that_of_the_table() {
     let found: Vec<_> = json.lines().flat_map(read_json).collect();
     let table = text_of(&["type", "-"], &upload);
     let lines: Vec<_> = table.lines().skip(2).collect();
-    assert_eq!((json.lines().count(), found.len()), (7, 48));
+    let column = table.lines().nth(1).unwrap().find("from start").unwrap();
+    assert_eq!((json.lines().count(), found.len()), (11, 82));
     assert_eq!(lines.len(), found.len());
     for (line, (depth, name, offset)) in lines.iter().zip(&found) {
         let indent = " ".repeat(2 * (depth - 1));
         assert!(line[7..].starts_with(&format!("{indent}{name} ")), "{line}");
-        let from_start = line.chars().skip(68).take(10).collect::<String>();
+        let from_start = line.chars().skip(column).take(10).collect::<String>();
         assert_eq!(from_start.trim(), offset, "{line}");
     }
 }

@@ -15,13 +15,13 @@ fn told(text: &str) -> impl Iterator<Item = &str> {
     places.filter(|from| from["refusal ".len()..].starts_with(|next: char| next.is_ascii_digit()))
 }
 
-/// There are sixteen, numbered from 1 on, and whatever the command prints of one begins with its number and name.
+/// There are twenty-four, numbered from 1 on, and whatever the command prints of one begins with its number and name.
 #[test]
 fn a_refusal_has_one_name() {
     let expected = Path::new(env!("CARGO_MANIFEST_DIR")).join("tests/expected");
     let words = fs::read_to_string(expected.join("words.txt")).unwrap();
     let names = names(&words);
-    assert_eq!(names.len(), 16);
+    assert_eq!(names.len(), 24);
     for (number, name) in (1..).zip(&names) {
         assert!(name.starts_with(&format!("refusal {number}, ")), "{name}");
     }
