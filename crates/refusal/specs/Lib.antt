@@ -4,3 +4,4 @@ pub mod EndsMeant
 pub mod FiguresMeant
 pub mod Text
 pub mod ByNumber
+pub mod Phrased

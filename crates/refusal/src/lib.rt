@@ -3,13 +3,15 @@
 
 ghost use Rattle.std.specs.Prelude.{◌≡◌, ◌∷◌, [], Some};
 ghost use Rattle.refusal.specs.Refusal.{figures_of, numbered};
-ghost use Rattle.refusal.specs.Text.{text_of};
 ghost use Rattle.refusal.specs.EndBytes.{ended};
 ghost use Rattle.refusal.specs.EndsMeant.{EndsMeant};
 ghost use Rattle.refusal.specs.FiguresMeant.{FiguresMeant};
 
 use std::error::Error;
-use std::fmt;
+
+mod words;
+
+pub use crate::words::Words;
 
 /// The most bytes of an input, and of an entry that is written.
 pub const LIMIT: usize = 16777216;
@@ -138,99 +140,6 @@ impl Refusal {
     }
 }
 
-impl fmt::Display for Refusal {
-    ghost output = { λ why. Some (text_of why) };
-
-    fn fmt<W: fmt::Write>(&self, f: &mut fmt::Formatter<W>) -> fmt::Result {
-        match self {
-            Refusal::UnexpectedLength { needed, present } => write!(
-                f,
-                "unexpected length: {needed} needed, {present} present"
-            ),
-            Refusal::TooShort { needed, present } => write!(
-                f,
-                "too short: {needed} needed, {present} present"
-            ),
-            Refusal::EntryLengthMismatch { needed, available } => write!(
-                f,
-                "entry length mismatch: {needed} claimed or needed, {available} available"
-            ),
-            Refusal::ClaimBelowHeader { header, claim } => write!(
-                f,
-                "claim below the header: {header} in the header, {claim} claimed"
-            ),
-            Refusal::TooLarge { length } => write!(
-                f,
-                "too large: 16777216 at most, {length} given"
-            ),
-            Refusal::OutputTooSmall { needed, lent } => write!(
-                f,
-                "output too small: {needed} needed, {lent} lent"
-            ),
-            Refusal::TooLong { most, actual } => write!(
-                f,
-                "string or count too long: {most} at most, {actual} given"
-            ),
-            Refusal::SectionsDisagree { section } => write!(
-                f,
-                "symbol flags and sections disagree: section {section}"
-            ),
-            Refusal::BadBlock { count, good } => write!(
-                f,
-                "block is not its count of good records: {count} counted, {good} good at its start"
-            ),
-            Refusal::ZeroEntryLength => write!(f, "zero entry length: 1 at least, 0 claimed"),
-            Refusal::BadText { place, kind } => write!(f, "text: fault {kind} at byte {place}"),
-            Refusal::BadHexadecimal => write!(f, "bad hexadecimal line"),
-            Refusal::NameNotFound => write!(f, "name not found"),
-            Refusal::NoSuchNumber { count, asked } => write!(
-                f,
-                "no such number: {count} there, {asked} asked"
-            ),
-            Refusal::TooDeep => write!(
-                f,
-                "data type entries nest too deep: 16 deep at most, 17 deep met"
-            ),
-            Refusal::EndByte { place, byte } => write!(
-                f,
-                "end byte is not 0: {byte} at byte {place}"
-            ),
-            Refusal::NotInSheet { entry, reason } => write!(
-                f,
-                "not for a sheet: entry {entry}, reason {reason}"
-            ),
-            Refusal::BadSheet { row, column } => write!(f, "bad sheet: row {row}, column {column}"),
-            Refusal::NotPlain { place } => write!(f, "not in plain form: byte {place} departs"),
-            Refusal::BadPath { place } => write!(f, "no path of a variable: fault at byte {place}"),
-            Refusal::NoSuchMember { place } => {
-                write!(f, "name not found: no member at byte {place} of the path")
-            }
-            Refusal::NoSuchType { place } => {
-                write!(
-                    f,
-                    "name not found: no data type at byte {place} of the path"
-                )
-            }
-            Refusal::WrongDimensions { place, dimensions } => write!(
-                f,
-                "wrong dimensions: subscripts at byte {place} of the path, {dimensions} dimensions there"
-            ),
-            Refusal::NoOffset { place, flag } => write!(
-                f,
-                "no offset: flag {flag} at byte {place} of the path"
-            ),
-            Refusal::OffsetTooLarge { offset } => write!(
-                f,
-                "index offset too large: 4294967295 at most, {offset} here"
-            ),
-            Refusal::TooManyAliases { place } => write!(
-                f,
-                "too many aliases: more than 16 at byte {place} of the path"
-            ),
-        }
-    }
-}
-
 impl Error for Refusal {}
 
 fn numbered(number: u32, expected: usize, got: usize) -> Figures
@@ -261,7 +170,7 @@ pub fn ends_meant()
     ensures { EndsMeant }
 {}
 
-/// A number from 1 to 25 and its two figures tell which refusal it is and what it is made of.
+/// The numbers are 1 to 24, and a number with its two figures tells which refusal it is and what it is made of.
 pub fn figures_meant()
     ensures { FiguresMeant }
 {}

@@ -1,2 +1,2 @@
-mod Spoken
+mod Short
 mod Meant

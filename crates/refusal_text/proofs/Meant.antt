@@ -1,5 +1,5 @@
 -- The text of a number and two figures: proved.
-use Rattle.std.proofs.Common.{ℕ, ◌≡◌, ◌+◌, ◌%◌, ◌<◌, ◌≤◌, ◌^◌, refl, sym, ap, subst, ◌∙◌, Bool, true, false, List, [], ◌++◌, length, length-append, append-nil, arith, Ok, Err}
+use Rattle.std.proofs.Common.{ℕ, ◌≡◌, ◌+◌, ◌%◌, ◌<◌, ◌≤◌, ◌^◌, refl, ap, subst, Bool, true, false, List, [], ◌++◌, length, length-append, arith, Ok, Err}
 use Rattle.std.specs.Prelude.{Option, Some, None, codes, decimal, eqb, if◌then◌else◌}
 use Rattle.std.proofs.lemmas.Fmt.{length-decimal-le}
 use borrow.Author.Tests.{ne_eqb}
@@ -137,14 +137,6 @@ two_long before n between m after h k l =
       l,
     )
 
--- the same without words behind the last figure
-last_long : (before : List ℕ) (n : ℕ) → n < 2 ^ 64 → length before ≤ 108 → length (before ++ decimal n) ≤ 128
-last_long before n h l = omega (arith, length-append before (decimal n), decimal_most n h, l)
-
-lasts_long : (before : List ℕ) (n : ℕ) (between : List ℕ) (m : ℕ) → n < 2 ^ 64 → m < 2 ^ 64 → length before + length between ≤ 88 → length (before ++ (decimal n ++ (between ++ decimal m))) ≤ 128
-lasts_long before n between m h k l =
-    omega (arith, length-append before (decimal n ++ (between ++ decimal m)), length-append (decimal n) (between ++ decimal m), length-append between (decimal m), decimal_most n h, decimal_most m k, l)
-
 -- what is written of an answer to which refusal it is
 abbrev Short : ℕ → Option Refusal → Type 0
 Short number o = (text : List ℕ) → text_if number o ≡ Ok text → length text ≤ 128
@@ -181,19 +173,19 @@ short number e g h k =
     (pick number (TooLarge g) _ (eqb number 5) (one_long (codes "too large: 16777216 at most, ") g (codes " given") k (omega arith))
     (pick number (OutputTooSmall e g) _ (eqb number 6) (two_long (codes "output too small: ") e (codes " needed, ") g (codes " lent") h k (omega arith))
     (pick number (TooLong e g) _ (eqb number 7) (two_long (codes "string or count too long: ") e (codes " at most, ") g (codes " given") h k (omega arith))
-    (pick number (SectionsDisagree e) _ (eqb number 8) (last_long (codes "symbol flags and sections disagree: section ") e h (omega arith))
+    (pick number (SectionsDisagree e) _ (eqb number 8) (one_long (codes "symbol flags and sections disagree: section ") e [] h (omega arith))
     (pick number (BadBlock e g) _ (eqb number 9) (two_long (codes "block is not its count of good records: ") e (codes " counted, ") g (codes " good at its start") h k (omega arith))
     (pick number ZeroEntryLength _ (eqb number 10) (omega arith)
-    (pick number (BadText e g) _ (eqb number 11) (lasts_long (codes "text: fault ") g (codes " at byte ") e k h (omega arith))
+    (pick number (BadText e g) _ (eqb number 11) (two_long (codes "text: fault ") g (codes " at byte ") e [] k h (omega arith))
     (pick number BadHexadecimal _ (eqb number 12) (omega arith)
     (pick number (unfound e g) _ (eqb number 13) (unfound_short e g h)
     (pick number (NoSuchNumber e g) _ (eqb number 14) (two_long (codes "no such number: ") e (codes " there, ") g (codes " asked") h k (omega arith))
     (pick number TooDeep _ (eqb number 15) (omega arith)
-    (pick number (EndByte e (g % 256)) _ (eqb number 16) (lasts_long (codes "end byte is not 0: ") (g % 256) (codes " at byte ") e low h (omega arith))
-    (pick number (NotInSheet e g) _ (eqb number 17) (lasts_long (codes "not for a sheet: entry ") e (codes ", reason ") g h k (omega arith))
-    (pick number (BadSheet e g) _ (eqb number 18) (lasts_long (codes "bad sheet: row ") e (codes ", column ") g h k (omega arith))
+    (pick number (EndByte e (g % 256)) _ (eqb number 16) (two_long (codes "end byte is not 0: ") (g % 256) (codes " at byte ") e [] low h (omega arith))
+    (pick number (NotInSheet e g) _ (eqb number 17) (two_long (codes "not for a sheet: entry ") e (codes ", reason ") g [] h k (omega arith))
+    (pick number (BadSheet e g) _ (eqb number 18) (two_long (codes "bad sheet: row ") e (codes ", column ") g [] h k (omega arith))
     (pick number (NotPlain e) _ (eqb number 19) (one_long (codes "not in plain form: byte ") e (codes " departs") h (omega arith))
-    (pick number (BadPath e) _ (eqb number 20) (last_long (codes "no path of a variable: fault at byte ") e h (omega arith))
+    (pick number (BadPath e) _ (eqb number 20) (one_long (codes "no path of a variable: fault at byte ") e [] h (omega arith))
     (pick number (WrongDimensions e g) _ (eqb number 21) (two_long (codes "wrong dimensions: subscripts at byte ") e (codes " of the path, ") g (codes " dimensions there") h k (omega arith))
     (pick number (NoOffset e g) _ (eqb number 22) (two_long (codes "no offset: flag ") g (codes " at byte ") e (codes " of the path") k h (omega arith))
     (pick number (OffsetTooLarge g) _ (eqb number 23) (one_long (codes "index offset too large: 4294967295 at most, ") g (codes " here") k (omega arith))

@@ -1,3 +1,2 @@
 pub mod Told
-pub mod Phrases
 pub mod Meant

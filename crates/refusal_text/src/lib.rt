@@ -2,15 +2,15 @@
 #![tactic(auto)]
 
 ghost use Rattle.std.specs.Prelude.{◌≡◌, ◌+◌, ◌≤◌, length};
-ghost use Rattle.refusal.specs.Text.{text_of};
+ghost use Rattle.refusal.specs.Text.{phrases_of, text_of, figure};
+ghost use Rattle.refusal.specs.Phrased.{Phrased};
 ghost use Rattle.le.specs.Put.{Wrote};
 ghost use Rattle.writing.specs.Writing.{Writes};
 ghost use Rattle.refusal_text.specs.Told.{refusal_of, refusal_from_10, unfound, writing_text};
-ghost use Rattle.refusal_text.specs.Phrases.{phrases_of, figure};
 ghost use Rattle.refusal_text.specs.Meant.{TextsMeant};
 
 use itoa::Buffer;
-use refusal::Refusal;
+use refusal::{Refusal, Words};
 
 // The refusals are numbered from 1 to this.
 const NUMBERS: usize = 24;
@@ -117,108 +117,13 @@ fn unfound(place: usize, kind: usize) -> Refusal
     }
 }
 
-// The words before the first figure.
-fn before_figures(why: Refusal) -> &'static str
-    ensures text { result.now ≡ (phrases_of why).before }
-    ensures small { length result.now ≤ 61 }
+// The words of a refusal, which are few.
+#[tactic(auto, using(crate::proofs::Short::words_short))]
+fn words_of(why: Refusal) -> Words
+    ensures value { Phrased (phrases_of why) result }
+    ensures small { length result.before.now + length result.between.now + length result.after.now ≤ 88 }
 {
-    match why {
-        Refusal::UnexpectedLength { .. } => "unexpected length: ",
-        Refusal::TooShort { .. } => "too short: ",
-        Refusal::EntryLengthMismatch { .. } => "entry length mismatch: ",
-        Refusal::ClaimBelowHeader { .. } => "claim below the header: ",
-        Refusal::TooLarge { .. } => "too large: 16777216 at most, ",
-        Refusal::OutputTooSmall { .. } => "output too small: ",
-        Refusal::TooLong { .. } => "string or count too long: ",
-        Refusal::SectionsDisagree { .. } => "symbol flags and sections disagree: section ",
-        Refusal::BadBlock { .. } => "block is not its count of good records: ",
-        Refusal::ZeroEntryLength => "zero entry length: 1 at least, 0 claimed",
-        Refusal::BadText { .. } => "text: fault ",
-        Refusal::BadHexadecimal => "bad hexadecimal line",
-        Refusal::NameNotFound => "name not found",
-        Refusal::NoSuchNumber { .. } => "no such number: ",
-        Refusal::TooDeep => "data type entries nest too deep: 16 deep at most, 17 deep met",
-        Refusal::EndByte { .. } => "end byte is not 0: ",
-        Refusal::NotInSheet { .. } => "not for a sheet: entry ",
-        Refusal::BadSheet { .. } => "bad sheet: row ",
-        Refusal::NotPlain { .. } => "not in plain form: byte ",
-        Refusal::BadPath { .. } => "no path of a variable: fault at byte ",
-        Refusal::NoSuchMember { .. } => "name not found: no member at byte ",
-        Refusal::NoSuchType { .. } => "name not found: no data type at byte ",
-        Refusal::WrongDimensions { .. } => "wrong dimensions: subscripts at byte ",
-        Refusal::NoOffset { .. } => "no offset: flag ",
-        Refusal::OffsetTooLarge { .. } => "index offset too large: 4294967295 at most, ",
-        Refusal::TooManyAliases { .. } => "too many aliases: more than 16 at byte ",
-    }
-}
-
-// The words between the figures, and behind the second.
-fn behind_figures(why: Refusal) -> (&'static str, &'static str)
-    ensures text { (result.0.now ≡ (phrases_of why).between) × (result.1.now ≡ (phrases_of why).after) }
-    ensures small { (length result.0.now ≤ 20) × (length result.1.now ≤ 19) }
-{
-    match why {
-        Refusal::UnexpectedLength { .. } => (" needed, ", " present"),
-        Refusal::TooShort { .. } => (" needed, ", " present"),
-        Refusal::EntryLengthMismatch { .. } => (" claimed or needed, ", " available"),
-        Refusal::ClaimBelowHeader { .. } => (" in the header, ", " claimed"),
-        Refusal::TooLarge { .. } => (" given", ""),
-        Refusal::OutputTooSmall { .. } => (" needed, ", " lent"),
-        Refusal::TooLong { .. } => (" at most, ", " given"),
-        Refusal::BadBlock { .. } => (" counted, ", " good at its start"),
-        Refusal::BadText { .. } => (" at byte ", ""),
-        Refusal::NoSuchNumber { .. } => (" there, ", " asked"),
-        Refusal::EndByte { .. } => (" at byte ", ""),
-        Refusal::NotInSheet { .. } => (", reason ", ""),
-        Refusal::BadSheet { .. } => (", column ", ""),
-        Refusal::NotPlain { .. } => (" departs", ""),
-        Refusal::NoSuchMember { .. } => (" of the path", ""),
-        Refusal::NoSuchType { .. } => (" of the path", ""),
-        Refusal::WrongDimensions { .. } => (" of the path, ", " dimensions there"),
-        Refusal::NoOffset { .. } => (" at byte ", " of the path"),
-        Refusal::OffsetTooLarge { .. } => (" here", ""),
-        Refusal::TooManyAliases { .. } => (" of the path", ""),
-        Refusal::BadPath { .. }
-        | Refusal::SectionsDisagree { .. }
-        | Refusal::ZeroEntryLength
-        | Refusal::BadHexadecimal
-        | Refusal::NameNotFound
-        | Refusal::TooDeep => ("", ""),
-    }
-}
-
-// The figures that are told, in the order of the text.
-fn figures_told(why: Refusal) -> (Option<usize>, Option<usize>)
-    ensures { (result.0 ≡ (phrases_of why).first) × (result.1 ≡ (phrases_of why).second) }
-{
-    match why {
-        Refusal::UnexpectedLength { needed, present } => (Some(needed), Some(present)),
-        Refusal::TooShort { needed, present } => (Some(needed), Some(present)),
-        Refusal::EntryLengthMismatch { needed, available } => (Some(needed), Some(available)),
-        Refusal::ClaimBelowHeader { header, claim } => (Some(header), Some(claim)),
-        Refusal::TooLarge { length } => (Some(length), None),
-        Refusal::OutputTooSmall { needed, lent } => (Some(needed), Some(lent)),
-        Refusal::TooLong { most, actual } => (Some(most), Some(actual)),
-        Refusal::SectionsDisagree { section } => (Some(section), None),
-        Refusal::BadBlock { count, good } => (Some(count), Some(good)),
-        Refusal::BadText { place, kind } => (Some(kind), Some(place)),
-        Refusal::NoSuchNumber { count, asked } => (Some(count), Some(asked)),
-        Refusal::EndByte { place, byte } => (Some(byte as usize), Some(place)),
-        Refusal::NotInSheet { entry, reason } => (Some(entry), Some(reason)),
-        Refusal::BadSheet { row, column } => (Some(row), Some(column)),
-        Refusal::NotPlain { place } => (Some(place), None),
-        Refusal::BadPath { place } => (Some(place), None),
-        Refusal::NoSuchMember { place } => (Some(place), None),
-        Refusal::NoSuchType { place } => (Some(place), None),
-        Refusal::WrongDimensions { place, dimensions } => (Some(place), Some(dimensions)),
-        Refusal::NoOffset { place, flag } => (Some(flag), Some(place)),
-        Refusal::OffsetTooLarge { offset } => (Some(offset), None),
-        Refusal::TooManyAliases { place } => (Some(place), None),
-        Refusal::ZeroEntryLength
-        | Refusal::BadHexadecimal
-        | Refusal::NameNotFound
-        | Refusal::TooDeep => (None, None),
-    }
+    why.words()
 }
 
 fn figure_size(told: Option<usize>) -> usize
@@ -243,10 +148,9 @@ fn put_figure(out: &mut [u8], at: usize, told: Option<usize>) -> usize
 fn text_size(why: Refusal) -> usize
     ensures { result ≡ length (text_of why) }
 {
-    let (between, after) = behind_figures(why);
-    let (first, second) = figures_told(why);
-    let words = before_figures(why).len() + between.len() + after.len();
-    words + figure_size(first) + figure_size(second)
+    let words = words_of(why);
+    let length = words.before.len() + words.between.len() + words.after.len();
+    length + figure_size(words.first) + figure_size(words.second)
 }
 
 // Writes the text at the start of what is known to have room for it.
@@ -254,13 +158,12 @@ fn put_text(out: &mut [u8], why: Refusal) -> usize
     requires { length (text_of why) ≤ length out.old }
     ensures { Wrote out.old 0 (text_of why) out.new result }
 {
-    let (between, after) = behind_figures(why);
-    let (first, second) = figures_told(why);
-    let a = le::put_bytes(out, 0, before_figures(why).as_bytes());
-    let b = put_figure(out, a, first);
-    let c = le::put_bytes(out, b, between.as_bytes());
-    let d = put_figure(out, c, second);
-    le::put_bytes(out, d, after.as_bytes())
+    let words = words_of(why);
+    let a = le::put_bytes(out, 0, words.before.as_bytes());
+    let b = put_figure(out, a, words.first);
+    let c = le::put_bytes(out, b, words.between.as_bytes());
+    let d = put_figure(out, c, words.second);
+    le::put_bytes(out, d, words.after.as_bytes())
 }
 
 /// Writes the text of the refusal that has this number and these figures, and gives how many bytes it is: the text that a

@@ -1,6 +1,6 @@
 use Rattle.std.proofs.Common.{sym, ap, arith}
 use Rattle.le.proofs.Laws.{wrote_none, same_bytes}
-use Rattle.refusal_text.specs.Phrases.{figure}
+use Rattle.refusal.specs.Text.{figure}
 use Rattle.refusal_text.proofs.put_figure.Goals as goal
 
 pub returns-in_default : goal.returns-in_default

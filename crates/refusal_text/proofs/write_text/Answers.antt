@@ -1,4 +1,4 @@
-use Rattle.std.proofs.Common.{◌≡◌, ◌∙◌, ◌+◌, sym, arith}
+use Rattle.std.proofs.Common.{◌∙◌, sym, arith}
 use Rattle.le.proofs.Laws.{wrote}
 use Rattle.writing.proofs.Laws.{refuses, too_small, done}
 use Rattle.refusal_text.proofs.Meant.{written, not_written}
