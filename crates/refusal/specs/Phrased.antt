@@ -1,4 +1,4 @@
--- The words of a refusal as the code holds them.
+-- docs/FORMAT.md, "Refusals": the words of a refusal as the code holds them.
 use Rattle.std.specs.Prelude.{◌≡◌}
 use Rattle.refusal.specs.declared.words.Words.{Words}
 use Rattle.refusal.specs.Text.{Phrases}
