@@ -5,6 +5,7 @@ use alloc::{vec, vec::Vec};
 use core::iter::FusedIterator;
 use core::slice;
 
+use crate::calls;
 use crate::mode::Mode;
 use crate::refusal::Refusal;
 use crate::sys;
@@ -97,23 +98,13 @@ impl<'s> Index<'s> {
         name: impl AsRef<[u8]>,
         mode: Mode,
     ) -> Result<usize, Refusal> {
-        let name = name.as_ref();
-        let starts = self.starts;
-        let mut answer = [0; 2];
-        // SAFETY: each pointer stands with its slice's own length; answer is lent for the call.
-        let status = unsafe {
-            sys::vindaskot_find_indexed_in(
-                data.as_ptr(),
-                data.len(),
-                mode.is_checked(),
-                starts.as_ptr(),
-                starts.len(),
-                name.as_ptr(),
-                name.len(),
-                &mut answer,
-            )
-        };
-        Ok(done(status, answer)?[0])
+        calls::find_through(
+            sys::vindaskot_find_indexed_in,
+            data,
+            mode,
+            self.starts,
+            name.as_ref(),
+        )
     }
 }
 
@@ -177,19 +168,7 @@ fn fill(data: &[u8], slots: &mut [u32]) -> Result<usize, Refusal> {
 }
 
 fn fill_in(data: &[u8], slots: &mut [u32], mode: Mode) -> Result<usize, Refusal> {
-    let mut answer = [0; 2];
-    // SAFETY: each pointer stands with its slice's own length; slots is borrowed alone, so it overlaps nothing.
-    let status = unsafe {
-        sys::vindaskot_index_build_in(
-            data.as_ptr(),
-            data.len(),
-            mode.is_checked(),
-            slots.as_mut_ptr(),
-            slots.len(),
-            &mut answer,
-        )
-    };
-    Ok(done(status, answer)?[0])
+    calls::build(sys::vindaskot_index_build_in, data, mode, slots)
 }
 
 /// [`room`] of the largest upload, for slots that are set aside once for all uploads.
@@ -303,18 +282,5 @@ pub fn find(data: &[u8], name: impl AsRef<[u8]>) -> Result<usize, Refusal> {
 
 /// The same in a mode: in the checked one a symbol that is refused for an end byte is passed over.
 pub fn find_in(data: &[u8], name: impl AsRef<[u8]>, mode: Mode) -> Result<usize, Refusal> {
-    let name = name.as_ref();
-    let mut answer = [0; 2];
-    // SAFETY: each pointer stands with its slice's own length; answer is lent for the call.
-    let status = unsafe {
-        sys::vindaskot_find_in(
-            data.as_ptr(),
-            data.len(),
-            mode.is_checked(),
-            name.as_ptr(),
-            name.len(),
-            &mut answer,
-        )
-    };
-    Ok(done(status, answer)?[0])
+    calls::find_first(sys::vindaskot_find_in, data, mode, name.as_ref())
 }

@@ -13,6 +13,7 @@ extern crate alloc;
 pub mod attributes;
 pub mod bind;
 pub mod block;
+mod calls;
 pub mod captures;
 pub mod data_type;
 pub mod field;

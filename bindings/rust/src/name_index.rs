@@ -7,6 +7,7 @@ use core::slice;
 #[cfg(feature = "alloc")]
 use alloc::{vec, vec::Vec};
 
+use crate::calls;
 use crate::data_type::DataType;
 use crate::index::Starts;
 #[cfg(feature = "alloc")]
@@ -17,17 +18,6 @@ use crate::symbol::AdsSymbolInfo;
 use crate::sys;
 use crate::told::{done, needed};
 
-type Build = unsafe extern "C" fn(*const u8, usize, bool, *mut u32, usize, &mut [u64; 2]) -> u32;
-type Find = unsafe extern "C" fn(
-    *const u8,
-    usize,
-    bool,
-    *const u32,
-    usize,
-    *const u8,
-    usize,
-    &mut [u64; 2],
-) -> u32;
 type Branch = unsafe extern "C" fn(
     *const u8,
     usize,
@@ -44,8 +34,8 @@ type Branch = unsafe extern "C" fn(
 mod sealed {
     /// The calls of a kind of entry.
     pub trait Calls {
-        const BUILD: super::Build;
-        const FIND: super::Find;
+        const BUILD: crate::calls::Build;
+        const FIND: crate::calls::FindThrough;
         const BRANCH: super::Branch;
         const BRANCH_ORDERED: super::Branch;
     }
@@ -75,8 +65,8 @@ impl Named for AdsSymbolInfo<'_> {
 }
 
 impl Calls for AdsSymbolInfo<'_> {
-    const BUILD: Build = sys::vindaskot_name_index_build_in;
-    const FIND: Find = sys::vindaskot_find_ordered_in;
+    const BUILD: calls::Build = sys::vindaskot_name_index_build_in;
+    const FIND: calls::FindThrough = sys::vindaskot_find_ordered_in;
     const BRANCH: Branch = sys::vindaskot_branch_in;
     const BRANCH_ORDERED: Branch = sys::vindaskot_branch_ordered_in;
 }
@@ -90,8 +80,8 @@ impl Named for DataType<'_> {
 }
 
 impl Calls for DataType<'_> {
-    const BUILD: Build = sys::vindaskot_type_name_index_build_in;
-    const FIND: Find = sys::vindaskot_type_find_ordered_in;
+    const BUILD: calls::Build = sys::vindaskot_type_name_index_build_in;
+    const FIND: calls::FindThrough = sys::vindaskot_type_find_ordered_in;
     const BRANCH: Branch = sys::vindaskot_type_branch_in;
     const BRANCH_ORDERED: Branch = sys::vindaskot_type_branch_ordered_in;
 }
@@ -197,22 +187,7 @@ impl<'a, 's, E: Named> NameIndex<'a, 's, E> {
     ///
     /// [`TooLarge`](crate::RefusalKind::TooLarge), [`NameNotFound`](crate::RefusalKind::NameNotFound).
     pub fn find(&self, name: impl AsRef<[u8]>) -> Result<usize, Refusal> {
-        let name = name.as_ref();
-        let mut answer = [0; 2];
-        // SAFETY: each pointer stands with its slice's own length; answer is lent for the call.
-        let status = unsafe {
-            E::FIND(
-                self.data.as_ptr(),
-                self.data.len(),
-                self.mode.is_checked(),
-                self.starts.as_ptr(),
-                self.starts.len(),
-                name.as_ptr(),
-                name.len(),
-                &mut answer,
-            )
-        };
-        Ok(done(status, answer)?[0])
+        calls::find_through(E::FIND, self.data, self.mode, self.starts, name.as_ref())
     }
 
     /// Stores in `out` where the entries start whose names begin with a text, in the order of the names, by halving,
@@ -558,19 +533,7 @@ pub fn starts_by_name_to_vec<E: Named>(data: &[u8], mode: Mode) -> Result<Vec<u3
 }
 
 fn fill<E: Named>(data: &[u8], mode: Mode, slots: &mut [u32]) -> Result<usize, Refusal> {
-    let mut answer = [0; 2];
-    // SAFETY: each pointer stands with its slice's own length; slots is borrowed alone, so it overlaps nothing.
-    let status = unsafe {
-        E::BUILD(
-            data.as_ptr(),
-            data.len(),
-            mode.is_checked(),
-            slots.as_mut_ptr(),
-            slots.len(),
-            &mut answer,
-        )
-    };
-    Ok(done(status, answer)?[0])
+    calls::build(E::BUILD, data, mode, slots)
 }
 
 fn ask(

@@ -3,10 +3,11 @@
 #[cfg(feature = "alloc")]
 use alloc::{vec, vec::Vec};
 
+use crate::calls;
 use crate::mode::Mode;
 use crate::refusal::Refusal;
 use crate::sys;
-use crate::told::{done, needed};
+use crate::told::needed;
 
 /// Where the accepted data types of an upload start, in order, in lent slots.
 ///
@@ -60,22 +61,13 @@ impl<'s> DataTypeIndex<'s> {
     /// Where the first data type of that name starts in `data`, by the starts in order. Names are compared as
     /// [`find_data_type`] compares them. Refusals: 5, 13.
     pub fn find(&self, data: &[u8], name: &[u8], mode: Mode) -> Result<usize, Refusal> {
-        let starts = self.starts;
-        let mut answer = [0; 2];
-        // SAFETY: each pointer stands with its slice's own length; answer is lent for the call.
-        let status = unsafe {
-            sys::vindaskot_type_find_indexed_in(
-                data.as_ptr(),
-                data.len(),
-                mode.is_checked(),
-                starts.as_ptr(),
-                starts.len(),
-                name.as_ptr(),
-                name.len(),
-                &mut answer,
-            )
-        };
-        Ok(done(status, answer)?[0])
+        calls::find_through(
+            sys::vindaskot_type_find_indexed_in,
+            data,
+            mode,
+            self.starts,
+            name,
+        )
     }
 }
 
@@ -98,33 +90,9 @@ pub fn type_starts_to_vec(data: &[u8], mode: Mode) -> Result<Vec<u32>, Refusal> 
 /// Names are compared as [`find`](crate::find) compares those of symbols: A to Z equal a to z, and every other byte equals
 /// only itself.
 pub fn find_data_type(data: &[u8], name: &[u8], mode: Mode) -> Result<usize, Refusal> {
-    let mut answer = [0; 2];
-    // SAFETY: each pointer stands with its slice's own length; answer is lent for the call.
-    let status = unsafe {
-        sys::vindaskot_type_find_in(
-            data.as_ptr(),
-            data.len(),
-            mode.is_checked(),
-            name.as_ptr(),
-            name.len(),
-            &mut answer,
-        )
-    };
-    Ok(done(status, answer)?[0])
+    calls::find_first(sys::vindaskot_type_find_in, data, mode, name)
 }
 
 fn fill(data: &[u8], slots: &mut [u32], mode: Mode) -> Result<usize, Refusal> {
-    let mut answer = [0; 2];
-    // SAFETY: each pointer stands with its slice's own length; slots is borrowed alone, so it overlaps nothing.
-    let status = unsafe {
-        sys::vindaskot_type_index_build_in(
-            data.as_ptr(),
-            data.len(),
-            mode.is_checked(),
-            slots.as_mut_ptr(),
-            slots.len(),
-            &mut answer,
-        )
-    };
-    Ok(done(status, answer)?[0])
+    calls::build(sys::vindaskot_type_index_build_in, data, mode, slots)
 }
