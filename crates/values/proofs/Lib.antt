@@ -1,1 +1,2 @@
-mod Told
+pub mod Told
+pub mod Bits
