@@ -1,0 +1,5 @@
+pub mod Facts
+pub mod Rows
+pub mod Show
+pub mod Seen
+pub mod Meant
