@@ -1,11 +1,11 @@
 -- Each byte of an entry in its place of the picture.
-use Rattle.std.proofs.Common.{ℕ, zero, suc, ◌+◌, ◌-◌, ◌*◌, ◌/◌, ◌%◌, ◌<◌, ◌≤◌, ◌≡◌, Bool, true, false, T, List, [], ◌∷◌, ◌++◌, codes, decimal, get_or, length, map, take, drop, refl, sym, ap, ap₂, subst, ◌∙◌, append_assoc, append-nil, length-take, length-drop, drop-drop, arith, Bor, eqb→eq}
-use Rattle.std.specs.Prelude.{◌==◌, ◌&&◌, eqb, min, nat_lt, nat_le, replicate, slice_range, filter, Contains, if◌then◌else◌}
+use Rattle.std.proofs.Common.{ℕ, zero, suc, ◌+◌, ◌-◌, ◌*◌, ◌/◌, ◌%◌, ◌<◌, ◌≤◌, ◌≡◌, Bool, true, false, List, [], ◌∷◌, ◌++◌, codes, decimal, get_or, length, take, drop, refl, sym, ap, ap₂, subst, ◌∙◌, append_assoc, append-nil, length-take, length-drop, arith, Bor, eqb→eq}
+use Rattle.std.specs.Prelude.{◌==◌, ◌&&◌, eqb, min, nat_lt, nat_le, replicate, filter, Contains, if◌then◌else◌}
 use Rattle.std.specs.Int.{div_ceil}
 use Rattle.std.specs.List.{flat_map, join_by, list_any, range_with_len}
-use Rattle.std.proofs.lemmas.List.{get_or-take, get_or-drop, drop-take, take-take, map-append}
+use Rattle.std.proofs.lemmas.List.{get_or-take, get_or-drop}
 use Rattle.std.proofs.lemmas.List.Elements.{Contains-append_right}
-use borrow.Author.Tests.{eqb-true, eqb-false, leb-true}
+use borrow.Author.Tests.{eqb-true, leb-true}
 use Rattle.text.proofs.Table.{below_at}
 use Rattle.part.specs.Slice.{part}
 use Rattle.wording.specs.Text.{pair}
@@ -19,13 +19,12 @@ use Rattle.sections.proofs.Cutting.{sections_laid}
 use Rattle.sections.specs.declared.Part.{Part}
 use Rattle.sections.specs.declared.Part.TheVariants.{Length, Group, Offset, Size, TypeId, Flags, High, StringLengths, Name, «Type», Comment, Guid, AttributeCount, Attribute, ExtendedFlags, FormerName, Unread}
 use Rattle.sections.specs.declared.Section.{Section}
-use Rattle.symbol.specs.declared.AdsSymbolInfo.{AdsSymbolInfo}
-use Rattle.picture.specs.Rows.{by_turns, colour, paint, unpaint, bytes_within, pairs_text, rule, section_text, label, name_text, behind, within, ends_at, ends_by, row_text, row_of, picture_text}
+use Rattle.picture.specs.Rows.{colour, paint, unpaint, bytes_within, pairs_text, rule, section_text, label, name_text, behind, within, ends_at, ends_by, row_text, row_of, picture_text}
 use Rattle.picture.specs.Seen.{none, Shows}
 use Rattle.picture.specs.Seen as seen
 use Rattle.picture.specs.Meant.{in_colour, before, AreBytes, stands_in, name_seen, names_seen, IsRow, AreRows, IsPicture, PictureMeant}
 use Rattle.picture.specs.Meant as meant
-use Rattle.picture.proofs.Drawn.{IsClear, clear, clear_append, clear_cons, clear_spaces, clear_decimal, clear_bytes, Drawn, drawn_nil, drawn_append, drawn_plain, IsColour, drawn_coloured}
+use Rattle.picture.proofs.Drawn.{IsClear, clear_append, clear_cons, clear_spaces, clear_decimal, clear_bytes, Drawn, drawn_nil, drawn_append, drawn_plain, IsColour, drawn_coloured}
 
 -- colours are digits and semicolons
 few_by : (b : Bool) (s t : List ℕ) → IsColour s → IsColour t → IsColour (if b then s else t)
@@ -212,7 +211,7 @@ all_bytes e all start end x (b ∷ bs) m more is own long some to h =
     let tail : List (ℕ × List ℕ) = in_colour (colour x.part) (flat_map (λ b. codes " " ++ pair b) bs) ++ more in
     let first : in_colour none (rule (nat_le start x.at)) ≡ before x start i ∷ [] = first_before start x _ _ _ refl refl refl in
     let rest : AreBytes e all start end (i + 1) tail = more_bytes e all start end (i + 1) x bs more is (stands_more e i b bs own) (omega arith) (omega arith) (omega arith)
-        (subst (λ (k : ℕ). AreBytes e all start end k more) (omega arith) h) in
+    (subst (λ (k : ℕ). AreBytes e all start end k more) (omega arith) h) in
     subst (λ (l : List (ℕ × List ℕ)). AreBytes e all start end i ((l ++ in_colour (colour x.part) (pair b ++ flat_map (λ b. codes " " ++ pair b) bs)) ++ more)) (sym first)
     (one_byte e all start end i b x (before x start i) tail is refl (stands_first e i b bs own) (omega arith) (omega arith) rest)
 
@@ -229,7 +228,7 @@ section_bytes e all start end x more is laid inside reaches begins some long_own
     let here : a ≡ start - x.at = omega arith in
     let cut : bytes_within start end x ≡ take m (drop a (take n (drop x.at e.now))) = ap (λ (s : List ℕ). take m (drop a s)) own in
     let stand : Stands e.now (first_in start x) (bytes_within start end x) =
-        subst (λ (s : List ℕ). Stands e.now (first_in start x) s) (sym cut) (subst (λ (k : ℕ). Stands e.now k (take m (drop a (take n (drop x.at e.now))))) (ap (λ (k : ℕ). x.at + k) here) (slice_stands e.now x.at n a m (omega arith))) in
+    subst (λ (s : List ℕ). Stands e.now (first_in start x) s) (sym cut) (subst (λ (k : ℕ). Stands e.now k (take m (drop a (take n (drop x.at e.now))))) (ap (λ (k : ℕ). x.at + k) here) (slice_stands e.now x.at n a m (omega arith))) in
     let long : length (bytes_within start end x) ≡ m = ap length cut ∙ slice_long e.now x.at n a m (omega arith) inside in
     all_bytes e.now all start end x (bytes_within start end x) m more is stand long (omega arith) (omega arith) (subst (λ (k : ℕ). AreBytes e.now all start end k more) (omega arith) h)
 
@@ -297,8 +296,8 @@ row_bytes e all start end at (x ∷ more) low among laid early some fits =
         let own : x.bytes ≡ part e x.at n = subst (λ (q : ℕ). x.bytes ≡ part e q n) (sym laid.0) laid.2 in
         let rest : AreBytes e.now all start end (min (at + n) end) (all_seen start end (within end more)) = begun_bytes e all start end (at + n) more low (among_tail all x more among) laid.3 (omega arith) some fits in
         let here : AreBytes e.now all start end (first_in start x) (all_seen start end (x ∷ within end more)) =
-            section_bytes e all start end x (all_seen start end (within end more)) (record { low = low; among = among_head all x more among }) own (omega arith) reaches (omega arith) some laid.1
-            (subst (λ (q : ℕ). AreBytes e.now all start end q (all_seen start end (within end more))) (ap (λ (q : ℕ). min (q + n) end) (sym laid.0)) rest) in
+        section_bytes e all start end x (all_seen start end (within end more)) (record { low = low; among = among_head all x more among }) own (omega arith) reaches (omega arith) some laid.1
+        (subst (λ (q : ℕ). AreBytes e.now all start end q (all_seen start end (within end more))) (ap (λ (q : ℕ). min (q + n) end) (sym laid.0)) rest) in
         let keeps : nat_lt x.at end ≡ true = grind arith in
         let same : start ≡ first_in start x = omega arith in
         rw keeps (subst (λ (q : ℕ). AreBytes e.now all start end q (all_seen start end (x ∷ within end more))) (sym same) here)

@@ -2,7 +2,6 @@
 use Rattle.std.specs.Prelude.{ℕ, ◌+◌, ◌-◌, ◌*◌, ◌<◌, ◌≤◌, ◌≡◌, ◌==◌, ◌&&◌, min, nat_lt, Bool, true, false, List, [], ◌∷◌, ◌++◌, codes, decimal, length, map, replicate, filter, Contains, get_or, if◌then◌else◌}
 use Rattle.std.specs.List.{join_by, list_any}
 use Rattle.std.specs.Borrow.{Bor}
-use Rattle.wording.specs.Wording.{bytes}
 use Rattle.wording.specs.Meant.{digit}
 use Rattle.symbol.specs.declared.AdsSymbolInfo.{AdsSymbolInfo}
 use Rattle.sections.specs.Parts.{part_text}

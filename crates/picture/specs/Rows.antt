@@ -1,5 +1,5 @@
 -- docs/FORMAT.md, "The command's text": the picture of an entry's bytes, a row of 16 after another.
-use Rattle.std.specs.Prelude.{ℕ, ◌+◌, ◌-◌, ◌*◌, ◌%◌, ◌==◌, min, nat_lt, nat_le, Bool, true, false, List, [], ◌∷◌, ◌++◌, codes, decimal, length, replicate, slice_range, if◌then◌else◌}
+use Rattle.std.specs.Prelude.{ℕ, ◌+◌, ◌-◌, ◌*◌, ◌%◌, ◌==◌, min, nat_lt, nat_le, Bool, List, [], ◌∷◌, ◌++◌, codes, length, replicate, slice_range, if◌then◌else◌}
 use Rattle.std.specs.Int.{div_ceil}
 use Rattle.std.specs.List.{flat_map, join_by, list_any, range_with_len}
 use Rattle.wording.specs.Text.{pair}

@@ -1,7 +1,6 @@
 use Rattle.std.proofs.Common.{◌++◌, rules}
 use Rattle.std.proofs.Output.{has_written_append, has_written_of_eq}
 use Rattle.attribute.specs.declared.AdsAttribute.{AdsAttribute}
-use Rattle.values.specs.Names.{former_text}
 use Rattle.picture.specs.Facts.{below, attribute_text, more_attributes}
 use Rattle.report.proofs.Going.{more, no_more}
 use Rattle.picture.proofs.facts.MoreAttributesDisplay.fmt.Goals as goal

@@ -2,7 +2,6 @@ use Rattle.std.proofs.Common.{List, ℕ, ◌≡◌, ◌++◌}
 use Rattle.std.specs.List.{flat_map}
 use Rattle.std.specs.Fmt.{HasWritten, IsPlainFormatter}
 use Rattle.attribute.specs.Attribute.{left}
-use Rattle.values.specs.Names.{former_text}
 use Rattle.picture.specs.Facts.{below, attribute_text}
 use Rattle.picture.proofs.facts.MoreAttributesDisplay.fmt.Given as goal
 

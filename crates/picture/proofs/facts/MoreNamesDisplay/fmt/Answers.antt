@@ -2,7 +2,7 @@ use Rattle.std.proofs.Common.{◌++◌, rules}
 use Rattle.std.proofs.Output.{has_written_append, has_written_of_eq}
 use Rattle.refactor.specs.declared.AdsRefactorInfo.{AdsRefactorInfo}
 use Rattle.values.specs.Names.{former_text}
-use Rattle.picture.specs.Facts.{below, attribute_text, more_names}
+use Rattle.picture.specs.Facts.{below, more_names}
 use Rattle.report.proofs.Going.{more, no_more}
 use Rattle.picture.proofs.facts.MoreNamesDisplay.fmt.Goals as goal
 

@@ -3,7 +3,7 @@ use Rattle.std.specs.List.{flat_map}
 use Rattle.std.specs.Fmt.{HasWritten, IsPlainFormatter}
 use Rattle.refactor.specs.Refactor.{left}
 use Rattle.values.specs.Names.{former_text}
-use Rattle.picture.specs.Facts.{below, attribute_text}
+use Rattle.picture.specs.Facts.{below}
 use Rattle.picture.proofs.facts.MoreNamesDisplay.fmt.Given as goal
 
 abbrev pub invariant-loop-one : goal.invariant-loop-one
