@@ -3,3 +3,5 @@ pub mod Rows
 pub mod Show
 pub mod Seen
 pub mod Meant
+pub mod Words
+pub mod Told

@@ -1,3 +1,4 @@
 pub mod Values
 pub mod Told
 pub mod Names
+pub mod Words
