@@ -102,7 +102,21 @@ by_record at s why =
     (ap₂ (λ (x y : List ℕ). x ++ y) (optional_are s why)
     (ap₂ (λ (x y : List ℕ). x ++ y) (attributes_are (attribute.left s.attributes) why.attributes)
     (ap₂ (λ (x y : List ℕ). x ++ y) (names_are (refactor.left s.refactor_infos) why.refactor_infos) refl))))))
-    ∙ regrouped _ _ _ _ _ _ _ _ _ _ _ _ _ _
+    ∙ regrouped
+    (fact (codes "name") (or_none s.name.now))
+    (fact (codes "type") (or_none s.type_name.now))
+    (fact (codes "comment") (or_none s.comment.now))
+    (fact (codes "place") (codes "at " ++ (decimal at ++ (codes ", " ++ bytes s.length))))
+    (fact (codes "size") (bytes s.size))
+    (fact (codes "address") (codes "group 0x" ++ (digits 16 true s.index_group.0 ++ (codes ", offset 0x" ++ digits 16 true s.index_offset.0))))
+    (fact (codes "type id") (decimal s.data_type_id))
+    (fact (codes "flags") (flags_text s.flags.0))
+    (fact (codes "high") (codes "0x" ++ four_digits s.high))
+    (fact (codes "extended") (extended_told s.extended_flags why.extended_flags))
+    (fact (codes "GUID") (guid_told s.guid why.guid))
+    (list (codes "attributes") (attributes_told (attribute.left s.attributes) why.attributes))
+    (list (codes "former names") (names_told (refactor.left s.refactor_infos) why.refactor_infos))
+    (fact (codes "unread") (bytes (length s.unread.now)))
 
 string_is : (e s : Bor (List ℕ)) (at n : ℕ) → IsString e at s → length s.now ≡ n → or_none s.now ≡ or_none (take n (drop at e.now))
 string_is e s at n h l = ap or_none (ap (λ (b : Bor (List ℕ)). b.now) h.is ∙ ap (λ (k : ℕ). take k (drop at e.now)) l)

@@ -1,5 +1,5 @@
 -- docs/FORMAT.md, "The command's text" and "Symbol entries": what `show` tells of a symbol, by the bytes of its entry.
-use Rattle.std.specs.Prelude.{ℕ, ◌+◌, ◌-◌, ◌≡◌, List, [], ◌∷◌, ◌++◌, codes, decimal, length, map, take, drop, replicate, Option, None, Some, Ok, if◌then◌else◌}
+use Rattle.std.specs.Prelude.{ℕ, ◌+◌, ◌-◌, ◌≡◌, List, [], ◌∷◌, ◌++◌, codes, decimal, length, map, take, drop, true, replicate, Option, None, Some, Ok, if◌then◌else◌}
 use Rattle.std.specs.Fmt.{digits}
 use Rattle.std.specs.List.{flat_map}
 use Rattle.std.specs.Borrow.{Bor}
