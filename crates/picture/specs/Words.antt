@@ -1,7 +1,9 @@
 -- docs/FORMAT.md, "The command's text" and "Why": the names and the colours of sections, and reasons, word for word.
-use Rattle.std.specs.Prelude.{ℕ, ◌+◌, ◌*◌, ◌≡◌, codes, decimal, ◌++◌}
+use Rattle.std.specs.Prelude.{ℕ, ◌+◌, ◌*◌, ◌≡◌, codes}
 use Rattle.refusal.specs.declared.Refusal.TheVariants.{UnexpectedLength}
 use Rattle.why.specs.declared.Reason.TheVariants.{NotFlagged, NoExtendedFlags, NoRoom, Whole, Refused, Owed}
+use Rattle.sections.specs.Parts.{part_text}
+use Rattle.sections.specs.declared.Part.{Part}
 use Rattle.sections.specs.declared.Part.TheVariants.{Length, Group, Offset, Size, TypeId, Flags, High, StringLengths, Name, «Type», Comment, Guid, AttributeCount, Attribute, ExtendedFlags, FormerName, Unread}
 use Rattle.picture.specs.Facts.{because}
 use Rattle.picture.specs.Rows.{colour, label}
@@ -27,25 +29,10 @@ pub record ColoursMeant : Type 0 where
   pub odd_former_name : (k : ℕ) → colour (FormerName (2 * k + 1)) ≡ codes "92"
   pub unread : colour Unread ≡ codes "7;31"
 
--- how long a section is, is told of what is unread alone
-pub record NamesMeant : Type 0 where
-  pub length : label Length 4 ≡ codes "length"
-  pub group : label Group 4 ≡ codes "group"
-  pub offset : label Offset 4 ≡ codes "offset"
-  pub size : label Size 4 ≡ codes "size"
-  pub type_id : label TypeId 4 ≡ codes "type id"
-  pub flags : label Flags 2 ≡ codes "flags"
-  pub high : label High 2 ≡ codes "high"
-  pub string_lengths : label StringLengths 6 ≡ codes "string lengths"
-  pub name : label Name 9 ≡ codes "name"
-  pub type : label «Type» 9 ≡ codes "type"
-  pub comment : label Comment 9 ≡ codes "comment"
-  pub guid : label Guid 16 ≡ codes "GUID"
-  pub attribute_count : label AttributeCount 2 ≡ codes "attribute count"
-  pub attribute : (k : ℕ) → label (Attribute k) 9 ≡ codes "attribute " ++ decimal k
-  pub extended_flags : label ExtendedFlags 4 ≡ codes "extended flags"
-  pub former_name : (k : ℕ) → label (FormerName k) 9 ≡ codes "former name " ++ decimal k
+-- what is unread is called with its length, all else by its name
+pub record LabelsMeant : Type 0 where
   pub unread : label Unread 1234 ≡ codes "unread, 1,234 bytes"
+  pub other : (p : Part) (n : ℕ) → (p ≡ Unread → ⊥) → label p n ≡ part_text p
 
 pub record ReasonsMeant : Type 0 where
   pub unflagged : because NotFlagged ≡ codes "not flagged"

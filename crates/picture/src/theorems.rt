@@ -1,7 +1,7 @@
 //! The theorems. Each is the contract of a function that does nothing, so that none goes unnoticed if its proof does.
 ghost use Rattle.picture.specs.Meant.{PictureMeant};
 ghost use Rattle.picture.specs.Told.{FactsMeant};
-ghost use Rattle.picture.specs.Words.{ColoursMeant, NamesMeant, ReasonsMeant};
+ghost use Rattle.picture.specs.Words.{ColoursMeant, LabelsMeant, ReasonsMeant};
 
 /// Of a symbol that was read each fact stands in its line, by the bytes of the entry, behind its heading; what the sections
 /// hold, or why there is nothing, behind these.
@@ -21,9 +21,9 @@ pub fn colours_meant()
     ensures { ColoursMeant }
 {}
 
-/// The name of each section in the picture.
-pub fn names_meant()
-    ensures { NamesMeant }
+/// What a section is called where it begins.
+pub fn labels_meant()
+    ensures { LabelsMeant }
 {}
 
 /// Each reason, word for word, with every figure different.
