@@ -1,120 +1,255 @@
 //! What a symbol tells, a line a fact, and of a section that it has not, why.
+ghost use Rattle.std.specs.Prelude.{Some};
+ghost use Rattle.attribute.specs.Attribute as attribute;
+ghost use Rattle.refactor.specs.Refactor as refactor;
+ghost use Rattle.picture.specs.Facts.{address_text, attributes_text, below, because, extended_or, facts_text, guid_or, more_attributes, more_names, names_text, no_more, numbers_text, optional_text, place_text, strings_text};
+
 use crate::reasons::{Because, falls_short};
+use attribute::Attributes;
+use flags::symbol_flags::AdsSymbol2Flags;
+use refactor::RefactorInfos;
 use report::json::Guid;
-use std::io;
-use std::io::Write;
+use std::fmt;
 use symbol::AdsSymbolInfo;
-use values::{ExtendedNames, FlagNames, FormerName, NameAndValue, OrNone};
+use values::{ExtendedNames, FlagNames, FormerName, FourDigits, NameAndValue, OrNone};
 use why::{Reason, Reasons};
 use wording::Bytes;
 
-pub(crate) fn write<W: Write>(
-    at: usize,
-    symbol: &AdsSymbolInfo<'_>,
-    reasons: &Reasons,
-    out: &mut W,
-) -> io::Result<()> {
-    write_strings(symbol, out)?;
-    write_numbers(at, symbol, out)?;
-    write_optional(symbol, reasons, out)?;
-    write_attributes(symbol, &reasons.attributes, out)?;
-    write_former_names(symbol, &reasons.refactor_infos, out)?;
-    let unread = Bytes(symbol.unread.len());
-    writeln!(out, "unread        {unread}")
+/// All that is told of a symbol.
+#[derive(Clone, Copy)]
+pub(crate) struct Facts<'s, 'a> {
+    /// Where its entry starts in the upload.
+    pub at: usize,
+    pub symbol: &'s AdsSymbolInfo<'a>,
+    /// Why its sections are there or not.
+    pub reasons: &'s Reasons,
 }
 
-fn write_strings<W: Write>(symbol: &AdsSymbolInfo<'_>, out: &mut W) -> io::Result<()> {
-    let name = OrNone(symbol.name);
-    let type_name = OrNone(symbol.type_name);
-    let comment = OrNone(symbol.comment);
-    writeln!(out, "name          {name}")?;
-    writeln!(out, "type          {type_name}")?;
-    writeln!(out, "comment       {comment}")
+impl fmt::Display for Facts<'_, '_> {
+    ghost output = { λ f. Some (facts_text f.at f.symbol.now f.reasons.now) };
+
+    #[tactic(auto, unfolding(crate::specs::Facts::facts_text))]
+    fn fmt<W: fmt::Write>(&self, f: &mut fmt::Formatter<W>) -> fmt::Result {
+        let strings = Strings(self.symbol);
+        let place = Place(self.at, self.symbol);
+        let address = Address(self.symbol);
+        let numbers = Numbers(self.symbol);
+        let optional = Optional(self.symbol, self.reasons);
+        let attributes = AttributeLines(self.symbol.attributes, &self.reasons.attributes);
+        let names = NameLines(self.symbol.refactor_infos, &self.reasons.refactor_infos);
+        let unread = Bytes(self.symbol.unread.len());
+        write!(f, "{strings}{place}{address}{numbers}{optional}")?;
+        write!(f, "{attributes}{names}unread        {unread}\n")
+    }
 }
 
-fn write_numbers<W: Write>(at: usize, symbol: &AdsSymbolInfo<'_>, out: &mut W) -> io::Result<()> {
-    let length = Bytes(symbol.length);
-    let size = Bytes(symbol.size as usize);
-    let group = symbol.index_group.0;
-    let offset = symbol.index_offset.0;
-    let type_id = symbol.data_type_id;
-    let flags = FlagNames(symbol.flags);
-    let high = symbol.high;
-    writeln!(out, "place         at {at}, {length}")?;
-    writeln!(out, "size          {size}")?;
-    writeln!(out, "address       group 0x{group:X}, offset 0x{offset:X}")?;
-    writeln!(out, "type id       {type_id}")?;
-    writeln!(out, "flags         {flags}")?;
-    writeln!(out, "high          0x{high:04X}")
+#[derive(Clone, Copy)]
+struct Strings<'s, 'a>(&'s AdsSymbolInfo<'a>);
+
+impl fmt::Display for Strings<'_, '_> {
+    ghost output = { λ s. Some (strings_text s.0.now) };
+
+    #[tactic(auto, unfolding(crate::specs::Facts::strings_text))]
+    fn fmt<W: fmt::Write>(&self, f: &mut fmt::Formatter<W>) -> fmt::Result {
+        let name = OrNone(self.0.name);
+        let type_name = OrNone(self.0.type_name);
+        let comment = OrNone(self.0.comment);
+        write!(
+            f,
+            "name          {name}\ntype          {type_name}\ncomment       {comment}\n"
+        )
+    }
 }
 
-fn write_optional<W: Write>(
-    symbol: &AdsSymbolInfo<'_>,
-    reasons: &Reasons,
-    out: &mut W,
-) -> io::Result<()> {
-    match symbol.extended_flags {
-        Some(flags) => {
-            let flags = ExtendedNames(flags);
-            writeln!(out, "extended      {flags}")?;
+// Where the entry starts and how long it is, and the variable's size.
+#[derive(Clone, Copy)]
+struct Place<'s, 'a>(usize, &'s AdsSymbolInfo<'a>);
+
+impl fmt::Display for Place<'_, '_> {
+    ghost output = { λ p. Some (place_text p.0 p.1.now) };
+
+    #[tactic(auto, unfolding(crate::specs::Facts::place_text))]
+    fn fmt<W: fmt::Write>(&self, f: &mut fmt::Formatter<W>) -> fmt::Result {
+        let at = self.0;
+        let length = Bytes(self.1.length);
+        let size = Bytes(self.1.size as usize);
+        write!(f, "place         at {at}, {length}\nsize          {size}\n")
+    }
+}
+
+#[derive(Clone, Copy)]
+struct Address<'s, 'a>(&'s AdsSymbolInfo<'a>);
+
+impl fmt::Display for Address<'_, '_> {
+    ghost output = { λ a. Some (address_text a.0.now) };
+
+    #[tactic(auto, unfolding(crate::specs::Facts::address_text))]
+    fn fmt<W: fmt::Write>(&self, f: &mut fmt::Formatter<W>) -> fmt::Result {
+        let group = self.0.index_group.0;
+        let offset = self.0.index_offset.0;
+        write!(f, "address       group 0x{group:X}, offset 0x{offset:X}\n")
+    }
+}
+
+// The numbers of the header behind the size.
+#[derive(Clone, Copy)]
+struct Numbers<'s, 'a>(&'s AdsSymbolInfo<'a>);
+
+impl fmt::Display for Numbers<'_, '_> {
+    ghost output = { λ n. Some (numbers_text n.0.now) };
+
+    #[tactic(auto, unfolding(crate::specs::Facts::numbers_text))]
+    fn fmt<W: fmt::Write>(&self, f: &mut fmt::Formatter<W>) -> fmt::Result {
+        let type_id = self.0.data_type_id;
+        let flags = FlagNames(self.0.flags);
+        let high = FourDigits(self.0.high);
+        write!(
+            f,
+            "type id       {type_id}\nflags         {flags}\nhigh          0x{high}\n"
+        )
+    }
+}
+
+// The extended flags and the GUID.
+#[derive(Clone, Copy)]
+struct Optional<'s, 'a>(&'s AdsSymbolInfo<'a>, &'s Reasons);
+
+impl fmt::Display for Optional<'_, '_> {
+    ghost output = { λ o. Some (optional_text o.0.now o.1.now) };
+
+    #[tactic(auto, unfolding(crate::specs::Facts::optional_text))]
+    fn fmt<W: fmt::Write>(&self, f: &mut fmt::Formatter<W>) -> fmt::Result {
+        let extended = ExtendedOr(self.0.extended_flags, &self.1.extended_flags);
+        let guid = GuidOr(&self.0.guid, &self.1.guid);
+        write!(f, "extended      {extended}\nGUID          {guid}\n")
+    }
+}
+
+#[derive(Clone, Copy)]
+struct ExtendedOr<'s>(Option<AdsSymbol2Flags>, &'s Reason);
+
+impl fmt::Display for ExtendedOr<'_> {
+    ghost output = { λ e. Some (extended_or e.1.now e.0) };
+
+    fn fmt<W: fmt::Write>(&self, f: &mut fmt::Formatter<W>) -> fmt::Result {
+        match self.0 {
+            Some(flags) => ExtendedNames(flags).fmt(f),
+            None => {
+                let because = Because(self.1);
+                write!(f, "none: {because}")
+            }
         }
-        None => {
-            let because = Because(&reasons.extended_flags);
-            writeln!(out, "extended      none: {because}")?;
-        }
     }
-    match symbol.guid {
-        Some(id) => {
-            let id = Guid(&id);
-            writeln!(out, "GUID          {id}")
-        }
-        None => {
-            let because = Because(&reasons.guid);
-            writeln!(out, "GUID          none: {because}")
+}
+
+#[derive(Clone, Copy)]
+struct GuidOr<'s>(&'s Option<[u8; 16]>, &'s Reason);
+
+impl fmt::Display for GuidOr<'_> {
+    ghost output = { λ g. Some (guid_or g.1.now g.0.now) };
+
+    fn fmt<W: fmt::Write>(&self, f: &mut fmt::Formatter<W>) -> fmt::Result {
+        match self.0 {
+            Some(id) => Guid(id).fmt(f),
+            None => {
+                let because = Because(self.1);
+                write!(f, "none: {because}")
+            }
         }
     }
 }
 
-// Stands before the lines of a list behind its first.
-const BELOW: &str = "              ";
+#[derive(Clone, Copy)]
+struct AttributeLines<'s, 'a>(Attributes<'a>, &'s Reason);
 
-fn write_attributes<W: Write>(
-    symbol: &AdsSymbolInfo<'_>,
-    reason: &Reason,
-    out: &mut W,
-) -> io::Result<()> {
-    let because = Because(reason);
-    if symbol.attributes.count == 0 {
-        return writeln!(out, "attributes    none: {because}");
+impl fmt::Display for AttributeLines<'_, '_> {
+    ghost output = { λ a. Some (attributes_text (attribute.left a.0) a.1.now) };
+
+    #[tactic(auto, unfolding(crate::specs::Facts::attributes_text))]
+    fn fmt<W: fmt::Write>(&self, f: &mut fmt::Formatter<W>) -> fmt::Result {
+        let mut rest = self.0;
+        match rest.next() {
+            None => {
+                let because = Because(self.1);
+                write!(f, "attributes    none: {because}\n")
+            }
+            Some(first) => {
+                let first = NameAndValue(first);
+                let more = MoreAttributes(rest);
+                let no_more = NoMore(self.1);
+                write!(f, "attributes    {first}\n{more}{no_more}")
+            }
+        }
     }
-    let mut is_first = true;
-    for one in symbol.attributes {
-        let heading = if is_first { "attributes    " } else { BELOW };
-        let one = NameAndValue(one);
-        writeln!(out, "{heading}{one}")?;
-        is_first = false;
-    }
-    if falls_short(reason) {
-        writeln!(out, "{BELOW}no more: {because}")?;
-    }
-    Ok(())
 }
 
-fn write_former_names<W: Write>(
-    symbol: &AdsSymbolInfo<'_>,
-    reason: &Reason,
-    out: &mut W,
-) -> io::Result<()> {
-    if symbol.refactor_infos.count == 0 {
-        let because = Because(reason);
-        return writeln!(out, "former names  none: {because}");
+// Those behind the first.
+#[derive(Clone, Copy)]
+struct MoreAttributes<'a>(Attributes<'a>);
+
+impl fmt::Display for MoreAttributes<'_> {
+    ghost output = { λ a. Some (more_attributes (attribute.left a.0)) };
+
+    fn fmt<W: fmt::Write>(&self, f: &mut fmt::Formatter<W>) -> fmt::Result {
+        for one in self.0 {
+            let one = NameAndValue(one);
+            write!(f, "              {one}\n")?;
+        }
+        Ok(())
     }
-    let mut is_first = true;
-    for one in symbol.refactor_infos {
-        let heading = if is_first { "former names  " } else { BELOW };
-        let name = FormerName(one.name);
-        writeln!(out, "{heading}{name}")?;
-        is_first = false;
+}
+
+// Why attributes that were announced are not shown, if there are any.
+#[derive(Clone, Copy)]
+struct NoMore<'s>(&'s Reason);
+
+impl fmt::Display for NoMore<'_> {
+    ghost output = { λ n. Some (no_more n.0.now) };
+
+    fn fmt<W: fmt::Write>(&self, f: &mut fmt::Formatter<W>) -> fmt::Result {
+        if !falls_short(self.0) {
+            return Ok(());
+        }
+        let because = Because(self.0);
+        write!(f, "              no more: {because}\n")
     }
-    Ok(())
+}
+
+#[derive(Clone, Copy)]
+struct NameLines<'s, 'a>(RefactorInfos<'a>, &'s Reason);
+
+impl fmt::Display for NameLines<'_, '_> {
+    ghost output = { λ n. Some (names_text (refactor.left n.0) n.1.now) };
+
+    #[tactic(auto, unfolding(crate::specs::Facts::names_text))]
+    fn fmt<W: fmt::Write>(&self, f: &mut fmt::Formatter<W>) -> fmt::Result {
+        let mut rest = self.0;
+        match rest.next() {
+            None => {
+                let because = Because(self.1);
+                write!(f, "former names  none: {because}\n")
+            }
+            Some(first) => {
+                let first = FormerName(first.name);
+                let more = MoreNames(rest);
+                write!(f, "former names  {first}\n{more}")
+            }
+        }
+    }
+}
+
+// Those behind the first.
+#[derive(Clone, Copy)]
+struct MoreNames<'a>(RefactorInfos<'a>);
+
+impl fmt::Display for MoreNames<'_> {
+    ghost output = { λ n. Some (more_names (refactor.left n.0)) };
+
+    fn fmt<W: fmt::Write>(&self, f: &mut fmt::Formatter<W>) -> fmt::Result {
+        for one in self.0 {
+            let name = FormerName(one.name);
+            write!(f, "              {name}\n")?;
+        }
+        Ok(())
+    }
 }

@@ -1,10 +1,17 @@
 //! `show`: everything of one symbol, and the picture of its bytes (docs/FORMAT.md, "The command's text").
 #![tactic(auto)]
 
+ghost use Rattle.std.specs.Prelude.{OnOk};
+ghost use Rattle.std.specs.Io.KnownBytes.{Appends};
+ghost use Rattle.picture.specs.Show.{show_text};
+
 mod facts;
 mod reasons;
 mod rows;
+pub mod theorems;
 
+use facts::Facts;
+use rows::Picture;
 use sections::sections;
 use std::alloc::Global;
 use std::io;
@@ -27,17 +34,28 @@ pub struct Found<'a> {
 /// # Errors
 ///
 /// Those of the output, that there is no memory, and `InvalidData` where the own bytes are no symbol's entry.
+#[tactic(auto, unfolding(crate::specs::Show::show_text))]
 pub fn show<W: Write>(
     alloc: Global,
     found: &Found<'_>,
     coloured: bool,
     out: &mut W,
-) -> io::Result<()> {
+) -> io::Result<()>
+    ensures { OnOk result (Appends (W.contents out.old) (W.contents out.new) (show_text coloured found.now.at found.now.own found.now.symbol)) }
+{
     let Ok(reasons) = why::explain(found.own) else {
         return Err(io::Error::from(ErrorKind::InvalidData));
     };
-    facts::write(found.at, &found.symbol, &reasons, out)?;
-    writeln!(out, "")?;
+    let facts = Facts {
+        at: found.at,
+        symbol: &found.symbol,
+        reasons: &reasons,
+    };
     let sections = sections(alloc, found.own, &found.symbol)?;
-    rows::draw(found.own, sections.as_slice(), coloured, out)
+    let picture = Picture {
+        length: found.own.len(),
+        sections: sections.as_slice(),
+        coloured,
+    };
+    write!(out, "{facts}\n{picture}")
 }

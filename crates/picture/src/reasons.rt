@@ -1,4 +1,7 @@
 //! Why a section is not shown, or no more of it, in a few words (docs/FORMAT.md, "Why").
+ghost use Rattle.std.specs.Prelude.{◌≡◌, Some};
+ghost use Rattle.picture.specs.Facts.{because, falls_short};
+
 use std::fmt;
 use why::Reason;
 use why_report::Missing;
@@ -9,6 +12,9 @@ use wording::{Bytes, InWords};
 pub(crate) struct Because<'a>(pub &'a Reason);
 
 impl fmt::Display for Because<'_> {
+    ghost output = { λ b. Some (because b.0.now) };
+
+    #[tactic(auto, unfolding(crate::specs::Facts::because))]
     fn fmt<W: fmt::Write>(&self, f: &mut fmt::Formatter<W>) -> fmt::Result {
         match self.0 {
             Reason::NotFlagged => write!(f, "not flagged"),
@@ -40,6 +46,8 @@ impl fmt::Display for Because<'_> {
 }
 
 /// Whether a list that shows something was to show more.
-pub(crate) fn falls_short(reason: &Reason) -> bool {
+pub(crate) fn falls_short(reason: &Reason) -> bool
+    ensures { result ≡ falls_short reason.now }
+{
     matches!(reason, Reason::Refused { .. } | Reason::Owed { .. })
 }

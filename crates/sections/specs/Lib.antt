@@ -1,3 +1,4 @@
 pub mod Parts
 pub mod Sections
 pub mod Laid
+pub mod Named

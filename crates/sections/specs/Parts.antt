@@ -1,5 +1,5 @@
 -- docs/FORMAT.md, "The command's text": the parts of an entry in the order in which they stand.
-use Rattle.std.specs.Prelude.{ℕ}
+use Rattle.std.specs.Prelude.{ℕ, List, ◌++◌, codes, decimal}
 use Rattle.std.specs.Ordering.{nat_cmp, ordering_then}
 use Rattle.std.specs.declared.cmp.Ordering.{Ordering}
 use Rattle.sections.specs.declared.Part.{Part}
@@ -46,3 +46,23 @@ number Unread = 0
 
 abbrev pub part_order : Part → Part → Ordering
 part_order p q = ordering_then (nat_cmp (kind p) (kind q)) (nat_cmp (number p) (number q))
+
+-- what a part is called
+unfoldable pub part_text : Part → List ℕ
+part_text Length = codes "length"
+part_text Group = codes "group"
+part_text Offset = codes "offset"
+part_text Size = codes "size"
+part_text TypeId = codes "type id"
+part_text Flags = codes "flags"
+part_text High = codes "high"
+part_text StringLengths = codes "string lengths"
+part_text Name = codes "name"
+part_text «Type» = codes "type"
+part_text Comment = codes "comment"
+part_text Guid = codes "GUID"
+part_text AttributeCount = codes "attribute count"
+part_text (Attribute n) = codes "attribute " ++ decimal n
+part_text ExtendedFlags = codes "extended flags"
+part_text (FormerName n) = codes "former name " ++ decimal n
+part_text Unread = codes "unread"

@@ -1,9 +1,9 @@
 //! The sections of a symbol's entry: the parts in which its bytes are told (docs/FORMAT.md, "Symbol entries").
 #![tactic(auto)]
 
-ghost use Rattle.std.specs.Prelude.{◌≡◌, ◌+◌, ◌-◌, ◌^◌, ◌<◌, IfOk, OnOk, length, min};
+ghost use Rattle.std.specs.Prelude.{◌≡◌, ◌+◌, ◌-◌, ◌^◌, ◌<◌, IfOk, Some, OnOk, length};
 ghost use Rattle.std.specs.List.{flat_map};
-ghost use Rattle.sections.specs.Parts.{kind, number, part_order};
+ghost use Rattle.sections.specs.Parts.{kind, number, part_order, part_text};
 ghost use Rattle.sections.specs.Sections.{own_bytes, cut, cut_all, header_parts, string_parts, with_count, with_attributes, with_former_names, with_optional, cut_entry, seen, sections_of};
 
 pub mod theorems;
@@ -75,6 +75,9 @@ impl Part {
 }
 
 impl fmt::Display for Part {
+    ghost output = { λ p. Some (part_text p) };
+
+    #[tactic(auto, unfolding(crate::specs::Parts::part_text))]
     fn fmt<W: fmt::Write>(&self, f: &mut fmt::Formatter<W>) -> fmt::Result {
         match self {
             Part::Length => write!(f, "length"),
@@ -107,15 +110,6 @@ pub struct Section<'a> {
     pub at: usize,
     /// The bytes, one at least.
     pub bytes: &'a [u8],
-}
-
-impl Section<'_> {
-    /// The place in the entry where they end.
-    pub fn end(&self) -> usize
-        ensures { result ≡ min (self.now.at + length self.now.bytes.now) (2 ^ 64 - 1) }
-    {
-        self.at.saturating_add(self.bytes.len())
-    }
 }
 
 // What was cut off an entry's own bytes so far.

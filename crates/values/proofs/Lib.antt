@@ -1,1 +1,3 @@
-mod Told
+pub mod Told
+pub mod Bits
+pub mod Words

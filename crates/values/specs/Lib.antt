@@ -1,2 +1,4 @@
 pub mod Values
 pub mod Told
+pub mod Names
+pub mod Words

@@ -1,7 +1,9 @@
 //! What the parts of a symbol's entry tell, for people and in JSON (docs/FORMAT.md, "The command's text").
 #![tactic(auto, unfolding(crate::specs::Values::value_of))]
 
-ghost use Rattle.std.specs.Prelude.{◌≡◌};
+ghost use Rattle.std.specs.Prelude.{◌≡◌, ◌++◌, Some, codes};
+ghost use Rattle.wording.specs.Text.{shown};
+ghost use Rattle.values.specs.Names.{former_text, or_none};
 ghost use Rattle.values.specs.Values.{attribute_in, count_value, extended_value, former_name_in, guid_value, value_of};
 
 mod names;
@@ -9,7 +11,7 @@ pub mod theorems;
 
 use attribute::AdsAttribute;
 use flags::symbol_flags::{AdsSymbol2Flags, AdsSymbolFlags};
-pub use names::{ExtendedNames, FlagNames};
+pub use names::{ExtendedNames, FlagNames, FourDigits};
 use refusal::Refusal;
 use report::json::Guid;
 use sections::{Part, Section};
@@ -50,6 +52,9 @@ pub enum Value<'a> {
 pub struct OrNone<'a>(pub &'a [u8]);
 
 impl fmt::Display for OrNone<'_> {
+    ghost output = { λ s. Some (or_none s.0.now) };
+
+    #[tactic(auto, unfolding(crate::specs::Names::or_none))]
     fn fmt<W: fmt::Write>(&self, f: &mut fmt::Formatter<W>) -> fmt::Result {
         if self.0.is_empty() {
             return write!(f, "none");
@@ -64,6 +69,9 @@ impl fmt::Display for OrNone<'_> {
 pub struct FormerName<'a>(pub &'a [u8]);
 
 impl fmt::Display for FormerName<'_> {
+    ghost output = { λ s. Some (former_text s.0.now) };
+
+    #[tactic(auto, unfolding(crate::specs::Names::former_text))]
     fn fmt<W: fmt::Write>(&self, f: &mut fmt::Formatter<W>) -> fmt::Result {
         if self.0.is_empty() {
             return write!(f, "(no name)");
@@ -78,6 +86,8 @@ impl fmt::Display for FormerName<'_> {
 pub struct NameAndValue<'a>(pub AdsAttribute<'a>);
 
 impl fmt::Display for NameAndValue<'_> {
+    ghost output = { λ a. Some (shown a.0.name.now ++ (codes " = " ++ shown a.0.value.now)) };
+
     fn fmt<W: fmt::Write>(&self, f: &mut fmt::Formatter<W>) -> fmt::Result {
         let name = Shown(self.0.name);
         let value = Shown(self.0.value);

@@ -1,6 +1,7 @@
 //! The theorems. Each is the contract of a function that does nothing, so that none goes unnoticed if its proof does.
 
 ghost use Rattle.values.specs.Told.{RecordsTold, ValuesTold};
+ghost use Rattle.values.specs.Words.{WordsMeant};
 
 /// Of a symbol that was read from the entry each section tells what its own bytes say: a number of the header low byte first,
 /// a string without its end byte, a GUID; the count of attributes how many are shown.
@@ -12,4 +13,9 @@ pub fn values_told()
 /// that stand before them.
 pub fn records_told()
     ensures { RecordsTold }
+{}
+
+/// Flag words as they are told, each bit alone, some together, and what has no name; and what is told of a string.
+pub fn words_meant()
+    ensures { WordsMeant }
 {}

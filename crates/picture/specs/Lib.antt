@@ -1,0 +1,7 @@
+pub mod Facts
+pub mod Rows
+pub mod Show
+pub mod Seen
+pub mod Meant
+pub mod Words
+pub mod Told

@@ -1,0 +1,32 @@
+//! The theorems. Each is the contract of a function that does nothing, so that none goes unnoticed if its proof does.
+ghost use Rattle.picture.specs.Meant.{PictureMeant};
+ghost use Rattle.picture.specs.Told.{FactsMeant};
+ghost use Rattle.picture.specs.Words.{ColoursMeant, LabelsMeant, ReasonsMeant};
+
+/// Of a symbol that was read each fact stands in its line, by the bytes of the entry, behind its heading; what the sections
+/// hold, or why there is nothing, behind these.
+pub fn facts_meant()
+    ensures { FactsMeant }
+{}
+
+/// Whatever the symbol, each byte of the entry stands in the picture once and in order, in two digits, at its place in the row
+/// of each 16, in the colour of the section that holds it; each row tells its place and names the sections that have bytes in
+/// it; no colour is left behind, and the picture without colours is the same text.
+pub fn picture_meant()
+    ensures { PictureMeant }
+{}
+
+/// The colour of each section.
+pub fn colours_meant()
+    ensures { ColoursMeant }
+{}
+
+/// What a section is called where it begins.
+pub fn labels_meant()
+    ensures { LabelsMeant }
+{}
+
+/// Each reason, word for word, with every figure different.
+pub fn reasons_meant()
+    ensures { ReasonsMeant }
+{}
