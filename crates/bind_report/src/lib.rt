@@ -3,6 +3,9 @@
 
 ghost use Rattle.std.specs.Prelude.{◌≡◌, ◌≤◌, Some, length};
 ghost use Rattle.std.specs.List.{position_or_len};
+ghost use Rattle.bind_report.specs.Aligned.{AddressTablesMeant};
+ghost use Rattle.bind_report.specs.Meant.{PathLinesMeant, PartsMeant, ReasonsMeant};
+ghost use Rattle.bind_report.specs.Sample.{PathsSampled};
 ghost use Rattle.bind_report.specs.Words.{reason_text, place_of, ends_part, part_from, part_at, refused_part};
 
 pub mod json;
@@ -102,3 +105,32 @@ pub fn refused_part<'a>(path: &'a [u8], why: &Refusal) -> Option<&'a [u8]>
         None => None,
     }
 }
+
+// The theorems. Each is the contract of a function that does nothing, so that none goes unnoticed if its proof does.
+
+/// A line of JSON is an object with the members of docs/FORMAT.md in their order: of an address by its numbers, of a refusal by its own.
+pub fn path_lines_meant()
+    ensures { PathLinesMeant }
+{}
+
+/// The part of a path that a refusal tells begins where the refusal was met, and goes to before the next dot, bracket or comma, or to the end; and a
+/// refusal that was met in no part tells none.
+pub fn parts_meant()
+    ensures { PartsMeant }
+{}
+
+/// A refusal has the words that it has anywhere, but for a subscript outside its bounds.
+pub fn reasons_meant()
+    ensures { ReasonsMeant }
+{}
+
+/// Six paths, of whose addresses every number is another, character by character: their lines of JSON, and their table.
+pub fn paths_sampled()
+    ensures { PathsSampled }
+{}
+
+/// In the table each column begins at the same character in every line that has an address and in that of the headings, and is wide enough for each of its
+/// cells, of which all characters stand there; two spaces stand between two columns, and behind the path of one that has no address.
+pub fn address_tables_meant()
+    ensures { AddressTablesMeant }
+{}
