@@ -467,6 +467,51 @@ pub fn find_ordered(bytes: &[u8], slots: &[u32], name: &[u8]) -> usize {
     done("find_ordered", status, answer)
 }
 
+pub fn type_name_index_build(bytes: &[u8], slots: &mut [u32]) -> usize {
+    let mut answer = [0; 2];
+    let (start, to) = (bytes.as_ptr(), slots.as_mut_ptr());
+    let (n, m) = (bytes.len(), slots.len());
+    let status =
+        unsafe { sys::vindaskot_type_name_index_build_in(start, n, false, to, m, &mut answer) };
+    done("type_name_index_build", status, answer)
+}
+
+pub fn type_find_ordered(bytes: &[u8], slots: &[u32], name: &[u8]) -> usize {
+    let mut answer = [0; 2];
+    let (upload, starts, asked) = (bytes.as_ptr(), slots.as_ptr(), name.as_ptr());
+    let (n, m, len) = (bytes.len(), slots.len(), name.len());
+    let status = unsafe {
+        sys::vindaskot_type_find_ordered_in(upload, n, false, starts, m, asked, len, &mut answer)
+    };
+    done("type_find_ordered", status, answer)
+}
+
+/// An upload, with the slots of its name index.
+#[derive(Clone, Copy)]
+pub struct Ordered<'a>(pub &'a [u8], pub &'a [u32]);
+
+pub fn bind(symbols: Ordered, types: Ordered, path: &[u8], slots: &mut [u64; sys::ADDRESS_SLOTS]) {
+    let mut answer = [0; 2];
+    let status = unsafe {
+        sys::vindaskot_bind_in(
+            symbols.0.as_ptr(),
+            symbols.0.len(),
+            false,
+            symbols.1.as_ptr(),
+            symbols.1.len(),
+            types.0.as_ptr(),
+            types.0.len(),
+            types.1.as_ptr(),
+            types.1.len(),
+            path.as_ptr(),
+            path.len(),
+            slots,
+            &mut answer,
+        )
+    };
+    done("bind", status, answer);
+}
+
 type Convert = unsafe extern "C" fn(*const u8, usize, *mut u8, usize, answer: &mut [u64; 2]) -> u32;
 
 /// `vindaskot_decode` and `vindaskot_encode` of this archive, or of an earlier one.

@@ -1,6 +1,7 @@
 //! Times the archive beside the supplied Rust and encoding_rs, on the same input, in one run. bench/README.md says what is
 //! compared.
 mod ads;
+mod bind;
 mod c;
 mod captures;
 mod clock;
@@ -94,6 +95,7 @@ fn main() {
     find::rows(&mut report, seed, what, &ends_alike);
     names::rows(&mut report, seed, "name index", &rig);
     names::rows(&mut report, seed, "name index, names alike", &alike);
+    bind::rows(&mut report, seed, &rig);
     salvage::rows(&mut report, &rig);
     captures::rows(&mut report, &rig);
     text::rows(&mut report, seed);

@@ -17,6 +17,8 @@ pub struct Goals {
     pub unchecked: Figures,
     /// Seconds.
     pub index_and_finds: Figures,
+    /// Seconds for 9,000 paths.
+    pub bound: Figures,
     /// Time over a bare loop's at 16 MB, over the same at 4 MB.
     pub growth: Figures,
 }
@@ -52,6 +54,13 @@ impl Goals {
         let what = "index and 9,000 finds far inside four seconds";
         let (row, seconds) = most(&self.index_and_finds);
         goal(*seconds <= 1.0, what, format!("most {seconds:.3} s, {row}"));
+        let what = "9,000 paths bound inside a frame of 20 ms";
+        let (row, seconds) = most(&self.bound);
+        goal(
+            *seconds <= 0.020,
+            what,
+            format!("{:.1} ms, {row}", seconds * 1e3),
+        );
         let what = "growth linear";
         let (row, factor) = most(&self.growth);
         goal(

@@ -8,10 +8,10 @@ const EXTENDED: u16 = 0x8000;
 const REFACTOR: u32 = 0x0004;
 const FIELD_GUID: u32 = 0x0080;
 const FIELD_ATTRIBUTES: u32 = 0x1000;
-const STRUCTURE: u32 = 65;
+pub const STRUCTURE: u32 = 65;
 
 /// A rig's devices, each with the type of its structure.
-const DEVICES: [(&str, &str); 8] = [
+pub const DEVICES: [(&str, &str); 8] = [
     ("stPedestal", "ST_Pedestal"),
     ("stJib", "ST_Jib"),
     ("stLens", "ST_BoxLens"),

@@ -1,14 +1,21 @@
-//! `bind`: a table of addresses.
+//! `bind`: a table of addresses (docs/FORMAT.md, "The command's text").
 
+ghost use Rattle.std.specs.Prelude.{◌≡◌, ◌≤◌, ◌++◌, OnOk, Some, codes, decimal, length};
+ghost use Rattle.std.specs.Io.KnownBytes.{Appends};
+ghost use Rattle.report.specs.Cells.{hexadecimal};
+ghost use Rattle.bind_report.specs.Table.{tells_bit, bit_text, unit_text, offset_text, size_text, entry_text, headings, widths_of, widest, fitted, headings_text, offset_cell, size_cell, numbers_text, address_text, part_text, refused_text, answer_by, line_text};
+
+use crate::json::{place_there, upload_word};
 use crate::{Bound, Reason, refused_part};
 use bind::Address;
 use bind::reading::Place;
-use report::table::digits;
-use std::io;
+use refusal::Refusal;
+use report::cells::{AtLeft, AtRight, Hexadecimal, Name, digits};
 use std::io::Write;
+use std::{fmt, io};
 use wording::strings::{Shown, Spaces, shown_width};
 
-/// How wide the columns of a table are: as the widest of their headings and of the cells that are to stand in them.
+/// How wide the columns of a table are, in characters: as the widest of their headings and of the cells that are to stand in them.
 #[derive(Clone, Copy, Debug)]
 pub struct Columns {
     path: usize,
@@ -19,16 +26,43 @@ pub struct Columns {
 }
 
 // Whether an address tells a bit: the offset then has it behind a dot.
-fn tells_bit(address: &Address<'_>) -> bool {
-    address.size_in_bits || address.bit != 0
+fn tells_bit(address: &Address<'_>) -> bool
+    ensures { result ≡ tells_bit address.now }
+{
+    address.size_in_bits || 0 < address.bit
 }
 
-fn offset_width(address: &Address<'_>) -> usize {
-    let bit = if tells_bit(address) { 2 } else { 0 };
-    digits(address.offset.0 as usize, 16) + 2 + bit
+// How many characters a number has in hexadecimal digits, with `0x`.
+fn hexadecimal_width(number: u32) -> usize
+    ensures value { result ≡ length (hexadecimal number) }
+    ensures most { result ≤ 66 }
+{
+    digits(number as usize, 16) + 2
 }
 
-fn unit(address: &Address<'_>) -> &'static str {
+// The same of a bit, with its dot, where one is told.
+fn bit_width(address: &Address<'_>) -> usize
+    ensures value { result ≡ length (bit_text address.now) }
+    ensures most { result ≤ 65 }
+{
+    if tells_bit(address) {
+        digits(usize::from(address.bit), 10) + 1
+    } else {
+        0
+    }
+}
+
+#[tactic(auto, using(crate::proofs::Widths::offset_wide))]
+fn offset_width(address: &Address<'_>) -> usize
+    ensures { result ≡ length (offset_text address.now) }
+{
+    hexadecimal_width(address.offset.0) + bit_width(address)
+}
+
+fn unit(address: &Address<'_>) -> &'static str
+    ensures value { result.now ≡ unit_text address.now }
+    ensures most { length result.now ≤ 5 }
+{
     match (address.size_in_bits, address.size) {
         (false, _) => "",
         (true, 1) => " bit",
@@ -36,18 +70,25 @@ fn unit(address: &Address<'_>) -> &'static str {
     }
 }
 
-fn size_width(address: &Address<'_>) -> usize {
-    digits(address.size as usize, 10) + unit(address).len()
+fn size_digits(address: &Address<'_>) -> usize
+    ensures value { result ≡ length (decimal address.now.size) }
+    ensures most { result ≤ 64 }
+{
+    digits(address.size as usize, 10)
 }
 
-// So many spaces as a cell of a width lacks in its column.
-fn missing(column: usize, cell: usize) -> Spaces {
-    Spaces(column.saturating_sub(cell))
+#[tactic(auto, using(crate::proofs::Widths::size_wide))]
+fn size_width(address: &Address<'_>) -> usize
+    ensures { result ≡ length (size_text address.now) }
+{
+    size_digits(address) + unit(address).len()
 }
 
 impl Columns {
     /// For the headings alone.
-    pub fn new() -> Self {
+    pub fn new() -> Self
+        ensures { result ≡ headings }
+    {
         Columns {
             path: 4,
             group: 5,
@@ -57,78 +98,247 @@ impl Columns {
         }
     }
 
+    // For the cells of an address alone.
+    #[tactic(auto, unfolding(crate::specs::Table::widths_of))]
+    fn of(path: &[u8], address: &Address<'_>) -> Self
+        ensures { result ≡ widths_of path.entry address.now }
+    {
+        Columns {
+            path: shown_width(path),
+            group: hexadecimal_width(address.group.0),
+            offset: offset_width(address),
+            size: size_width(address),
+            type_name: shown_width(address.type_name),
+        }
+    }
+
+    // Wide enough for both.
+    #[tactic(auto, unfolding(crate::specs::Table::widest))]
+    fn widest(self, other: Columns) -> Self
+        ensures { result ≡ widest self other }
+    {
+        Columns {
+            path: self.path.max(other.path),
+            group: self.group.max(other.group),
+            offset: self.offset.max(other.offset),
+            size: self.size.max(other.size),
+            type_name: self.type_name.max(other.type_name),
+        }
+    }
+
     /// Wide enough for one more line.
-    pub fn fit(&mut self, bound: &Bound<'_>) {
-        self.path = shown_width(bound.path).max(self.path);
-        let Ok(address) = &bound.answer else {
-            return;
-        };
-        self.group = (digits(address.group.0 as usize, 16) + 2).max(self.group);
-        self.offset = offset_width(address).max(self.offset);
-        self.size = size_width(address).max(self.size);
-        self.type_name = shown_width(address.type_name).max(self.type_name);
+    #[tactic(auto, unfolding(crate::specs::Table::fitted))]
+    pub fn fit(&mut self, bound: &Bound<'_>)
+        ensures { self.new ≡ fitted self.old bound.now }
+    {
+        match &bound.answer {
+            Ok(address) => *self = self.widest(Columns::of(bound.path, address)),
+            Err(_) => self.path = self.path.max(shown_width(bound.path)),
+        }
     }
 
     /// Writes the line of headings. Numbers stand at the right of their columns.
-    pub fn write_headings<W: Write>(&self, out: &mut W) -> io::Result<()> {
-        let path = missing(self.path, 4);
-        let group = missing(self.group, 5);
-        let offset = missing(self.offset, 6);
-        let size = missing(self.size, 4);
-        let type_name = missing(self.type_name, 4);
-        writeln!(
-            out,
-            "path{path}  {group}group  {offset}offset  {size}size  type{type_name}  entry"
-        )
+    pub fn write_headings<W: Write>(&self, out: &mut W) -> io::Result<()>
+        ensures { OnOk result (Appends (W.contents out.old) (W.contents out.new) (headings_text self.now ++ codes "\n")) }
+    {
+        let headings = Headings(*self);
+        writeln!(out, "{headings}")
     }
 
-    fn write_numbers<W: Write>(&self, address: &Address<'_>, out: &mut W) -> io::Result<()> {
-        let (group, offset, size) = (address.group.0, address.offset.0, address.size);
-        let before_group = missing(self.group, digits(group as usize, 16) + 2);
-        let before_offset = missing(self.offset, offset_width(address));
-        write!(
-            out,
-            "  {before_group}0x{group:X}  {before_offset}0x{offset:X}"
-        )?;
-        if tells_bit(address) {
-            let bit = address.bit;
-            write!(out, ".{bit}")?;
-        }
-        let before_size = missing(self.size, size_width(address));
-        let unit = unit(address);
-        write!(out, "  {before_size}{size}{unit}")
-    }
-
-    fn write_entry<W: Write>(&self, address: &Address<'_>, out: &mut W) -> io::Result<()> {
-        let type_name = Shown(address.type_name);
-        let behind = missing(self.type_name, shown_width(address.type_name));
-        let (upload, place) = match address.place {
-            Place::Symbol(at) => ("symbols", at),
-            Place::DataType(at) => ("types", at),
+    /// Writes the line of a path: its address, or why it has none.
+    #[tactic(auto, unfolding(crate::specs::Table::line_text))]
+    pub fn write_line<W: Write>(&self, bound: &Bound<'_>, out: &mut W) -> io::Result<()>
+        ensures { OnOk result (Appends (W.contents out.old) (W.contents out.new) (line_text self.now bound.now)) }
+    {
+        let path = Name {
+            name: bound.path,
+            column: self.path,
         };
-        writeln!(out, "  {type_name}{behind}  {upload} {place}")
+        let answer = Answer {
+            columns: *self,
+            bound,
+        };
+        writeln!(out, "{path}  {answer}")
     }
+}
 
-    /// Writes the line of a path.
-    pub fn write_line<W: Write>(&self, bound: &Bound<'_>, out: &mut W) -> io::Result<()> {
-        let path = Shown(bound.path);
-        let behind = missing(self.path, shown_width(bound.path));
-        write!(out, "{path}{behind}")?;
-        match &bound.answer {
-            Ok(address) => {
-                self.write_numbers(address, out)?;
-                self.write_entry(address, out)
-            }
+#[derive(Clone, Copy)]
+struct Headings(Columns);
+
+impl fmt::Display for Headings {
+    ghost output = { λ h. Some (headings_text h.0) };
+
+    #[tactic(auto, unfolding(crate::specs::Table::headings_text))]
+    fn fmt<W: fmt::Write>(&self, f: &mut fmt::Formatter<W>) -> fmt::Result {
+        let columns = self.0;
+        let path = AtLeft("path", columns.path);
+        let group = AtRight("group", columns.group);
+        let offset = AtRight("offset", columns.offset);
+        write!(f, "{path}  {group}  {offset}")?;
+        let size = AtRight("size", columns.size);
+        let type_name = AtLeft("type", columns.type_name);
+        write!(f, "  {size}  {type_name}  entry")
+    }
+}
+
+// The offset at the right of its column, and a bit behind it.
+#[derive(Clone, Copy)]
+struct Offset<'a> {
+    address: &'a Address<'a>,
+    column: usize,
+}
+
+impl fmt::Display for Offset<'_> {
+    ghost output = { λ o. Some (offset_cell o.column o.address.now) };
+
+    #[tactic(auto, unfolding(crate::specs::Table::offset_cell, crate::specs::Table::offset_text))]
+    fn fmt<W: fmt::Write>(&self, f: &mut fmt::Formatter<W>) -> fmt::Result {
+        let gap = Spaces(self.column.saturating_sub(offset_width(self.address)));
+        let offset = self.address.offset.0;
+        write!(f, "{gap}0x{offset:X}")?;
+        if tells_bit(self.address) {
+            let bit = self.address.bit;
+            return write!(f, ".{bit}");
+        }
+        Ok(())
+    }
+}
+
+// The size at the right of its column, with its unit if it is in bits.
+#[derive(Clone, Copy)]
+struct Size<'a> {
+    address: &'a Address<'a>,
+    column: usize,
+}
+
+impl fmt::Display for Size<'_> {
+    ghost output = { λ s. Some (size_cell s.column s.address.now) };
+
+    #[tactic(auto, unfolding(crate::specs::Table::size_cell, crate::specs::Table::size_text))]
+    fn fmt<W: fmt::Write>(&self, f: &mut fmt::Formatter<W>) -> fmt::Result {
+        let gap = Spaces(self.column.saturating_sub(size_width(self.address)));
+        let size = self.address.size;
+        let unit = unit(self.address);
+        write!(f, "{gap}{size}{unit}")
+    }
+}
+
+#[derive(Clone, Copy)]
+struct NumberCells<'a> {
+    columns: Columns,
+    address: &'a Address<'a>,
+}
+
+impl fmt::Display for NumberCells<'_> {
+    ghost output = { λ c. Some (numbers_text c.columns c.address.now) };
+
+    #[tactic(auto, unfolding(crate::specs::Table::numbers_text))]
+    fn fmt<W: fmt::Write>(&self, f: &mut fmt::Formatter<W>) -> fmt::Result {
+        let (columns, address) = (self.columns, self.address);
+        let group = Hexadecimal {
+            number: address.group.0,
+            column: columns.group,
+        };
+        let offset = Offset {
+            address,
+            column: columns.offset,
+        };
+        let size = Size {
+            address,
+            column: columns.size,
+        };
+        write!(f, "{group}  {offset}  {size}")
+    }
+}
+
+// The upload that an entry stands in, and where.
+#[derive(Clone, Copy)]
+struct Entry(Place);
+
+impl fmt::Display for Entry {
+    ghost output = { λ e. Some (entry_text e.0) };
+
+    #[tactic(auto, unfolding(crate::specs::Table::entry_text))]
+    fn fmt<W: fmt::Write>(&self, f: &mut fmt::Formatter<W>) -> fmt::Result {
+        let upload = upload_word(self.0);
+        let place = place_there(self.0);
+        write!(f, "{upload} {place}")
+    }
+}
+
+// All cells of an address.
+#[derive(Clone, Copy)]
+struct AddressCells<'a>(NumberCells<'a>);
+
+impl fmt::Display for AddressCells<'_> {
+    ghost output = { λ c. Some (address_text c.0.columns c.0.address.now) };
+
+    #[tactic(auto, unfolding(crate::specs::Table::address_text))]
+    fn fmt<W: fmt::Write>(&self, f: &mut fmt::Formatter<W>) -> fmt::Result {
+        let numbers = self.0;
+        let type_name = Name {
+            name: numbers.address.type_name,
+            column: numbers.columns.type_name,
+        };
+        let entry = Entry(numbers.address.place);
+        write!(f, "{numbers}  {type_name}  {entry}")
+    }
+}
+
+// A part of a path behind a colon, if it has a byte.
+#[derive(Clone, Copy)]
+struct PartBehind<'a>(Option<&'a [u8]>);
+
+impl fmt::Display for PartBehind<'_> {
+    ghost output = { λ p. Some (part_text p.0) };
+
+    fn fmt<W: fmt::Write>(&self, f: &mut fmt::Formatter<W>) -> fmt::Result {
+        let Some(part) = self.0 else {
+            return Ok(());
+        };
+        if part.is_empty() {
+            return Ok(());
+        }
+        let part = Shown(part);
+        write!(f, ": {part}")
+    }
+}
+
+// Why there is no address.
+#[derive(Clone, Copy)]
+struct Refused<'a> {
+    path: &'a [u8],
+    why: &'a Refusal,
+}
+
+impl fmt::Display for Refused<'_> {
+    ghost output = { λ r. Some (refused_text r.path r.why.now) };
+
+    #[tactic(auto, unfolding(crate::specs::Table::refused_text))]
+    fn fmt<W: fmt::Write>(&self, f: &mut fmt::Formatter<W>) -> fmt::Result {
+        let reason = Reason(self.why);
+        let part = PartBehind(refused_part(self.path, self.why));
+        write!(f, "{reason}{part}")
+    }
+}
+
+// What stands behind the path.
+#[derive(Clone, Copy)]
+struct Answer<'a> {
+    columns: Columns,
+    bound: &'a Bound<'a>,
+}
+
+impl fmt::Display for Answer<'_> {
+    ghost output = { λ a. Some (answer_by a.columns a.bound.now.path a.bound.now.answer) };
+
+    fn fmt<W: fmt::Write>(&self, f: &mut fmt::Formatter<W>) -> fmt::Result {
+        let columns = self.columns;
+        match &self.bound.answer {
+            Ok(address) => AddressCells(NumberCells { columns, address }).fmt(f),
             Err(why) => {
-                let words = Reason(why);
-                write!(out, "  {words}")?;
-                match refused_part(bound.path, why) {
-                    Some(part) if !part.is_empty() => {
-                        let part = Shown(part);
-                        writeln!(out, ": {part}")
-                    }
-                    _ => writeln!(out),
-                }
+                let path = self.bound.path;
+                Refused { path, why }.fmt(f)
             }
         }
     }

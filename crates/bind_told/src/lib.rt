@@ -6,6 +6,7 @@ ghost use Rattle.le.specs.Le.{le2};
 ghost use Rattle.told.specs.Told.{Tells, record_told};
 ghost use Rattle.told.specs.Slots.{slots_after};
 ghost use Rattle.bind_told.specs.Address.{address_slots, behind, upload_of, start_of, type_name_at};
+ghost use Rattle.bind_told.specs.Meaning.{AddressesTold};
 
 use bind::Address;
 use bind::reading::Place;
@@ -91,3 +92,9 @@ pub fn address(
         Err(why) => refused(why, answer),
     }
 }
+
+/// The theorem, as the contract of a function that does nothing: each slot says the address's own, by its number; the name of the type stands where its two slots
+/// and the entry's start say; a refusal is told by its number and figures, and leaves the slots as they were.
+pub fn addresses_told()
+    ensures { AddressesTold }
+{}

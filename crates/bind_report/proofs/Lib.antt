@@ -1,0 +1,5 @@
+pub mod Widths
+pub mod Meaning
+pub mod Lines
+pub mod Aligned
+pub mod Sample
