@@ -166,8 +166,8 @@ pub fn import(sheet: &[u8], upload: &mut [u8]) -> Result<usize, Refusal>
 
 // The theorem. It is the contract of a function that does nothing, so that it does not go unnoticed if its proof does.
 
-/// A sheet is refused for its rows, then for the first fault of its text, then for the first string that is too long, then for too long
-/// an upload; else the entries of its rows are written.
+/// A sheet is refused exactly for its rows, then for the first fault of its text, then for the first string that is too long, then for
+/// too long an upload; else the entries of its rows are written.
 pub fn imports_meant()
     ensures { ImportsMeant }
 {}
