@@ -40,7 +40,7 @@ at_fault t place kind f =
     ∙ ap (prefixed s) (encoded_fault place (drop place t) kind (record { some = some; here = f.here }))
 
 -- ---- strings
-string_told : (s t : List ℕ) → AreBytes s → Doubled s t → string_of t ≡ s
+pub string_told : (s t : List ℕ) → AreBytes s → Doubled s t → string_of t ≡ s
 string_told s t h d = ap string_of (sym (doubled_one d)) ∙ string_escaped s h
 
 count_good : (n m : ℕ) → n ≡ m → m ≤ 65535 → count_checked n ≡ Ok tt

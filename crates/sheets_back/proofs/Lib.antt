@@ -1,3 +1,5 @@
 pub mod Written
 pub mod Laid
 pub mod Trip
+pub mod Kept
+pub mod Again
