@@ -11,6 +11,7 @@ mod names;
 mod report;
 mod rig;
 mod salvage;
+mod sheets;
 /// The declarations of the Rust crate, which tools/bench puts beside this folder.
 #[allow(dead_code)]
 #[path = "../bindings/rust/src/sys.rs"]
@@ -96,6 +97,7 @@ fn main() {
     names::rows(&mut report, seed, "name index, names alike", &alike);
     salvage::rows(&mut report, &rig);
     captures::rows(&mut report, &rig);
+    sheets::rows(&mut report, &Rig::bare(seed, SYMBOLS));
     text::rows(&mut report, seed);
     write::rows(&mut report, &rig);
     types::rows(&mut report, &rig);
