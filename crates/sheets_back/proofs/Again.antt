@@ -30,11 +30,11 @@ use Rattle.sheets_back.proofs.Kept as kept
 use Rattle.sheets_back.proofs.Trip.{own_step, sheets_come_back}
 
 -- rows whose entries are an upload's
-data Good : List Line → Type 0 where
+pub data Good : List Line → Type 0 where
   none : Good []
   line : {l : Line} {lines : List Line} → HasNumbers l.cells l.numbers → Fit l.cells → Good lines → Good (l ∷ lines)
 
-good : {s : List ℕ} {lines : List Line} → AreLines s lines → AllFit lines → Good lines
+pub good : {s : List ℕ} {lines : List Line} → AreLines s lines → AllFit lines → Good lines
 good no_lines none_fit = none
 good (line_row r n a) (row_fits f b) = line n f (good a b)
 

@@ -1,9 +1,12 @@
 -- The entry of a row, as the symbol writer writes it, and the row of that entry.
 use Rattle.std.proofs.Common.{ℕ, ◌+◌, ◌<◌, ◌≡◌, refl, sym, ap, subst, ◌∙◌, true, false, List, [], ◌++◌, append_assoc, append-nil, length, get_or, Ok, Err, None, Bor, Result, arith}
+use borrow.Author.Tests.{le-ltb}
 use Rattle.le.specs.Le.{le2, le4, has, bytes4, part}
+use Rattle.refusal.specs.Refusal.{limit}
 use Rattle.refusal.specs.declared.Refusal.{Refusal}
 use Rattle.refusal.specs.declared.Mode.TheVariants.{Present}
 use Rattle.writing.specs.Layout.{lengths_bytes, strings_bytes, attributes_bytes, entry_bytes}
+use Rattle.writing.specs.Checks.{entry_checked}
 use Rattle.writing.proofs.Entry.{length_entry}
 use Rattle.writing.proofs.Laid as laid
 use Rattle.attribute.specs.Block as attribute-block
@@ -11,12 +14,12 @@ use Rattle.refactor.specs.Block as refactor-block
 use Rattle.symbol.specs.declared.writer.NewSymbol.{NewSymbol}
 use Rattle.symbol.specs.Symbol.{type_guid_flag, attributes_flag, extended_flags_flag, symbol_of}
 use Rattle.symbol.specs.Told.{IsTyped}
-use Rattle.symbol.specs.Writing.{flagged, numbers_bytes as symbol_numbers, header_bytes, sections_bytes, symbol_bytes}
+use Rattle.symbol.specs.Writing.{flagged, numbers_bytes as symbol_numbers, header_bytes, sections_bytes, sections_checked, symbol_bytes, symbol_checked, symbol_written}
 use Rattle.symbol.proofs.Accepted.{Accepted}
 use Rattle.symbol.proofs.Back as back
 use Rattle.symbol.proofs.Header as header
 use Rattle.symbol.proofs.Header.{body_of}
-use Rattle.symbol.proofs.Writable.{test_same, none_unflagged}
+use Rattle.symbol.proofs.Writable.{test_same, none_unflagged, strings_pass}
 use Rattle.sheet.specs.CellsMeant.{IsCell, IsRow}
 use Rattle.sheet.specs.ExportMeant.{IsWhole, IsAdmitted, guid, attributes, extended_flags, held, not_whole}
 use Rattle.sheet_rows.specs.Rows.{Line}
@@ -27,6 +30,7 @@ use Rattle.sheet_import.specs.ImportMeant.{Fit}
 use Rattle.sheet_import.proofs.Sizes.{entry_long}
 use Rattle.sheet_import.proofs.Meaning.{string_told}
 use Rattle.sheets_back.specs.Again.{IsAgain}
+use Rattle.sheets_back.specs.Entries.{IsOf}
 
 abbrev pub lying : List ℕ → Bor (List ℕ)
 lying s = record { ref_ptr = (0, 0); now = s }
@@ -112,6 +116,38 @@ module _ (l : Line) (h : HasNumbers l.cells l.numbers) (f : Fit l.cells) where
     extended_agree = none_unflagged (flagged m extended_flags_flag) 0 (λ _. refl);
     chain_agrees = refl;
     small = omega (arith, ap length (sym (append-nil (body_of m))), length_entry (body_of m), long, entry_size, f.name, f.type_name, f.comment);
+  }
+
+  -- the writer writes it
+  checked : symbol_checked m ≡ Ok tt
+  unfolding symbol_checked sections_checked attribute-block.exact refactor-block.exact
+  checked = simp (
+    strings_pass f.strings.name f.strings.type_name f.strings.comment accepted.short,
+    accepted.guid_agrees,
+    accepted.attributes_agree,
+    accepted.extended_agree,
+  )
+
+  bytes_are : symbol_bytes m ≡ e
+  unfolding symbol_bytes
+  bytes_are = ap entry_bytes (sym (append-nil (body_of m)))
+
+  pub written : symbol_written m ≡ Ok e
+  unfolding symbol_written entry_checked
+  written = simp (checked, le-ltb limit (length (symbol_bytes m)) accepted.small) (ap (λ (b : List ℕ). Ok b) bytes_are)
+
+  pub is_of : IsOf l m
+  is_of = record {
+    index_group = refl;
+    index_offset = refl;
+    size = refl;
+    data_type_id = refl;
+    flags = refl;
+    high = refl;
+    strings = f.strings;
+    name = refl;
+    type_name = refl;
+    comment = refl;
   }
 
   -- where it lies it is read

@@ -3,3 +3,4 @@ pub mod Laid
 pub mod Trip
 pub mod Kept
 pub mod Again
+pub mod Entries

@@ -3,10 +3,16 @@
 
 ghost use Rattle.sheets_back.specs.Back.{SheetsComeBack};
 ghost use Rattle.sheets_back.specs.Again.{SheetsAgain};
+ghost use Rattle.sheets_back.specs.Entries.{SheetsWritten};
 
 /// The sheet of an upload is imported as that upload, byte for byte, wherever the two lie.
 pub fn sheets_come_back()
     ensures { SheetsComeBack }
+{}
+
+/// The upload of a sheet is, row after row, what the symbol writer gives for a symbol of the row's numbers and strings.
+pub fn sheets_written()
+    ensures { SheetsWritten }
 {}
 
 /// An upload that was made of a sheet has a sheet, the rows of that one row after row: their numbers without leading zeros, their
