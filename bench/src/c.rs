@@ -342,6 +342,23 @@ pub fn join_lines(text: &[u8], out: &mut [u8]) -> usize {
     done("join_lines", status, answer)
 }
 
+/// The sheet of an upload, or the upload of a sheet: how many bytes were written.
+pub fn sheet_export(bytes: &[u8], sheet: &mut [u8]) -> usize {
+    let mut answer = [0; 2];
+    let (start, room) = (bytes.as_ptr(), sheet.as_mut_ptr());
+    let status =
+        unsafe { sys::vindaskot_sheet_export(start, bytes.len(), room, sheet.len(), &mut answer) };
+    done("sheet_export", status, answer)
+}
+
+pub fn sheet_import(sheet: &[u8], out: &mut [u8]) -> usize {
+    let mut answer = [0; 2];
+    let (start, room) = (sheet.as_ptr(), out.as_mut_ptr());
+    let status =
+        unsafe { sys::vindaskot_sheet_import(start, sheet.len(), room, out.len(), &mut answer) };
+    done("sheet_import", status, answer)
+}
+
 /// `vindaskot_find` of this archive, or of an earlier one.
 pub type Find =
     unsafe extern "C" fn(*const u8, usize, *const u8, usize, answer: &mut [u64; 2]) -> u32;

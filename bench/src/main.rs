@@ -12,6 +12,7 @@ mod names;
 mod report;
 mod rig;
 mod salvage;
+mod sheets;
 /// The declarations of the Rust crate, which tools/bench puts beside this folder.
 #[allow(dead_code)]
 #[path = "../bindings/rust/src/sys.rs"]
@@ -98,6 +99,7 @@ fn main() {
     bind::rows(&mut report, seed, &rig);
     salvage::rows(&mut report, &rig);
     captures::rows(&mut report, &rig);
+    sheets::rows(&mut report, &Rig::bare(seed, SYMBOLS));
     text::rows(&mut report, seed);
     write::rows(&mut report, &rig);
     types::rows(&mut report, &rig);

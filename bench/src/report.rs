@@ -15,6 +15,8 @@ pub struct Goals {
     pub names: Figures,
     /// Ratios, beside an encoder that takes its text for UTF-8 without a look.
     pub unchecked: Figures,
+    /// Ratios, beside the crate csv.
+    pub sheets: Figures,
     /// Seconds.
     pub index_and_finds: Figures,
     /// Seconds for 9,000 paths.
@@ -51,6 +53,9 @@ impl Goals {
         println!(
             "no goal: beside an encoder that does not check its text (least {ratio:.2}, {row})"
         );
+        let what = "sheets at least level with the crate csv and what it leaves to be done";
+        let (row, ratio) = least(&self.sheets);
+        goal(1.0 <= *ratio, what, format!("least {ratio:.2}, {row}"));
         let what = "index and 9,000 finds far inside four seconds";
         let (row, seconds) = most(&self.index_and_finds);
         goal(*seconds <= 1.0, what, format!("most {seconds:.3} s, {row}"));

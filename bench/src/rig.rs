@@ -252,6 +252,21 @@ impl Rig {
         Self::of(all, bytes)
     }
 
+    /// The same symbols without sections, as a sheet holds them.
+    pub fn bare(seed: u64, symbols: usize) -> Self {
+        let mut all = Self::new(seed, symbols, usize::MAX).symbols;
+        for s in &mut all {
+            s.flags &= !(GUID | ATTRIBUTES | EXTENDED);
+            s.extended = 0;
+            s.guid.clear();
+            s.attributes.clear();
+            s.block.clear();
+            s.former.clear();
+            s.chain.clear();
+        }
+        Self::of(all.into_iter(), usize::MAX)
+    }
+
     /// The hardest names for a search: all of one length, and alike but for the digits near their end.
     pub fn alike(seed: u64, symbols: usize) -> Self {
         Self::named(seed, symbols, |n| {

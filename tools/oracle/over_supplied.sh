@@ -11,9 +11,9 @@ glue=$(cd "$(dirname "$0")" && pwd)
 root=$(cd "$glue/../.." && pwd)
 fetched=$root/target/oracle
 crates=$fetched/files/usr/share/cargo/registry
-if [ ! -d "$crates" ]; then
+if ! ls -d "$crates"/csv-[0-9]* >/dev/null 2>&1; then
     packages=
-    for crate in encoding-rs serde serde-derive serde-json thiserror thiserror-impl syn quote proc-macro2 unicode-ident cfg-if itoa ryu; do
+    for crate in encoding-rs serde serde-derive serde-json thiserror thiserror-impl syn quote proc-macro2 unicode-ident cfg-if itoa ryu csv csv-core bstr memchr lazy-static regex-automata byteorder libc compiler-builtins rustc-std-workspace-core; do
         packages="$packages librust-$crate-dev"
     done
     # shellcheck disable=SC2086

@@ -23,7 +23,7 @@ use Rattle.sheet.specs.CellsMeant.{IsPlain, Doubled, none, quote, other, IsCell,
 use Rattle.sheet.specs.ExportMeant.{IsWhole, IsAdmitted, guid, attributes, extended_flags, held, not_whole, AdmittedMeant}
 use Rattle.sheet.proofs.Escapes.{quote_doubled, text_kept, cell_plain, cell_quoted}
 
-doubled_is : (s : List ℕ) → Doubled s (escaped_all s)
+pub doubled_is : (s : List ℕ) → Doubled s (escaped_all s)
 unfolding escaped_all escaped
 doubled_is [] = none
 doubled_is (b ∷ s) = by (eqb b 34) refl (doubled_is s)

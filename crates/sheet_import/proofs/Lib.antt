@@ -5,4 +5,5 @@ pub mod CellTexts
 pub mod Sizes
 pub mod Putting
 pub mod Ready
+mod Halves
 pub mod Meaning

@@ -1,5 +1,5 @@
 -- In which order a sheet is refused.
-use Rattle.std.proofs.Common.{ℕ, ◌+◌, ◌<◌, ◌≤◌, ◌≡◌, refl, sym, ap, ◌∙◌, Bool, List, ◌++◌, length, take, drop, length-append, length-take-le, take-append-drop, arith}
+use Rattle.std.proofs.Common.{ℕ, ◌+◌, ◌<◌, ◌≤◌, ◌≡◌, ⊎_elim, refl, sym, ap, subst, ◌∙◌, Bool, List, ◌++◌, length, take, drop, length-append, length-take-le, take-append-drop, arith}
 use Rattle.std.specs.Prelude.{Result, Ok, Err, if◌then◌else◌}
 use Rattle.std.specs.Borrow.{Bor}
 use borrow.Author.Tests.{lt-ltb, le-ltb}
@@ -13,15 +13,17 @@ use Rattle.text.specs.Faults.{IsFirstFault}
 use Rattle.text.specs.Text.{decoded, encoded_from}
 use Rattle.text.proofs.Back.{prefixed}
 use Rattle.text.proofs.Theory.{encoded_front, encoded_fault, source_of}
+use Rattle.text.proofs.Utf8.{le_or_lt}
 use Rattle.sheet.specs.CellsMeant.{Doubled}
 use Rattle.sheet.proofs.Meant.{doubled_one}
 use Rattle.sheet_rows.specs.declared.cells.Cells.{Cells}
 use Rattle.sheet_rows.specs.Rows.{Line, lines_of}
 use Rattle.sheet_import.specs.Strings.{string_of, IsText}
 use Rattle.sheet_import.specs.Import.{upload_of, cells_checked, lines_checked, told, size_of, importing}
-use Rattle.sheet_import.specs.ImportMeant.{Strings, Fit, IsLong, name, type_name, comment, AllFit, none, row, FirstLong, here, behind, ImportsMeant}
+use Rattle.sheet_import.specs.ImportMeant.{Strings, Fit, IsLong, name, type_name, comment, AllFit, none, row, FirstLong, here, behind, IsImport, rows, text, long, large, written, ImportsMeant}
 use Rattle.sheet_import.proofs.StringsRead.{string_escaped, encoded_decoded}
 use Rattle.sheet_import.proofs.Sizes.{first_bad, second_bad, third}
+use Rattle.sheet_import.proofs.Halves.{text_or_fault, sheet_halves}
 use Rattle.sheet_import.proofs.Ready.{importing_on}
 
 -- the first fault of a text is what is told of it
@@ -38,8 +40,8 @@ at_fault t place kind f =
     ∙ ap (prefixed s) (encoded_fault place (drop place t) kind (record { some = some; here = f.here }))
 
 -- ---- strings
-string_told : (s text : List ℕ) → AreBytes s → Doubled s text → string_of text ≡ s
-string_told s text h d = ap string_of (sym (doubled_one d)) ∙ string_escaped s h
+pub string_told : (s t : List ℕ) → AreBytes s → Doubled s t → string_of t ≡ s
+string_told s t h d = ap string_of (sym (doubled_one d)) ∙ string_escaped s h
 
 count_good : (n m : ℕ) → n ≡ m → m ≤ 65535 → count_checked n ≡ Ok tt
 count_good n m e h = ap (λ (b : Bool). if b then Err (TooLong 65535 n) else Ok tt) (le-ltb 65535 n (omega (arith, e, h)))
@@ -103,11 +105,37 @@ module _ (s : Bor (List ℕ)) where
   abbrev at_size : List Line → Bool → Result (List ℕ) Refusal
   at_size lines b = and_then (if b then Err (TooLarge (told (length (upload_of lines)))) else Ok (tt {0})) (λ _. Ok (upload_of lines))
 
+  -- each case is told as it says
+  told_so : (w : Result (List ℕ) Refusal) → IsImport s w → importing s ≡ w
+  told_so w (rows {why} h) = first why h
+  told_so w (text {lines} {place} {kind} h f) = second lines place kind h f
+  told_so w (long {lines} {n} h x f) = sized lines (Err (TooLong 65535 n)) h x (long_told lines n f)
+  told_so w (large {lines} h x f k) = sized lines (Ok tt) h x (all_checked lines f) ∙ ap (at_size lines) (lt-ltb limit (told (length (upload_of lines))) (omega (arith, k)))
+  told_so w (written {lines} h x f k) = sized lines (Ok tt) h x (all_checked lines f) ∙ ap (at_size lines) (le-ltb limit (told (length (upload_of lines))) (omega (arith, k)))
+
+  abbrev Some_case : Type 0
+  Some_case = (w : Result (List ℕ) Refusal) × IsImport s w
+
+  -- and one is met
+  by_length : (lines : List Line) → lines_of s ≡ Ok lines → IsText s.now → AllFit lines → Some_case
+  by_length lines h x f = ⊎_elim
+      (λ k. (Ok (upload_of lines), written h x f k))
+      (λ k. (Err (TooLarge (told (length (upload_of lines)))), large h x f k)) (le_or_lt (length (upload_of lines)) 16777216)
+
+  by_text : (lines : List Line) → lines_of s ≡ Ok lines → Some_case
+  by_text lines h = ⊎_elim
+      (λ x. ⊎_elim (by_length lines h x) (λ f. (Err (TooLong 65535 f.0), long h x f.1)) (sheet_halves s lines h x))
+      (λ f. (Err (BadText f.0 f.1), text h f.2)) (text_or_fault s.now)
+
+  by_rows : (w : Result (List Line) Refusal) → lines_of s ≡ w → Some_case
+  by_rows (Ok lines) h = by_text lines h
+  by_rows (Err why) h = (Err why, rows h)
+
+  some_case : Some_case
+  some_case = by_rows (lines_of s) refl
+
+  met : (w : Result (List ℕ) Refusal) → importing s ≡ w → IsImport s w
+  met w h = subst (IsImport s) (sym (told_so some_case.0 some_case.1) ∙ h) some_case.1
+
 pub imports_meant : ImportsMeant
-imports_meant s = record {
-  rows = first s;
-  text = second s;
-  long = λ lines n h x f. sized s lines (Err (TooLong 65535 n)) h x (long_told lines n f);
-  large = λ lines h x f k. sized s lines (Ok tt) h x (all_checked lines f) ∙ ap (at_size s lines) (lt-ltb limit (told (length (upload_of lines))) (omega (arith, k)));
-  written = λ lines h x f k. sized s lines (Ok tt) h x (all_checked lines f) ∙ ap (at_size s lines) (le-ltb limit (told (length (upload_of lines))) (omega (arith, k)));
-}
+imports_meant s w = (met s w, told_so s w)

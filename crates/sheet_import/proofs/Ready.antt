@@ -68,7 +68,7 @@ passed_bad (Ok x) why h = cc
 passed_bad (Err other) why h = cc
 
 -- what stands behind the header begins with no row but it
-header_cells : (s rest : Bor (List ℕ)) → behind_header s ≡ Ok rest → (c : Cells) × (cells_of s ≡ Some c) × (c.strings.rest ≡ rest)
+pub header_cells : (s rest : Bor (List ℕ)) → behind_header s ≡ Ok rest → (c : Cells) × (cells_of s ≡ Some c) × (c.strings.rest ≡ rest)
 unfolding behind_header
 header_cells s rest h = by (cells_of s) refl h
   where
@@ -80,12 +80,12 @@ header_cells s rest h = by (cells_of s) refl h
     by (Some c) e g = inner c (is_header c) e g
     by None e g = cc
 
-record Below (s : Bor (List ℕ)) (lines : List Line) : Type 0 where
-  rest : Bor (List ℕ)
-  header : behind_header s ≡ Ok rest
-  are : lines_from (length rest.now) 2 rest ≡ Ok lines
+pub record Below (s : Bor (List ℕ)) (lines : List Line) : Type 0 where
+  pub rest : Bor (List ℕ)
+  pub header : behind_header s ≡ Ok rest
+  pub are : lines_from (length rest.now) 2 rest ≡ Ok lines
 
-below : (s : Bor (List ℕ)) (lines : List Line) → lines_of s ≡ Ok lines → Below s lines
+pub below : (s : Bor (List ℕ)) (lines : List Line) → lines_of s ≡ Ok lines → Below s lines
 unfolding lines_of
 below s lines h = by (behind_header s) refl h
   where

@@ -1,5 +1,5 @@
 -- docs/FORMAT.md, "Sheet": in which order a sheet is refused, and what is made of it else.
-use Rattle.std.specs.Prelude.{ℕ, ◌<◌, ◌≤◌, ◌≡◌, ◌^◌, ◌-◌, min, List, [], ◌∷◌, Ok, Err, length}
+use Rattle.std.specs.Prelude.{ℕ, ◌<◌, ◌≤◌, ◌≡◌, ◌↔◌, ◌^◌, ◌-◌, min, List, [], ◌∷◌, Result, Ok, Err, length}
 use Rattle.std.specs.Borrow.{Bor}
 use Rattle.refusal.specs.declared.Refusal.{Refusal}
 use Rattle.refusal.specs.declared.Refusal.TheVariants.{BadText, TooLong, TooLarge}
@@ -44,13 +44,15 @@ pub data FirstLong : List Line → ℕ → Type 0 where
   here : {l : Line} {lines : List Line} {n : ℕ} → IsLong l.cells n → FirstLong (l ∷ lines) n
   behind : {l : Line} {lines : List Line} {n : ℕ} → Fit l.cells → FirstLong lines n → FirstLong (l ∷ lines) n
 
-pub record ImportMeant (s : Bor (List ℕ)) : Type 0 where
-  pub rows : (why : Refusal) → lines_of s ≡ Err why → importing s ≡ Err why
-  pub text : (lines : List Line) (place kind : ℕ) → lines_of s ≡ Ok lines → IsFirstFault s.now place kind → importing s ≡ Err (BadText place kind)
-  pub long : (lines : List Line) (n : ℕ) → lines_of s ≡ Ok lines → IsText s.now → FirstLong lines n → importing s ≡ Err (TooLong 65535 n)
-  pub large : (lines : List Line) → lines_of s ≡ Ok lines → IsText s.now → AllFit lines → 16777216 < length (upload_of lines)
-      → importing s ≡ Err (TooLarge (min (length (upload_of lines)) (2 ^ 64 - 1)))
-  pub written : (lines : List Line) → lines_of s ≡ Ok lines → IsText s.now → AllFit lines → length (upload_of lines) ≤ 16777216 → importing s ≡ Ok (upload_of lines)
+-- why a sheet is refused, or what is made of it
+pub data IsImport (s : Bor (List ℕ)) : Result (List ℕ) Refusal → Type 0 where
+  rows : {why : Refusal} → lines_of s ≡ Err why → IsImport s (Err why)
+  text : {lines : List Line} {place kind : ℕ} → lines_of s ≡ Ok lines → IsFirstFault s.now place kind → IsImport s (Err (BadText place kind))
+  long : {lines : List Line} {n : ℕ} → lines_of s ≡ Ok lines → IsText s.now → FirstLong lines n → IsImport s (Err (TooLong 65535 n))
+  large : {lines : List Line} → lines_of s ≡ Ok lines → IsText s.now → AllFit lines → 16777216 < length (upload_of lines)
+      → IsImport s (Err (TooLarge (min (length (upload_of lines)) (2 ^ 64 - 1))))
+  written : {lines : List Line} → lines_of s ≡ Ok lines → IsText s.now → AllFit lines → length (upload_of lines) ≤ 16777216 → IsImport s (Ok (upload_of lines))
 
+-- of these cases one is met, whatever the sheet, and where one is met nothing else is told
 abbrev pub ImportsMeant : Type 0
-ImportsMeant = (s : Bor (List ℕ)) → ImportMeant s
+ImportsMeant = (s : Bor (List ℕ)) (answer : Result (List ℕ) Refusal) → (importing s ≡ answer) ↔ IsImport s answer

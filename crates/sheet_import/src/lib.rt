@@ -1,10 +1,11 @@
 //! An upload of symbols from a sheet (docs/FORMAT.md, "Sheet").
 #![tactic(auto)]
 
-ghost use Rattle.std.specs.Prelude.{◌≡◌, ◌+◌, ◌≤◌, Ok, length};
+ghost use Rattle.std.specs.Prelude.{◌≡◌, ◌+◌, ◌++◌, ◌≤◌, Ok, length};
+ghost use Rattle.le.specs.Le.{bytes2};
 ghost use Rattle.le.specs.Put.{put, Wrote};
 ghost use Rattle.part.specs.Outcome.{and_then};
-ghost use Rattle.writing.specs.Layout.{lengths_bytes, strings_bytes};
+ghost use Rattle.writing.specs.Layout.{strings_bytes};
 ghost use Rattle.writing.specs.Writing.{Writes};
 ghost use Rattle.sheet_import.specs.Strings.{AreStrings, string_of};
 ghost use Rattle.sheet_import.specs.ImportMeant.{ImportsMeant};
@@ -61,18 +62,13 @@ fn put_numbers(out: &mut [u8], at: usize, numbers: &Numbers) -> usize
     le::put_u16(out, e, numbers.high)
 }
 
-fn put_lengths(out: &mut [u8], at: usize, cells: &Three<'_>) -> usize
-    requires cells { AreStrings cells.now }
-    requires short { AreShort cells.now }
-    requires room { at + 6 ≤ length out.old }
-    ensures { Wrote out.old at (lengths_bytes (string_of cells.now.first.now) (string_of cells.now.second.now) (string_of cells.now.third.now)) out.new result }
+fn put_lengths(out: &mut [u8], at: usize, name: u16, type_name: u16, comment: u16) -> usize
+    requires { at + 6 ≤ length out.old }
+    ensures { Wrote out.old at (bytes2 name ++ (bytes2 type_name ++ bytes2 comment)) out.new result }
 {
-    let name = strings::string_length(cells.first);
-    let type_name = strings::string_length(cells.second);
-    let comment = strings::string_length(cells.third);
-    let a = le::put_u16(out, at, name as u16);
-    let b = le::put_u16(out, a, type_name as u16);
-    le::put_u16(out, b, comment as u16)
+    let a = le::put_u16(out, at, name);
+    let b = le::put_u16(out, a, type_name);
+    le::put_u16(out, b, comment)
 }
 
 fn put_strings(out: &mut [u8], at: usize, cells: &Three<'_>) -> usize
@@ -89,18 +85,6 @@ fn put_strings(out: &mut [u8], at: usize, cells: &Three<'_>) -> usize
     le::put_u8(out, e, 0)
 }
 
-// How many bytes the entry of a row has.
-fn entry_length(cells: &Three<'_>) -> usize
-    requires cells { AreStrings cells.now }
-    requires short { AreShort cells.now }
-    ensures { result ≡ 33 + length (string_of cells.now.first.now) + length (string_of cells.now.second.now) + length (string_of cells.now.third.now) }
-{
-    let name = strings::string_length(cells.first);
-    let type_name = strings::string_length(cells.second);
-    let comment = strings::string_length(cells.third);
-    BARE + name + type_name + comment
-}
-
 // Writes the entry of a row at a place that has room for it, and gives the place after it.
 fn put_entry(out: &mut [u8], at: usize, numbers: &Numbers, cells: &Three<'_>) -> usize
     requires cells { AreStrings cells.now }
@@ -108,9 +92,12 @@ fn put_entry(out: &mut [u8], at: usize, numbers: &Numbers, cells: &Three<'_>) ->
     requires room { at + length (entry_of numbers.now cells.now) ≤ length out.old }
     ensures { Wrote out.old at (entry_of numbers.now cells.now) out.new result }
 {
-    let a = le::put_u32(out, at, entry_length(cells) as u32);
+    let name = strings::string_length(cells.first);
+    let type_name = strings::string_length(cells.second);
+    let comment = strings::string_length(cells.third);
+    let a = le::put_u32(out, at, (BARE + name + type_name + comment) as u32);
     let b = put_numbers(out, a, numbers);
-    let c = put_lengths(out, b, cells);
+    let c = put_lengths(out, b, name as u16, type_name as u16, comment as u16);
     put_strings(out, c, cells)
 }
 
@@ -166,8 +153,8 @@ pub fn import(sheet: &[u8], upload: &mut [u8]) -> Result<usize, Refusal>
 
 // The theorem. It is the contract of a function that does nothing, so that it does not go unnoticed if its proof does.
 
-/// A sheet is refused for its rows, then for the first fault of its text, then for the first string that is too long, then for too long
-/// an upload; else the entries of its rows are written.
+/// A sheet is refused exactly for its rows, then for the first fault of its text, then for the first string that is too long, then for
+/// too long an upload; else the entries of its rows are written.
 pub fn imports_meant()
     ensures { ImportsMeant }
 {}

@@ -188,12 +188,12 @@ all_part : (s : List ℕ) (at n : ℕ) → All (λ b. b < 256) s → All (λ b. 
 unfolding part
 all_part s at n h = All-take (λ b. b < 256) n (drop at s) (All-drop (λ b. b < 256) at s h)
 
-record Own (s : Bor (List ℕ)) (at next : ℕ) : Type 0 where
-  claims : at + le4 s.now at ≡ next
-  inside : at + le4 s.now at ≤ length s.now
-  long : 30 ≤ le4 s.now at
+pub record Own (s : Bor (List ℕ)) (at next : ℕ) : Type 0 where
+  pub claims : at + le4 s.now at ≡ next
+  pub inside : at + le4 s.now at ≤ length s.now
+  pub long : 30 ≤ le4 s.now at
 
-own_step : (s : Bor (List ℕ)) (at next : ℕ) (answer : Option (Result AdsSymbolInfo Refusal)) → IsStep 30 (symbol_of Present) s at answer next → (r : AdsSymbolInfo) → answer ≡ Some (Ok r) → Own s at next
+pub own_step : (s : Bor (List ℕ)) (at next : ℕ) (answer : Option (Result AdsSymbolInfo Refusal)) → IsStep 30 (symbol_of Present) s at answer next → (r : AdsSymbolInfo) → answer ≡ Some (Ok r) → Own s at next
 own_step s at next a (step_ended h) r e = cc
 own_step s at next a (large h b) r e = cc
 own_step s at next a (short h b d) r e = cc
