@@ -1,4 +1,6 @@
 pub mod Letters
 pub mod Cases
 pub mod Longest
+pub mod Leads
+pub mod Reaches
 pub mod Nesting

@@ -1,3 +1,5 @@
 pub mod Cases
 pub mod Longest
+pub mod Leads
+pub mod Reaches
 pub mod Nesting

@@ -42,7 +42,7 @@ passing p P f s k d h =
     let within : k < prefix_len p s = omega (arith, h, length-take (prefix_len p s) s) in
     subst P (sym (get_or-take (prefix_len p s) s k d within)) (f (get_or s k d) (prefix_len_passes p s k d within))
 
-ends_is : (s : List ℕ) → ends s ≡ true → Ends s
+pub ends_is : (s : List ℕ) → ends s ≡ true → Ends s
 ends_is [] h = ended
 ends_is (b ∷ s) h = by (b == 46) (b == 91) refl refl h
   where
@@ -190,7 +190,7 @@ name_stops s ended = refl
 name_stops s dotted = refl
 name_stops s opened = refl
 
-has_ended : (s : List ℕ) → Ends s → ends s ≡ true
+pub has_ended : (s : List ℕ) → Ends s → ends s ≡ true
 has_ended s ended = refl
 has_ended s dotted = refl
 has_ended s opened = refl
