@@ -2,4 +2,5 @@ pub mod Cases
 pub mod Longest
 pub mod Leads
 pub mod Reaches
+pub mod Entries
 pub mod Nesting

@@ -3,6 +3,7 @@
 
 ghost use Rattle.bindings_meant.specs.Cases.{AnyCase};
 ghost use Rattle.bindings_meant.specs.Longest.{LongestMeant};
+ghost use Rattle.bindings_meant.specs.Entries.{EntriesMeant};
 ghost use Rattle.bindings_meant.specs.Nesting.{AddressWithin};
 ghost use Rattle.bindings_meant.specs.Reaches.{BindingMeant};
 
@@ -26,4 +27,10 @@ pub fn address_within()
 /// what is found for each name.
 pub fn binding_meant()
     ensures { BindingMeant }
+{}
+
+/// What an entry tells on the way along a path, of a symbol, of a data type or of a member at any level, is what its reader tells where it is accepted; and each member of
+/// what is accepted is accepted.
+pub fn entries_meant()
+    ensures { EntriesMeant }
 {}
