@@ -89,11 +89,14 @@ module _ (mode : Mode) (s : Bor (List ℕ)) (small : length s.now ≤ limit) (na
   pub is_named : (before : List FitSymbol) (g : FitSymbol) (later : List FitSymbol) → s.now ≡ all (before ++ (g ∷ later)) → g.parts.name.now ≡ name → NoneHas symbol_name name before → SymbolNamed mode s name (length (all before))
   is_named before g later is same none =
       let split : s.now ≡ all before ++ (entry g ++ all later) = is ∙ uploads.upload_split IsFit symbol_bytes body entry_is before g later in
+      let start : 0 + length (all before) ≡ length (all before) = omega arith in
       let yes : same_name g.parts.name.now name ≡ true = (same_by_letters g.parts.name.now name).1 (as_equal g.parts.name.now name same) in
       record {
         before = places 0 before;
-        behind = places (0 + length (all before) + length (entry g)) later;
-        among = steps_all (before ++ (g ∷ later)) is ∙ uploads.places_split IsFit symbol_bytes body entry_is 0 before g later;
+        behind = places (length (all before) + length (entry g)) later;
+        among =
+            steps_all (before ++ (g ∷ later)) is ∙ uploads.places_split IsFit symbol_bytes body entry_is 0 before g later
+            ∙ ap (λ (k : ℕ). places 0 before ++ (k ∷ places (k + length (entry g)) later)) start;
         has = has_of 30 symbol_of (λ r. r.length) own_name kind.four kind.long kind.room mode s name (length (all before)) (named_there (all before) g (all later) split ∙ yes);
         first = nowhere [] before (entry g ++ all later) split none;
       }

@@ -199,6 +199,16 @@ digits_stop : (rest s : List ℕ) → Closes rest s → prefix_len is_digit s �
 digits_stop rest s (before_comma e) = ap (prefix_len is_digit) e
 digits_stop rest s (at_bracket e) = refl
 
+-- what stands behind some bytes of a name, and is no part of it, stands at its end
+pub stops_at_end : (name : List ℕ) (k : ℕ) → All (λ b. (b ≢ 46) × (b ≢ 91)) name → Ends (drop k name) → length name ≤ k
+stops_at_end [] k a e = omega arith
+stops_at_end (b ∷ name) zero a e = absurd (not_both (has_ended (b ∷ name) e) (mark (is_mark b) (named b (a 0 0 (omega arith)))))
+  where
+    mark : (t : Bool) → not t ≡ true → t ≡ false
+    mark true h = absurd (not_both h refl)
+    mark false h = refl
+stops_at_end (b ∷ name) (suc k) a e = let on = stops_at_end name k (λ i d l. a (suc i) d (omega (arith, l))) e in omega (arith, on)
+
 -- two ends of a text that are as long are one
 same_end : (s x y : Bor (List ℕ)) → IsEnd s x → IsEnd s y → length x.now ≡ length y.now → x ≡ y
 same_end s x y a b h = a.is ∙ ap (λ (k : ℕ). after s (length s.now - k)) h ∙ sym b.is
