@@ -1,15 +1,24 @@
 -- What an entry tells is what its reader tells: proved.
 use Rattle.std.proofs.Common.{ℕ, zero, suc, ◌+◌, ◌-◌, ◌*◌, min, ◌<◌, ◌≤◌, ◌≡◌, refl, sym, ap, ap₂, subst, ◌∙◌, List, [], ◌∷◌, ◌++◌, length, length-drop, take, drop, arith, Bor}
-use Rattle.std.specs.Prelude.{Ok}
+use Rattle.std.specs.Prelude.{Option, Some, None, Result, Ok, Err}
+use Rattle.std.specs.Option.{option_map}
 use Rattle.std.proofs.lemmas.List.{length-append, length-take}
-use native.Mathlib.Nat.{add-zero}
 use Rattle.le.specs.Le.{le2, le4, has}
 use Rattle.part.specs.Slice.{part, after}
+use Rattle.part.specs.Outcome.{and_then}
 use Rattle.part.proofs.Slice.{part_after, after_after, length_part}
+use Rattle.refusal.specs.Refusal.{limit}
 use Rattle.refusal.specs.declared.Mode.{Mode}
+use Rattle.refusal.specs.declared.Refusal.{Refusal}
+use Rattle.names.proofs.Meaning.{same_by_letters}
+use Rattle.entry.specs.Entry.{claim_at}
+use Rattle.entry.proofs.Claims.{meets}
+use Rattle.walk.specs.Step.{step_at, parse_of}
+use Rattle.walk.proofs.Back.{steps_back}
 use Rattle.symbol.specs.declared.AdsSymbolInfo.{AdsSymbolInfo}
 use Rattle.symbol.specs.Symbol.{symbol_of, ended_symbol}
 use Rattle.symbol.specs.Symbol as symbol
+use Rattle.symbol.specs.Kind as symbol_kind
 use Rattle.field.specs.declared.front.Front.{Front}
 use Rattle.field.specs.Front.{with_strings, front_of}
 use Rattle.field.specs.Modes.{strings_end}
@@ -17,20 +26,17 @@ use Rattle.data_type.specs.declared.AdsDataTypeInfo.{AdsDataTypeInfo}
 use Rattle.data_type.specs.declared.SubItems.{SubItems}
 use Rattle.data_type.specs.declared.array.ArrayInfos.{ArrayInfos}
 use Rattle.data_type.specs.declared.reader.SubItemsRead.{SubItemsRead}
-use Rattle.data_type.specs.DataType.{taken, items_from, item_at, type_at}
+use Rattle.data_type.specs.DataType.{taken, items_from, item_at, type_at, type_of}
+use Rattle.data_type.specs.Kind as type_kind
 use Rattle.data_type.proofs.Inside.{turn, accepted_at, holds}
 use Rattle.data_type.proofs.Numbers.{heads, fills, le2_part}
 use Rattle.data_type.proofs.Parts.{part_in}
 use Rattle.bind.specs.declared.reading.Entry.{Entry}
 use Rattle.bind.specs.Reading.{behind, front, own_of, name_of, symbol_entry, type_entry}
 use Rattle.bind.specs.Adding.{items_of}
+use Rattle.bind.proofs.Alone.{behind_is, own_is, front_is}
+use Rattle.bindings_meant.specs.Reaches.{SymbolNamed, TypeNamed}
 use Rattle.bindings_meant.specs.Entries.{IsSymbol, IsType, EntriesMeant}
-
-behind_is : (s : Bor (List ℕ)) (at : ℕ) → at ≤ length s.now → behind s at ≡ after s at
-behind_is s at h = let e : min at (length s.now) ≡ at = omega arith in ap (after s) e
-
-front_is : (e : Bor (List ℕ)) (k n : ℕ) → k ≤ length e.now → front (behind e k) n ≡ part e k n
-front_is e k n h = ap (λ (x : Bor (List ℕ)). front x n) (behind_is e k h) ∙ part_after e k 0 n ∙ ap (λ (a : ℕ). part e a n) (add-zero k)
 
 -- a symbol
 record Read (e : Bor (List ℕ)) (r : AdsSymbolInfo) : Type 0 where
@@ -156,6 +162,20 @@ members_are mode levels (suc n) s items (b ∷ before) item later h e =
     let on : items_of n (behind s (le4 s.now 0)) ≡ before ++ (item ∷ later) = cc in
     members_are mode levels n t.behind t.more before item later t.rest (ap (items_of n) (sym k.rest_is) ∙ on)
 
+-- what a direct parse of the bytes that a record takes gives, reading the entry there gives
+own_read : {R : Type 0} (read : Bor (List ℕ) → Result R Refusal) (header : ℕ) (length_of : R → ℕ) (four : 4 < header) (long : (e : Bor (List ℕ)) (r : R) → read e ≡ Ok r → length_of r ≡ length e.now)
+    (s : Bor (List ℕ)) (at : ℕ) (r : R) → length s.now ≤ limit → parse_of header read (part s at (length_of r)) ≡ Ok r → read (own_of (behind s at)) ≡ Ok r
+unfolding step_at
+own_read read header length_of four long s at r small alone = by (claim_at s.now at).size refl (steps_back read header length_of four long s at r small alone)
+  where
+    by : (c : Option (Result ℕ Refusal)) → (claim_at s.now at).size ≡ c → option_map (λ claim. and_then claim (λ size. read (part s at size))) c ≡ Some (Ok r) → read (own_of (behind s at)) ≡ Ok r
+    by None q k = absurd (grind arith)
+    by (Some (Err why)) q k = absurd (grind arith)
+    by (Some (Ok size)) q k =
+        let m = meets s.now at size q in
+        let given : read (part s at size) ≡ Ok r = cc in
+        ap read (own_is s at (omega (arith, m.room))) ∙ ap (λ (n : ℕ). read (part s at n)) m.claim ∙ given
+
 pub entries_meant : EntriesMeant
 entries_meant =
     record {
@@ -164,4 +184,10 @@ entries_meant =
       member = λ mode levels own r before item later h e.
           let m = holds mode (suc levels) own r h in
           members_are mode levels r.sub_items.count r.sub_items.bytes m.items before item later m.read e;
+      symbol_named = λ mode symbols name at small f.
+          let entry = f.has.entry in
+          (entry, (own_read (symbol_of mode) 30 (λ r. r.length) symbol_kind.four (symbol_kind.long mode) symbols at entry small f.has.alone, (same_by_letters entry.name.now name).0 f.has.named));
+      type_named = λ mode types name at small f.
+          let entry = f.has.entry in
+          (entry, (own_read (type_of mode) 42 (λ r. r.field.length) type_kind.four (type_kind.long mode) types at entry small f.has.alone, (same_by_letters entry.field.name.now name).0 f.has.named));
     }

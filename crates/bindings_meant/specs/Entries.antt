@@ -1,15 +1,18 @@
 -- docs/FORMAT.md, "Binding", "Symbol entries" and "Data type entries": what an entry tells on the way along a path is what its reader tells.
-use Rattle.std.specs.Prelude.{ℕ, suc, ◌≡◌, List, ◌∷◌, ◌++◌, Ok}
+use Rattle.std.specs.Prelude.{ℕ, suc, ◌≤◌, ◌≡◌, List, ◌∷◌, ◌++◌, Ok, length}
 use Rattle.std.specs.Borrow.{Bor}
 use Rattle.le.specs.Le.{le2, le4, has}
+use Rattle.refusal.specs.Refusal.{limit}
 use Rattle.refusal.specs.declared.Mode.{Mode}
+use Rattle.names.specs.Meaning.{SameLetters}
 use Rattle.symbol.specs.declared.AdsSymbolInfo.{AdsSymbolInfo}
 use Rattle.symbol.specs.Symbol.{symbol_of}
 use Rattle.data_type.specs.declared.AdsDataTypeInfo.{AdsDataTypeInfo}
-use Rattle.data_type.specs.DataType.{type_at}
+use Rattle.data_type.specs.DataType.{type_at, type_of}
 use Rattle.bind.specs.declared.reading.Entry.{Entry}
 use Rattle.bind.specs.Reading.{behind, own_of, name_of, symbol_entry, type_entry}
 use Rattle.bind.specs.Adding.{items_of}
+use Rattle.bindings_meant.specs.Reaches.{SymbolNamed, TypeNamed}
 
 -- by an entry's own bytes, and what is told of it
 pub record IsSymbol (r : AdsSymbolInfo) (own : List ℕ) (e : Entry) : Type 0 where
@@ -32,9 +35,11 @@ pub record IsType (r : AdsDataTypeInfo) (own name : List ℕ) (e : Entry) : Type
   pub arrays : e.arrays ≡ r.arrays.bytes
   pub items : e.items ≡ r.sub_items
 
--- of a symbol and of a data type that are accepted, and of a member at any level; and each member of what is accepted is accepted
+-- of a symbol and of a data type that are accepted, and of a member at any level. What is first of a name is accepted, and so is each member of what is accepted
 pub record EntriesMeant : Type 0 where
   pub symbol : (mode : Mode) (symbols : Bor (List ℕ)) (at : ℕ) (r : AdsSymbolInfo) → symbol_of mode (own_of (behind symbols at)) ≡ Ok r → IsSymbol r (own_of (behind symbols at)).now (symbol_entry symbols at)
   pub data_type : (mode : Mode) (levels : ℕ) (s : Bor (List ℕ)) (end : ℕ) (r : AdsDataTypeInfo) → type_at mode levels (own_of s) ≡ Ok r → IsType r (own_of s).now (name_of s).now (type_entry s end)
   pub member : (mode : Mode) (levels : ℕ) (own : Bor (List ℕ)) (r : AdsDataTypeInfo) (before : List (Bor (List ℕ))) (item : Bor (List ℕ)) (later : List (Bor (List ℕ)))
       → type_at mode (suc levels) own ≡ Ok r → items_of r.sub_items.count r.sub_items.bytes ≡ before ++ (item ∷ later) → (m : AdsDataTypeInfo) × (type_at mode levels (own_of item) ≡ Ok m)
+  pub symbol_named : (mode : Mode) (symbols : Bor (List ℕ)) (name : List ℕ) (at : ℕ) → length symbols.now ≤ limit → SymbolNamed mode symbols name at → (r : AdsSymbolInfo) × ((symbol_of mode (own_of (behind symbols at)) ≡ Ok r) × SameLetters r.name.now name)
+  pub type_named : (mode : Mode) (types : Bor (List ℕ)) (name : List ℕ) (at : ℕ) → length types.now ≤ limit → TypeNamed mode types name at → (r : AdsDataTypeInfo) × ((type_of mode (own_of (behind types at)) ≡ Ok r) × SameLetters r.field.name.now name)

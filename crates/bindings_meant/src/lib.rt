@@ -29,8 +29,8 @@ pub fn binding_meant()
     ensures { BindingMeant }
 {}
 
-/// What an entry tells on the way along a path, of a symbol, of a data type or of a member at any level, is what its reader tells where it is accepted; and each member of
-/// what is accepted is accepted.
+/// What an entry tells on the way along a path, of a symbol, of a data type or of a member at any level, is what its reader tells where it is accepted; and the first of a
+/// name is accepted, and each member of what is accepted.
 pub fn entries_meant()
     ensures { EntriesMeant }
 {}
