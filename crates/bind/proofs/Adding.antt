@@ -45,16 +45,16 @@ moved_is here e more size left there h = by (nat_lt 4294967295 (to / 8)) h
           left_is = ap (λ (h : Here). h.left) (sym is);
         }
 
-record First (name : List ℕ) (items : List (Bor (List ℕ))) (end : ℕ) (e : Entry) : Type 0 where
-  before : List (Bor (List ℕ))
-  item : Bor (List ℕ)
-  later : List (Bor (List ℕ))
-  among : items ≡ before ++ (item ∷ later)
-  first : NoneNamed name before
-  same : same_name (name_of item).now name ≡ true
-  is : type_entry item end ≡ e
+pub record First (name : List ℕ) (items : List (Bor (List ℕ))) (end : ℕ) (e : Entry) : Type 0 where
+  pub before : List (Bor (List ℕ))
+  pub item : Bor (List ℕ)
+  pub later : List (Bor (List ℕ))
+  pub among : items ≡ before ++ (item ∷ later)
+  pub first : NoneNamed name before
+  pub same : same_name (name_of item).now name ≡ true
+  pub is : type_entry item end ≡ e
 
-first_is : (name : List ℕ) (n : ℕ) (s : Bor (List ℕ)) (end : ℕ) (e : Entry) → member_of name n s end ≡ Some e → First name (items_of n s) end e
+pub first_is : (name : List ℕ) (n : ℕ) (s : Bor (List ℕ)) (end : ℕ) (e : Entry) → member_of name n s end ≡ Some e → First name (items_of n s) end e
 unfolding member_of items_of
 first_is name zero s end e h = absurd (grind arith)
 first_is name (suc n) s end e h = by (same_name (name_of s).now name) refl h (first_is name n (behind s (le4 s.now 0)) end e)
@@ -78,12 +78,12 @@ first_is name (suc n) s end e h = by (same_name (name_of s).now name) refl h (fi
         }
 
 -- a mark that is 0 is none of three flags
-record Plain (flags : ℕ) : Type 0 where
-  reference : has flags 0x4 ≡ false
-  property : has flags 0x40 ≡ false
-  static_member : has flags 0x20000 ≡ false
+pub record Plain (flags : ℕ) : Type 0 where
+  pub reference : has flags 0x4 ≡ false
+  pub property : has flags 0x40 ≡ false
+  pub static_member : has flags 0x20000 ≡ false
 
-plain_is : (flags : ℕ) → type_mark flags ≡ 0 → Plain flags
+pub plain_is : (flags : ℕ) → type_mark flags ≡ 0 → Plain flags
 plain_is flags h = by (has flags 0x4) (has flags 0x40) (has flags 0x20000) refl refl refl h
   where
     by : (a b c : Bool) → has flags 0x4 ≡ a → has flags 0x40 ≡ b → has flags 0x20000 ≡ c → ◌≡◌ {A = ℕ} (if a then 0x4 else if b then 0x40 else if c then 0x20000 else 0) 0 → Plain flags
@@ -188,11 +188,11 @@ inside number lower elements index h = by (nat_lt number low) (nat_lt (number - 
         let m : number - low < elements = ltb-true (number - low) elements q in
         record { below = omega arith; is = omega arith }
 
-record Indexed (negative : Bool) (m lower elements index : ℕ) : Type 0 where
-  below : index < elements
-  above : lower < 4294967296 → IsAbove lower index (record { negative = negative; magnitude = m })
+pub record Indexed (negative : Bool) (m lower elements index : ℕ) : Type 0 where
+  pub below : index < elements
+  pub above : lower < 4294967296 → IsAbove lower index (record { negative = negative; magnitude = m })
 
-indexed : (negative : Bool) (m lower elements index : ℕ) → index_of (record { negative = negative; magnitude = m }) lower elements ≡ Some index → Indexed negative m lower elements index
+pub indexed : (negative : Bool) (m lower elements index : ℕ) → index_of (record { negative = negative; magnitude = m }) lower elements ≡ Some index → Indexed negative m lower elements index
 unfolding index_of
 indexed true m lower elements index h = by (nat_lt 2147483648 m) refl h
   where

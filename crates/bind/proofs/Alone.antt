@@ -25,10 +25,10 @@ use Rattle.bind.specs.Reading.{behind, front, own_of, symbol_mark, symbol_entry}
 use Rattle.bind.specs.Binding.{Finder, within_limit, longest, start_at, along, below, told, from_symbol, binding}
 use Rattle.bind.specs.Meaning.{LimitsFirst, SymbolAlone}
 
-behind_is : (s : Bor (List ℕ)) (at : ℕ) → at ≤ length s.now → behind s at ≡ after s at
+pub behind_is : (s : Bor (List ℕ)) (at : ℕ) → at ≤ length s.now → behind s at ≡ after s at
 behind_is s at h = let e : min at (length s.now) ≡ at = omega arith in ap (after s) e
 
-own_is : (s : Bor (List ℕ)) (at : ℕ) → at ≤ length s.now → own_of (behind s at) ≡ part s at (le4 s.now at)
+pub own_is : (s : Bor (List ℕ)) (at : ℕ) → at ≤ length s.now → own_of (behind s at) ≡ part s at (le4 s.now at)
 own_is s at h =
     ap own_of (behind_is s at h) ∙ part_after s at 0 (le4 (drop at s.now) 0)
     ∙ ap₂ (λ (a n : ℕ). part s a n) (add-zero at) (le4_drop s.now at 0 ∙ ap (le4 s.now) (add-zero at))
@@ -73,7 +73,7 @@ room_is : (mode : Mode) (e : Bor (List ℕ)) (r : AdsSymbolInfo) → symbol_of m
 unfolding symbol_of
 room_is mode e r h = grind arith
 
-front_is : (e : Bor (List ℕ)) (k n : ℕ) → k ≤ length e.now → front (behind e k) n ≡ part e k n
+pub front_is : (e : Bor (List ℕ)) (k n : ℕ) → k ≤ length e.now → front (behind e k) n ≡ part e k n
 front_is e k n h = ap (λ (x : Bor (List ℕ)). front x n) (behind_is e k h) ∙ part_after e k 0 n ∙ ap (λ (a : ℕ). part e a n) (add-zero k)
 
 limit_is : (s : List ℕ) → length s ≤ limit → within_limit s ≡ Ok tt

@@ -1,4 +1,7 @@
 pub mod Letters
 pub mod Cases
 pub mod Longest
+pub mod Leads
+pub mod Reaches
+pub mod Entries
 pub mod Nesting

@@ -5,8 +5,10 @@ use Rattle.le.proofs.Laws.{not_both}
 use Rattle.part.specs.Outcome.{outcome}
 use Rattle.refusal.specs.declared.Refusal.{Refusal}
 use Rattle.path.specs.Path.{ends}
+use Rattle.path.specs.Texts.{Ends}
+use Rattle.path.proofs.Texts.{ends_is, has_ended}
 use Rattle.bind.specs.Binding.{Finder, longest}
-use Rattle.bindings_meant.specs.Longest.{NamesSymbol, LongestMeant}
+use Rattle.bindings_meant.specs.Longest.{Answers, NamesSymbol, LongestMeant}
 
 module _ (find : Finder) (path : List ℕ) where
   -- of the names that are shorter than so many bytes
@@ -55,16 +57,21 @@ module _ (find : Finder) (path : List ℕ) where
       by more true e k = on more e (find (take n path)) refl k
       by more false e k = one_more n f (more k) (λ t at x. absurd (not_both t e))
 
-  pub names_symbol : (f : ℕ × ℕ) → longest find path (length path + 1) ≡ Ok f → NamesSymbol find path f
+  pub names_symbol : (f : ℕ × ℕ) → longest find path (length path + 1) ≡ Ok f → NamesSymbol (Answers find) path f
   names_symbol f h =
       let b = below (length path + 1) f h in
-      record { within = omega (arith, b.shorter); is_found = b.found; is_whole = b.ended; none_longer = λ m h k e at x. b.none_longer m h (omega (arith, k)) e at x }
+      record {
+        within = omega (arith, b.shorter);
+        is_found = b.found;
+        is_whole = ends_is (drop f.0 path) b.ended;
+        none_longer = λ m h k e at x. b.none_longer m h (omega (arith, k)) (has_ended (drop m path) e) at x;
+      }
 
-  not_shorter : (f g : ℕ × ℕ) → NamesSymbol find path f → NamesSymbol find path g → f.0 < g.0 → ⊥
+  not_shorter : (f g : ℕ × ℕ) → NamesSymbol (Answers find) path f → NamesSymbol (Answers find) path g → f.0 < g.0 → ⊥
   not_shorter f g a b h = a.none_longer g.0 h b.within b.is_whole g.1 b.is_found
 
   -- a path has one symbol at most
-  pub one_symbol : (f g : ℕ × ℕ) → NamesSymbol find path f → NamesSymbol find path g → f ≡ g
+  pub one_symbol : (f g : ℕ × ℕ) → NamesSymbol (Answers find) path f → NamesSymbol (Answers find) path g → f ≡ g
   one_symbol f g a b = by (ltb f.0 g.0) (ltb g.0 f.0) refl refl
     where
       by : (p q : Bool) → ltb f.0 g.0 ≡ p → ltb g.0 f.0 ≡ q → f ≡ g
@@ -78,5 +85,40 @@ module _ (find : Finder) (path : List ℕ) where
           let at : f.1 ≡ g.1 = cc in
           ap₂ (λ (n m : ℕ). (n, m)) long at
 
+  -- where none is found, none of the names is a symbol's
+  none_found : (n : ℕ) (why : Refusal) → longest find path n ≡ Err why → (m : ℕ) → m < n → ends (drop m path) ≡ true → (at : ℕ) → find (take m path) ≡ Ok at → ⊥
+  unfolding longest
+  none_found zero why h m k e at x = absurd (omega (arith, k))
+  none_found (suc n) why h m k e at x = by (none_found n why) (ends (drop n path)) refl (ltb m n) refl h
+    where
+      last : m ≡ n → ends (drop n path) ≡ true
+      last s = ap (λ (i : ℕ). ends (drop i path)) (sym s) ∙ e
+
+      on : (longest find path n ≡ Err why → (m : ℕ) → m < n → ends (drop m path) ≡ true → (at : ℕ) → find (take m path) ≡ Ok at → ⊥)
+          → (p : Bool) → ltb m n ≡ p → (r : Result ℕ Refusal) → find (take n path) ≡ r → outcome r (λ start. Ok (n, start)) (λ why. longest find path n) ≡ Err why → ⊥
+      on more p q (Ok start) r l = grind arith
+      on more true q (Err other) r l = more l m (ltb-true m n q) e at x
+      on more false q (Err other) r l =
+          let above : n ≤ m = ltb-false m n q in
+          let same : m ≡ n = omega (arith, k, above) in
+          let both : Ok at ≡ Err other = sym x ∙ ap (λ (i : ℕ). find (take i path)) same ∙ r in
+          grind arith
+
+      by : (longest find path n ≡ Err why → (m : ℕ) → m < n → ends (drop m path) ≡ true → (at : ℕ) → find (take m path) ≡ Ok at → ⊥)
+          → (t : Bool) → ends (drop n path) ≡ t → (p : Bool) → ltb m n ≡ p → (if t then outcome (find (take n path)) (λ start. Ok (n, start)) (λ why. longest find path n) else longest find path n) ≡ Err why → ⊥
+      by more true s p q l = on more p q (find (take n path)) refl l
+      by more false s true q l = more l m (ltb-true m n q) e at x
+      by more false s false q l =
+          let above : n ≤ m = ltb-false m n q in
+          let same : m ≡ n = omega (arith, k, above) in
+          not_both (last same) s
+
+  pub is_longest : (f : ℕ × ℕ) → NamesSymbol (Answers find) path f → longest find path (length path + 1) ≡ Ok f
+  is_longest f a = by (longest find path (length path + 1)) refl
+    where
+      by : (r : Result (ℕ × ℕ) Refusal) → longest find path (length path + 1) ≡ r → longest find path (length path + 1) ≡ Ok f
+      by (Ok g) e = e ∙ ap (λ (x : ℕ × ℕ). Ok x) (one_symbol g f (names_symbol g e) a)
+      by (Err why) e = absurd (none_found (length path + 1) why e f.0 (omega (arith, a.within)) (has_ended (drop f.0 path) a.is_whole) f.1 a.is_found)
+
 pub longest_meant : LongestMeant
-longest_meant = record { is = names_symbol; one = one_symbol }
+longest_meant find path f = (names_symbol find path f, is_longest find path f)

@@ -163,13 +163,13 @@ stayed here there n at h = by (nat_lt (length here.left.now) 8) refl h
     by true q k = absurd (grind arith)
     by false q k = let some : 8 ≤ length here.left.now = ltb-false (length here.left.now) 8 q in on (index_of n (le4 here.left.now 0) (le4 here.left.now 4)) (omega arith) k
 
-behind_all : (s : Bor (List ℕ)) → (behind s (length s.now)).now ≡ []
+pub behind_all : (s : Bor (List ℕ)) → (behind s (length s.now)).now ≡ []
 behind_all s = let all : min (length s.now) (length s.now) ≡ length s.now = omega arith in ap (λ (n : ℕ). drop n s.now) all ∙ drop-length s.now
 
-behind_none : (s : Bor (List ℕ)) → (behind s 0).now ≡ s.now
+pub behind_none : (s : Bor (List ℕ)) → (behind s 0).now ≡ s.now
 behind_none s = let none : min 0 (length s.now) ≡ 0 = omega arith in ap (λ (n : ℕ). drop n s.now) none
 
-behind_row : (s : Bor (List ℕ)) → 7 < length s.now → (behind s 8).now ≡ drop 8 s.now
+pub behind_row : (s : Bor (List ℕ)) → 7 < length s.now → (behind s 8).now ≡ drop 8 s.now
 behind_row s h = let row : min 8 (length s.now) ≡ 8 = omega arith in ap (λ (n : ℕ). drop n s.now) row
 
 module _ (find : Finder) (types : Bor (List ℕ)) (known : Entry → Bool) (each : EachWithin find types known) (from to : ℕ) where

@@ -1,3 +1,6 @@
 pub mod Cases
 pub mod Longest
+pub mod Leads
+pub mod Reaches
+pub mod Entries
 pub mod Nesting

@@ -7,7 +7,7 @@ use Rattle.bind.specs.declared.reading.Entry.{Entry}
 use Rattle.bind.specs.Reading.{behind, own_of, symbol_entry, type_entry}
 use Rattle.bind.specs.Adding.{items_of}
 use Rattle.bind.specs.Binding.{Finder, unit, binding}
-use Rattle.bindings_meant.specs.Longest.{NamesSymbol}
+use Rattle.bindings_meant.specs.Longest.{Answers, NamesSymbol}
 
 -- the size of one element, by so many array records: a row of the first dimension, of that a row of the next, and so on
 unfoldable pub element : ℕ → List ℕ → ℕ → ℕ
@@ -44,6 +44,6 @@ abbrev pub AddressWithin : Type 0
 AddressWithin =
     (find_symbol find_type : Finder) (symbols types path : Bor (List ℕ)) (known : Entry → Bool) (symbol : ℕ × ℕ) (a : Address)
     → EachWithin find_type types known
-    → NamesSymbol find_symbol path.now symbol → known (symbol_entry symbols symbol.1) ≡ true
+    → NamesSymbol (Answers find_symbol) path.now symbol → known (symbol_entry symbols symbol.1) ≡ true
     → binding find_symbol find_type symbols types path ≡ Ok a
     → let own : List ℕ = (own_of (behind symbols symbol.1)).now in LiesWithin (le4 own 4) (le4 own 8) (le4 own 8 + le4 own 12) a

@@ -2,6 +2,8 @@
 use Rattle.std.specs.Prelude.{ℕ, ◌+◌, ◌-◌, ◌*◌, ◌<◌, ◌≤◌, ◌≡◌, ◌≢◌, min, Bool, true, false, List, [], ◌∷◌, ◌++◌, Ok, length}
 use Rattle.std.specs.List.{All}
 use Rattle.std.specs.Borrow.{Bor}
+use Rattle.part.specs.Slice.{part}
+use Rattle.part.specs.End.{IsEnd}
 use Rattle.path.specs.declared.Split.{Split}
 use Rattle.path.specs.declared.Part.TheVariants.{Member, Element}
 use Rattle.path.specs.Path.{split_at, first_part}
@@ -38,12 +40,12 @@ unfoldable pub decimal : ℕ → List ℕ → ℕ
 decimal n [] = n
 decimal n (digit ∷ more) = decimal (10 * n + (digit - 48)) more
 
--- the part at the start of a text, and what is left
-pub data IsPart (text : List ℕ) : Split → Type 0 where
-  member : (name rest : Bor (List ℕ)) → IsName name.now → Ends rest.now → text ≡ 46 ∷ (name.now ++ rest.now) → IsPart text (split_at (Member name) rest)
+-- the part at the start of a text, and what is left of it; a name and what is left lie where they stand in the text
+pub data IsPart (text : Bor (List ℕ)) : Split → Type 0 where
+  member : (name rest : Bor (List ℕ)) → IsName name.now → Ends rest.now → text.now ≡ 46 ∷ (name.now ++ rest.now) → name ≡ part text 1 (length name.now) → IsEnd text rest → IsPart text (split_at (Member name) rest)
   element : (opening n : ℕ) (negative : Bool) (sign digits behind : List ℕ) (rest : Bor (List ℕ)) → Opens opening → Signs negative sign → AreDigits digits → Closes rest.now behind
-      → n ≡ min (decimal 0 digits) 8589934592 → text ≡ opening ∷ (sign ++ (digits ++ behind)) → IsPart text (split_at (Element (record { negative = negative; magnitude = n })) rest)
+      → n ≡ min (decimal 0 digits) 8589934592 → text.now ≡ opening ∷ (sign ++ (digits ++ behind)) → IsEnd text rest → IsPart text (split_at (Element (record { negative = negative; magnitude = n })) rest)
 
--- only what is a part is read as one
+-- what is read as a part is that part, and each part is read as itself; so what begins with none is refused, and no text begins with two
 abbrev pub PartsMeant : Type 0
-PartsMeant = (s : Bor (List ℕ)) (p : Split) → first_part s ≡ Ok p → IsPart s.now p
+PartsMeant = (s : Bor (List ℕ)) (p : Split) → (first_part s ≡ Ok p → IsPart s p) × (IsPart s p → first_part s ≡ Ok p)

@@ -211,7 +211,8 @@ pub fn parts_read()
     ensures { PartsRead }
 {}
 
-/// Whatever text it is: what is read as a name is the bytes from the dot to the next mark, and what is read as a number is digits from end to end, which write it, or one above each bound.
+/// Whatever text it is: a name is read of it exactly where it begins with a dot and those bytes, up to the next mark; a number exactly where it begins with a bracket
+/// or a comma and digits that write it, or one above each bound. So a text begins with one part at most, and is refused where it begins with none.
 pub fn parts_meant()
     ensures { PartsMeant }
 {}

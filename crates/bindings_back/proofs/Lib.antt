@@ -1,0 +1,4 @@
+pub mod Uploads
+pub mod Symbols
+pub mod Members
+pub mod Bound
