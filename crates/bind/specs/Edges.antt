@@ -2,7 +2,7 @@
 use Rattle.std.specs.Prelude.{ℕ, ◌+◌, ◌≡◌, List, [], ◌∷◌, ◌++◌, codes, Result, Err}
 use Rattle.std.specs.List.{flat_map}
 use Rattle.refusal.specs.declared.Refusal.{Refusal}
-use Rattle.refusal.specs.declared.Refusal.TheVariants.{NoSuchNumber, BadPath, WrongDimensions, NoOffset, OffsetTooLarge, TooManyAliases}
+use Rattle.refusal.specs.declared.Refusal.TheVariants.{NoSuchNumber, BadPath, NoOffset, OffsetTooLarge, TooManyAliases}
 use Rattle.bind.specs.declared.reading.Place.TheVariants.{DataType}
 use Rattle.bind.specs.Entries.{symbol, entry, Told, at, Controller, leads_in}
 

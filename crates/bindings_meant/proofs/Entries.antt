@@ -1,12 +1,12 @@
 -- What an entry tells is what its reader tells: proved.
-use Rattle.std.proofs.Common.{ℕ, zero, suc, ◌+◌, ◌-◌, ◌*◌, min, ◌<◌, ◌≤◌, ◌≡◌, refl, sym, ap, ap₂, subst, ◌∙◌, List, [], ◌∷◌, ◌++◌, length, length-drop, take, drop, arith, Bor}
+use Rattle.std.proofs.Common.{ℕ, zero, suc, ◌+◌, ◌-◌, ◌*◌, min, ◌<◌, ◌≤◌, ◌≡◌, refl, sym, ap, ap₂, subst, ◌∙◌, List, [], ◌∷◌, ◌++◌, length, length-drop, arith, Bor}
 use Rattle.std.specs.Prelude.{Option, Some, None, Result, Ok, Err}
 use Rattle.std.specs.Option.{option_map}
 use Rattle.std.proofs.lemmas.List.{length-append, length-take}
 use Rattle.le.specs.Le.{le2, le4, has}
 use Rattle.part.specs.Slice.{part, after}
 use Rattle.part.specs.Outcome.{and_then}
-use Rattle.part.proofs.Slice.{part_after, after_after, length_part}
+use Rattle.part.proofs.Slice.{after_after}
 use Rattle.refusal.specs.Refusal.{limit}
 use Rattle.refusal.specs.declared.Mode.{Mode}
 use Rattle.refusal.specs.declared.Refusal.{Refusal}
@@ -23,7 +23,6 @@ use Rattle.field.specs.declared.front.Front.{Front}
 use Rattle.field.specs.Front.{with_strings, front_of}
 use Rattle.field.specs.Modes.{strings_end}
 use Rattle.data_type.specs.declared.AdsDataTypeInfo.{AdsDataTypeInfo}
-use Rattle.data_type.specs.declared.SubItems.{SubItems}
 use Rattle.data_type.specs.declared.array.ArrayInfos.{ArrayInfos}
 use Rattle.data_type.specs.declared.reader.SubItemsRead.{SubItemsRead}
 use Rattle.data_type.specs.DataType.{taken, items_from, item_at, type_at, type_of}
@@ -31,11 +30,9 @@ use Rattle.data_type.specs.Kind as type_kind
 use Rattle.data_type.proofs.Inside.{turn, accepted_at, holds}
 use Rattle.data_type.proofs.Numbers.{heads, fills, le2_part}
 use Rattle.data_type.proofs.Parts.{part_in}
-use Rattle.bind.specs.declared.reading.Entry.{Entry}
 use Rattle.bind.specs.Reading.{behind, front, own_of, name_of, symbol_entry, type_entry}
 use Rattle.bind.specs.Adding.{items_of}
 use Rattle.bind.proofs.Alone.{behind_is, own_is, front_is}
-use Rattle.bindings_meant.specs.Reaches.{SymbolNamed, TypeNamed}
 use Rattle.bindings_meant.specs.Entries.{IsSymbol, IsType, EntriesMeant}
 
 -- a symbol

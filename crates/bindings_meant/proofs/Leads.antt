@@ -1,12 +1,12 @@
 -- What a part of a path leads to, both ways: proved, part by part.
-use Rattle.std.proofs.Common.{ℕ, zero, suc, ◌+◌, ◌-◌, ◌*◌, ◌/◌, ◌%◌, min, ◌<◌, ◌≤◌, ◌≡◌, refl, sym, ap, ap₂, subst, ◌∙◌, Bool, true, false, List, [], ◌∷◌, ◌++◌, length, drop, arith, Bor, if◌then◌else◌, eqb-true, eq-eqb, ne_eqb}
+use Rattle.std.proofs.Common.{ℕ, zero, suc, ◌+◌, ◌-◌, ◌*◌, ◌/◌, ◌%◌, ◌<◌, ◌≤◌, ◌≡◌, refl, sym, ap, subst, ◌∙◌, Bool, true, false, List, [], ◌∷◌, ◌++◌, length, arith, Bor, if◌then◌else◌, eqb-true, eq-eqb, ne_eqb}
 use Rattle.std.specs.Prelude.{Result, Ok, Err, Some, None, nat_lt, nat_eq, ◌==◌, ◌||◌}
 use Rattle.std.specs.declared.option.Option.{Option}
 use Rattle.std.specs.Cmp.Lexicographic.{pointwise, same_text, other_text}
 use Rattle.std.proofs.Math.Nat.{div-add-mod}
 use Rattle.std.proofs.lemmas.List.{length-append}
 use borrow.Author.Tests.{ltb-true, ltb-false, lt-ltb, le-ltb}
-use Rattle.le.specs.Le.{le4, has}
+use Rattle.le.specs.Le.{le4}
 use Rattle.le.proofs.Laws.{not_both}
 use Rattle.part.specs.Outcome.{outcome, and_then}
 use Rattle.part.proofs.Outcome.{both_passed}
@@ -21,14 +21,13 @@ use Rattle.path.specs.declared.Split.{Split}
 use Rattle.path.specs.declared.Part.{Part}
 use Rattle.path.specs.declared.Part.TheVariants.{Member, Element}
 use Rattle.path.specs.Path.{first_part}
-use Rattle.path.specs.Texts.{IsPart}
 use Rattle.path.proofs.Texts.{parts_meant}
 use Rattle.path.proofs.Shorter.{shorter}
 use Rattle.bind.specs.declared.reading.Entry.{Entry}
 use Rattle.bind.specs.declared.steps.Here.{Here}
 use Rattle.bind.specs.Reading.{behind, own_of, name_of, type_mark, type_entry}
 use Rattle.bind.specs.Binding.{Finder, unit, dimensions, moved, member_of, at_member, to_member, from_lower, index_of, at_element, to_element, to_part, says_again, at_type, to_type, rests, settled, along}
-use Rattle.bind.specs.Adding.{bits, items_of, NoneNamed, none, other, IsAbove, from_0, over_0, below_0, minus_0}
+use Rattle.bind.specs.Adding.{bits, items_of, NoneNamed, other, IsAbove, from_0, over_0, below_0, minus_0}
 use Rattle.bind.proofs.Adding.{first_is, plain_is, indexed}
 use Rattle.bind.proofs.Along.{rests_here, one_type, at_end as along_ends, one_part}
 use Rattle.bindings_meant.specs.Longest.{Answers}
@@ -127,8 +126,7 @@ at_item : (here there : Here) (name : List ℕ) (before : List (Bor (List ℕ)))
 unfolding type_entry
 at_item here there name before item later d among first same mark h =
     let e : Entry = type_entry item here.entry.end in
-    let w = went here e (e.offset * unit e) e.size e.arrays there h in
-    (
+    let w = went here e (e.offset * unit e) e.size e.arrays there h in (
       record {
         no_dimension = d;
         before = before;
@@ -258,8 +256,7 @@ element_leads here there n at h = by (nat_lt (length here.left.now) 8) refl h
         let w = went here here.entry (index * size * unit here.entry) size (behind here.left 8) there k in
         let i = indexed n.negative n.magnitude (le4 here.left.now 0 % 4294967296) elements index (sym (same_lower n (le4 here.left.now 0) elements) ∙ f) in
         let low : le4 here.left.now 0 % 4294967296 < 4294967296 = omega arith in
-        let some : 7 < length here.left.now = omega (arith, d) in
-        (
+        let some : 7 < length here.left.now = omega (arith, d) in (
           record {
             dimension = d;
             index = index;

@@ -5,7 +5,6 @@ use Rattle.le.proofs.Laws.{not_both}
 use Rattle.part.specs.Outcome.{outcome}
 use Rattle.refusal.specs.declared.Refusal.{Refusal}
 use Rattle.path.specs.Path.{ends}
-use Rattle.path.specs.Texts.{Ends}
 use Rattle.path.proofs.Texts.{ends_is, has_ended}
 use Rattle.bind.specs.Binding.{Finder, longest}
 use Rattle.bindings_meant.specs.Longest.{Answers, NamesSymbol, LongestMeant}

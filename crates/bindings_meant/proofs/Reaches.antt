@@ -1,12 +1,12 @@
 -- A path has the address that it reaches, and no other: proved.
-use Rattle.std.proofs.Common.{ℕ, zero, suc, ◌+◌, ◌-◌, ◌*◌, ◌<◌, ◌≤◌, ◌≡◌, refl, sym, ap, subst, ◌∙◌, Bool, true, false, List, [], ◌∷◌, length, take, drop, arith, Bor, if◌then◌else◌, eqb-true, eq-eqb, ne_eqb}
+use Rattle.std.proofs.Common.{ℕ, zero, suc, ◌+◌, ◌-◌, ◌<◌, ◌≤◌, ◌≡◌, refl, sym, ap, subst, ◌∙◌, Bool, true, false, List, [], ◌∷◌, length, take, arith, Bor, if◌then◌else◌, eqb-true, eq-eqb}
 use Rattle.std.specs.Prelude.{Result, Ok, Err, nat_lt, ◌==◌, ◌&&◌}
 use Rattle.std.specs.List.{list_any}
 use borrow.Author.Tests.{ltb-false, le-ltb}
-use Rattle.le.specs.Le.{le2, le4, has}
+use Rattle.le.specs.Le.{le2, has}
 use Rattle.le.proofs.Laws.{not_both}
 use Rattle.part.specs.Slice.{after}
-use Rattle.part.specs.Outcome.{outcome, and_then}
+use Rattle.part.specs.Outcome.{and_then}
 use Rattle.part.proofs.Outcome.{both_passed}
 use Rattle.refusal.specs.Refusal.{limit}
 use Rattle.refusal.specs.declared.Mode.{Mode}
@@ -31,7 +31,6 @@ use Rattle.bind.proofs.Meaning.{found_meant}
 use Rattle.bind.proofs.Along.{at_end}
 use Rattle.bind.specs.Reading.{behind, own_of, symbol_mark, symbol_entry, symbol_group}
 use Rattle.bind.specs.Binding.{Finder, dimensions, along, longest, start_at, below, told, from_symbol, within_limit, binding}
-use Rattle.bind.specs.Adding.{bits}
 use Rattle.bindings_meant.specs.Longest.{Answers, NamesSymbol}
 use Rattle.bindings_meant.proofs.Longest.{names_symbol, is_longest}
 use Rattle.bindings_meant.specs.Leads.{Spot, ToType, Settles, Leads}
@@ -342,13 +341,12 @@ pub binding_meant : BindingMeant
 binding_meant =
     record {
       by_finders = λ find_symbol find_type symbols types path a. (reaches_is find_symbol find_type symbols types path a, reached find_symbol find_type symbols types path a);
-      by_names = λ mode symbols types path a x y.
-          (
-            λ h.
+      by_names = λ mode symbols types path a x y. (
+        λ h.
             reaches_on symbols.bytes types.bytes path (λ name at. symbol_named mode symbols name at x) (λ name at. symbol_first mode symbols name at x) (λ name at. type_named mode types name at y) a
             (reaches_is (symbol_found mode symbols) (type_found mode types) symbols.bytes types.bytes path a h),
-            λ r.
+        λ r.
             reached (symbol_found mode symbols) (type_found mode types) symbols.bytes types.bytes path a
             (reaches_on symbols.bytes types.bytes path (λ name at. symbol_first mode symbols name at x) (λ name at. symbol_named mode symbols name at x) (λ name at. type_first mode types name at y) a r),
-          );
+      );
     }

@@ -2,7 +2,7 @@
 use Rattle.std.proofs.Common.{ℕ, zero, suc, ◌+◌, ◌-◌, ◌*◌, ◌<◌, ◌≤◌, ◌≡◌, ◌≢◌, min, refl, sym, ap, ap₂, ◌∙◌, subst, Bool, true, false, not, List, [], ◌∷◌, ◌++◌, length, take, drop, get_or, length-take, length-drop, get_or-take, take-append-drop, arith, Bor, cond, if◌then◌else◌, eqb-true, ne_eqb, leb-true, le-leb}
 use Rattle.std.specs.Prelude.{Result, Ok, Err, ◌==◌, ◌||◌, ◌&&◌, nat_le, slice_index}
 use Rattle.std.specs.List.{All, prefix_len, position_or_len}
-use Rattle.std.proofs.lemmas.List.Sums.{prefix_len_passes, prefix_len_is, prefix_len-le-length}
+use Rattle.std.proofs.lemmas.List.Sums.{prefix_len_passes, prefix_len-le-length}
 use Rattle.std.proofs.Math.Seq.{drop-append_seam, take-append_seam}
 use Rattle.std.proofs.lemmas.List.{length-append}
 use Rattle.le.proofs.Laws.{not_both}
@@ -12,7 +12,7 @@ use Rattle.part.proofs.Slice.{part_after, length_part, end_self, end_again, end_
 use Rattle.path.specs.declared.Subscript.{Subscript}
 use Rattle.path.specs.declared.Split.{Split}
 use Rattle.path.specs.declared.Part.TheVariants.{Member, Element}
-use Rattle.path.specs.Path.{is_mark, is_digit, ends, next_value, value, split_at, closing, closed, numbered, bracketed, member, first_part}
+use Rattle.path.specs.Path.{is_mark, is_digit, ends, value, split_at, closing, closed, numbered, bracketed, member, first_part}
 use Rattle.path.specs.Texts.{Ends, ended, dotted, opened, Opens, first, next, Signs, unsigned, minus, Closes, before_comma, at_bracket, IsName, AreDigits, decimal, IsPart, PartsMeant}
 use Rattle.path.specs.Texts as texts
 
