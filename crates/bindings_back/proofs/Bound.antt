@@ -1,20 +1,15 @@
 -- A member of a symbol that was written is bound to what was written: proved.
-use Rattle.std.proofs.Common.{ℕ, zero, suc, ◌+◌, ◌-◌, ◌*◌, ◌/◌, ◌%◌, ◌<◌, ◌≤◌, ◌≡◌, ◌≢◌, refl, sym, ap, ap₂, subst, ◌∙◌, Bool, true, false, List, [], ◌∷◌, ◌++◌, length, length-append, length-take, length-drop, take, drop, drop-drop, take-append-drop, get_or, arith, Bor, if◌then◌else◌}
-use Rattle.std.specs.Prelude.{Ok}
-use Rattle.std.specs.List.{All}
+use Rattle.std.proofs.Common.{ℕ, ◌+◌, ◌-◌, ◌*◌, ◌/◌, ◌%◌, ◌<◌, ◌≤◌, ◌≡◌, refl, sym, ap, ap₂, subst, ◌∙◌, false, List, [], ◌∷◌, ◌++◌, length, length-append, take, drop, drop-drop, arith, Bor, if◌then◌else◌}
 use Rattle.std.proofs.Math.Nat.{div-add-mod}
 use Rattle.std.proofs.Math.Seq.{drop-append_seam, take-append_seam, take-length, drop-length}
 use mathlib.Core.List.{append-nil}
 use Rattle.le.specs.Le.{le2, le4, has}
-use Rattle.le.proofs.Laws.{not_both}
 use Rattle.part.specs.Slice.{part, after}
-use Rattle.part.specs.End.{IsEnd}
 use Rattle.part.proofs.Slice.{end_self, end_after}
 use Rattle.refusal.specs.Refusal.{limit}
 use Rattle.refusal.specs.declared.Mode.{Mode}
 use Rattle.names.specs.Meaning.{SameLetters, itself, letter}
 use Rattle.names.specs.Meaning as letters_of
-use Rattle.path.specs.declared.Split.{Split}
 use Rattle.path.specs.declared.Part.TheVariants.{Member}
 use Rattle.path.specs.Path.{split_at}
 use Rattle.path.specs.Texts.{Ends, ended, IsName, IsPart}
@@ -25,9 +20,6 @@ use Rattle.symbol.specs.Symbol.{symbol_of}
 use Rattle.symbol.specs.Told as symbol
 use Rattle.symbol.specs.Writing.{symbol_bytes}
 use Rattle.symbols_regrown.specs.Kind as symbols
-use Rattle.field.specs.Writing.{field_bytes}
-use Rattle.fields_regrown.specs.Kind as fields
-use Rattle.data_type.specs.declared.AdsDataTypeInfo.{AdsDataTypeInfo}
 use Rattle.data_type.specs.Told as data_type
 use Rattle.data_type.specs.DataType.{type_of}
 use Rattle.named.specs.Kinds.{symbol_places, field_places}

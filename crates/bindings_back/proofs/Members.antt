@@ -1,5 +1,5 @@
 -- Members that were written, as sub-items: what they tell, and which is the first of a name.
-use Rattle.std.proofs.Common.{ℕ, suc, ◌+◌, ◌*◌, ◌<◌, ◌≤◌, ◌≡◌, refl, sym, ap, subst, ◌∙◌, List, [], ◌∷◌, ◌++◌, length, length-append, arith, Bor}
+use Rattle.std.proofs.Common.{ℕ, ◌≤◌, ◌≡◌, refl, sym, ap, subst, ◌∙◌, List, [], ◌∷◌, ◌++◌, length, length-append, arith, Bor}
 use Rattle.std.proofs.lemmas.List.{append_assoc}
 use Rattle.le.specs.Le.{le4}
 use Rattle.refusal.specs.Refusal.{limit}
@@ -18,7 +18,7 @@ use Rattle.bind.specs.Reading.{behind, own_of, name_of, type_entry}
 use Rattle.bind.specs.Adding.{items_of, NoneNamed, none, other}
 use Rattle.bindings_meant.specs.Entries.{IsType}
 use Rattle.bindings_meant.proofs.Entries.{entries_meant}
-use Rattle.bindings_back.specs.Written.{FitField, field_name, NoneHas, nobody, another}
+use Rattle.bindings_back.specs.Written.{FitField, field_name, NoneHas, another}
 use Rattle.bindings_back.proofs.Uploads as uploads
 
 abbrev pub body : FitField → List ℕ

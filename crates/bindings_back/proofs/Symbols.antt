@@ -1,13 +1,11 @@
 -- A symbol that was written is found by its name.
-use Rattle.std.proofs.Common.{ℕ, ◌+◌, ◌<◌, ◌≤◌, ◌≡◌, refl, sym, ap, ap₂, subst, ◌∙◌, Bool, true, false, List, [], ◌∷◌, ◌++◌, length, length-append, take, drop, get_or, arith, Bor}
+use Rattle.std.proofs.Common.{ℕ, ◌+◌, ◌≤◌, ◌≡◌, sym, ap, subst, ◌∙◌, true, List, [], ◌∷◌, ◌++◌, length, length-append, take, drop, arith, Bor}
 use Rattle.std.specs.Prelude.{Result, Ok, Some}
 use Rattle.std.specs.Option.{option_map}
-use Rattle.std.specs.List.{All}
 use Rattle.std.proofs.Math.Seq.{drop-append_seam, take-append_seam}
 use Rattle.std.proofs.lemmas.List.{append_assoc}
 use mathlib.Core.List.{append-nil}
 use Rattle.std.proofs.lemmas.List.Elements.{All-nil, All-cons, All-head, All-tail}
-use Rattle.le.proofs.Laws.{not_both}
 use Rattle.part.specs.Slice.{part}
 use Rattle.part.specs.Outcome.{and_then}
 use Rattle.refusal.specs.Refusal.{limit}
@@ -22,7 +20,7 @@ use Rattle.entry.specs.declared.Claimed.{Claimed}
 use Rattle.entry.specs.Walk.{steps}
 use Rattle.walk.specs.Step.{step_at}
 use Rattle.writing.specs.Layout.{entry_bytes}
-use Rattle.regrown.specs.Regrown.{Grown, entry_of, upload}
+use Rattle.regrown.specs.Regrown.{entry_of, upload}
 use Rattle.regrown.proofs.Whole.{claim_whole}
 use Rattle.symbol.specs.declared.AdsSymbolInfo.{AdsSymbolInfo}
 use Rattle.symbol.specs.Symbol.{symbol_of}

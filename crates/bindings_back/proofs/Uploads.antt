@@ -1,6 +1,6 @@
 -- Entries that were written one behind another: where they start.
-use Rattle.std.proofs.Common.{ℕ, zero, suc, ◌+◌, ◌-◌, ◌*◌, min, ◌<◌, ◌≤◌, ◌≡◌, ◌≢◌, refl, sym, ap, ap₂, subst, ◌∙◌, Bool, true, false, List, [], ◌∷◌, ◌++◌, length, length-append, take, drop, arith, Bor, if◌then◌else◌, ne_eqb}
-use Rattle.std.specs.Prelude.{Some, None, Ok, leb, eqb}
+use Rattle.std.proofs.Common.{ℕ, zero, suc, ◌+◌, min, ◌<◌, ◌≤◌, ◌≡◌, ◌≢◌, refl, sym, ap, ap₂, subst, ◌∙◌, Bool, false, List, [], ◌∷◌, ◌++◌, length, length-append, take, drop, arith, Bor, if◌then◌else◌, ne_eqb}
+use Rattle.std.specs.Prelude.{Some, Ok, eqb}
 use Rattle.std.proofs.Math.Seq.{drop-append_seam, take-append_seam}
 use Rattle.std.proofs.lemmas.List.{append_assoc}
 use native.Mathlib.Nat.{add-zero}

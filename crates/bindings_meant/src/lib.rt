@@ -5,6 +5,7 @@ ghost use Rattle.bindings_meant.specs.Cases.{AnyCase};
 ghost use Rattle.bindings_meant.specs.Longest.{LongestMeant};
 ghost use Rattle.bindings_meant.specs.Entries.{EntriesMeant};
 ghost use Rattle.bindings_meant.specs.Nesting.{AddressWithin};
+ghost use Rattle.bindings_meant.specs.Places.{PlacesMeant};
 ghost use Rattle.bindings_meant.specs.Reaches.{BindingMeant};
 
 /// Two paths that are the same letter by letter lead to the same address, or to the same refusal with the same numbers, wherever they lie: by any finder of symbols that answers names in any case alike, and so by the slots of any upload.
@@ -33,4 +34,9 @@ pub fn binding_meant()
 /// name is accepted, and each member of what is accepted.
 pub fn entries_meant()
     ensures { EntriesMeant }
+{}
+
+/// The place that is told of a data type, and of a member at any level, is the one at which its bytes stand in the upload.
+pub fn places_meant()
+    ensures { PlacesMeant }
 {}
