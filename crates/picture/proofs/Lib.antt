@@ -3,3 +3,4 @@ pub mod Passing
 pub mod Standing
 pub mod Telling
 pub mod Words
+pub mod Whole

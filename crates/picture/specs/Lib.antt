@@ -5,3 +5,4 @@ pub mod Seen
 pub mod Meant
 pub mod Words
 pub mod Told
+pub mod Whole

@@ -1,7 +1,14 @@
 //! The theorems. Each is the contract of a function that does nothing, so that none goes unnoticed if its proof does.
 ghost use Rattle.picture.specs.Meant.{PictureMeant};
 ghost use Rattle.picture.specs.Told.{FactsMeant};
+ghost use Rattle.picture.specs.Whole.{ShowMeant};
 ghost use Rattle.picture.specs.Words.{ColoursMeant, LabelsMeant, ReasonsMeant};
+
+/// Of a symbol that was found, in either mode, the text is the facts, with reasons that are true of the entry's bytes, an empty
+/// line, and the picture of all own bytes; so nothing that was found is refused.
+pub fn show_meant()
+    ensures { ShowMeant }
+{}
 
 /// Of a symbol that was read each fact stands in its line, by the bytes of the entry, behind its heading; what the sections
 /// hold, or why there is nothing, behind these.
