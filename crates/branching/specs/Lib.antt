@@ -1,4 +1,4 @@
 pub mod Ordered
 pub mod Lines
-pub mod Meaning
 pub mod Tables
+pub mod Meaning
