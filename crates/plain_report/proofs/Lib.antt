@@ -1,3 +1,4 @@
 pub mod Pieces
 pub mod Meaning
 pub mod Texts
+pub mod Parts
