@@ -1,14 +1,12 @@
 -- The tables of `list`, `list --sorted` and `branch`: proved.
-use Rattle.std.proofs.Common.{ℕ, zero, suc, ◌+◌, ◌*◌, ◌<◌, ◌≤◌, ◌≡◌, ◌⊎◌, inl, inr, ⊎_elim, refl, sym, ap, subst, ◌∙◌, Bool, true, false, List, [], ◌∷◌, ◌++◌, codes, decimal, length, take, drop, get_or, arith, Bor, Result, append_assoc, max}
+use Rattle.std.proofs.Common.{ℕ, zero, suc, ◌+◌, ◌≤◌, ◌≡◌, ◌⊎◌, inl, inr, ⊎_elim, refl, sym, ap, subst, ◌∙◌, Bool, true, false, List, [], ◌∷◌, ◌++◌, codes, decimal, length, take, drop, get_or, arith, Bor, Result, append_assoc, max}
 use Rattle.std.specs.Prelude.{Option, Some, None, Ok, Err, All, map, Contains}
 use Rattle.std.specs.List.{flat_map}
-use Rattle.std.specs.Fmt.{digits}
 use Rattle.std.proofs.lemmas.List.Elements.{All-head, All-tail, All-contains_itself, Contains-append_right}
 use Rattle.std.proofs.lemmas.List.{length-take, length-drop}
-use Rattle.le.specs.Le.{le2, le4}
+use Rattle.le.specs.Le.{le2}
 use Rattle.part.specs.Slice.{part}
 use Rattle.part.specs.End.{IsString}
-use Rattle.part.specs.Outcome.{and_then}
 use Rattle.refusal.specs.Refusal.{limit}
 use Rattle.refusal.specs.declared.Refusal.{Refusal}
 use Rattle.refusal.specs.declared.Refusal.TheVariants.{ZeroEntryLength}
@@ -18,7 +16,7 @@ use Rattle.entry.proofs.Claims.{room_at}
 use Rattle.entry.proofs.Direct.{part_long}
 use Rattle.text.specs.Text.{code_point}
 use Rattle.walk.specs.declared.Piece.{Piece}
-use Rattle.walk.specs.Pieces.{piece_at, pieces, claim_there}
+use Rattle.walk.specs.Pieces.{piece_at}
 use Rattle.walk.proofs.Left.{piece_starts}
 use Rattle.walk.proofs.Theorems.{pieces_are}
 use Rattle.symbol.specs.declared.AdsSymbolInfo.{AdsSymbolInfo}
@@ -35,9 +33,9 @@ use Rattle.report.specs.declared.table.Columns.{Columns}
 use Rattle.report.specs.Report.{upload_text}
 use Rattle.report.specs.Cells.{hexadecimal}
 use Rattle.report.specs.Table.{headings, widths_of, widest, fitted, fitted_by, fitted_on, columns_of, headings_text, line_text, table_text}
-use Rattle.report.specs.Aligned.{Cell, left, right, IsSymbolRow, IsColumn, heading_cells, symbol_cells, widths}
+use Rattle.report.specs.Aligned.{Cell, right, IsSymbolRow, IsColumn, heading_cells, symbol_cells, widths}
 use Rattle.report.proofs.Aligned.{in_characters, tables_meant}
-use Rattle.branching.specs.Lines.{entry_at, entries_at, table_of, table}
+use Rattle.branching.specs.Lines.{entries_at, table_of, table}
 use Rattle.branching.specs.Tables.{characters, characters_in, IsLine, AreLines, IsTable, ListWritten}
 use Rattle.branching.specs.Tables as meant
 

@@ -1,5 +1,5 @@
 -- Where an entry departs, and what stands there: proved.
-use Rattle.std.proofs.Common.{ℕ, zero, suc, ◌+◌, ◌-◌, ◌<◌, ◌≤◌, ◌≡◌, ◌⊎◌, inl, inr, ⊎_elim, refl, sym, ap, ap₂, ◌∙◌, subst, Bool, true, false, List, [], ◌∷◌, ◌++◌, length, take, drop, get_or, arith, Bor, length-append, length-drop, append_assoc, append-nil, eq-eqb, Ok, Err, Result, min}
+use Rattle.std.proofs.Common.{ℕ, zero, suc, ◌+◌, ◌-◌, ◌<◌, ◌≤◌, ◌≡◌, ◌⊎◌, inl, inr, ⊎_elim, refl, sym, ap, ap₂, ◌∙◌, subst, Bool, true, false, List, [], ◌∷◌, ◌++◌, length, take, drop, get_or, arith, Bor, length-drop, append_assoc, eq-eqb, Ok}
 use Rattle.std.specs.Prelude.{Option, Some, None, is_some, leb, ltb, eqb, slice_get, if◌then◌else◌}
 use Rattle.std.proofs.lemmas.List.{get_or-take, length-take, take-append-drop}
 use Rattle.std.specs.Cmp.{booleans_Decides}
@@ -10,15 +10,13 @@ use Rattle.le.proofs.Laws.{drop_part, le2_bytes2}
 use Rattle.part.specs.End.{IsString, rest_at}
 use Rattle.part.proofs.Slice.{end_self}
 use Rattle.refusal.specs.declared.Mode.TheVariants.{Present}
-use Rattle.attribute.specs.Attribute as attribute
 use Rattle.attribute.proofs.Inside.{attributes_inside}
 use Rattle.refactor.specs.declared.AdsRefactorInfo.{AdsRefactorInfo}
 use Rattle.refactor.specs.Inside.{RefactorsLie}
-use Rattle.flags.specs.declared.symbol_flags.AdsSymbol2Flags.{AdsSymbol2Flags}
-use Rattle.writing.specs.Layout.{lengths_bytes, string_bytes, strings_bytes, attributes_bytes, entry_bytes}
+use Rattle.writing.specs.Layout.{lengths_bytes, strings_bytes, attributes_bytes, entry_bytes}
 use Rattle.symbol.specs.declared.AdsSymbolInfo.{AdsSymbolInfo}
 use Rattle.symbol.specs.declared.writer.NewSymbol.{NewSymbol}
-use Rattle.symbol.specs.Symbol.{symbol_of, attributes_flag, extended_flags_flag}
+use Rattle.symbol.specs.Symbol.{symbol_of, extended_flags_flag}
 use Rattle.symbol.specs.Told.{IsSixteen}
 use Rattle.symbol.specs.Inside.{behind_strings, behind_guid, behind_attributes, is_there, IsInside}
 use Rattle.symbol.specs.Writing.{flagged, numbers_bytes, header_bytes, guid_bytes, extended_bytes, sections_bytes, symbol_bytes, symbol_written}
@@ -26,17 +24,15 @@ use Rattle.symbol.specs.Again.{new_of}
 use Rattle.symbol.proofs.Accepted.{Accepted, accepted_is}
 use Rattle.symbol.proofs.Lies.{two_from}
 use Rattle.symbol.proofs.Sizes.{length_parts, length_sections, length_header}
-use Rattle.plain.specs.Form.{HoldsBytes, IsWrittenSo, IsComplete, IsInForm}
+use Rattle.plain.specs.Form.{HoldsBytes, IsComplete, IsInForm}
 use Rattle.plain.specs.Meaning.{Departs}
 use Rattle.plain.proofs.Bytes.{byte_then, two_then, four_then}
 use Rattle.plain.proofs.Formed.{typed, lies, cuts, strings_there}
 use Rattle.plain.proofs.Form.{form_written}
 use Rattle.plain.proofs.Good.{passed_attributes_good, passed_records_good}
 use Rattle.plain.proofs.Placed.{written_claim}
-use Rattle.plain_report.specs.declared.Part.{Part}
-use Rattle.plain_report.specs.declared.Part.TheVariants.{Length, NameEnd, TypeEnd, CommentEnd, Count}
 use Rattle.plain_report.specs.Departure.{part_at}
-use Rattle.plain_report.specs.Parts.{StandsAt, PartsNamed}
+use Rattle.plain_report.specs.Parts.{StandsAt}
 use Rattle.plain_report.specs.Parts as meant
 
 -- ---- two lists that depart
@@ -195,7 +191,7 @@ module _ (e : Bor (List ℕ)) (r : AdsSymbolInfo) (bytes : List ℕ) (at : ℕ) 
 
   at_length : at < 4 → Named
   unfolding part_at
-  at_length l = simp (lt-ltb at 4 l) (meant.StandsAt.length_there l)
+  at_length l = simp (lt-ltb at 4 l) (meant.StandsAt.length l)
 
   at_name : at ≡ 30 + length r.name.now → Named
   unfolding part_at
@@ -240,7 +236,7 @@ module _ (e : Bor (List ℕ)) (r : AdsSymbolInfo) (bytes : List ℕ) (at : ℕ) 
       let q : eqb at (30 + length r.name.now) ≡ false = ne_eqb at (30 + length r.name.now) (λ z. absurd (omega (arith, z, l))) in
       let s : eqb at (31 + length r.name.now + length r.type_name.now) ≡ false = ne_eqb at (31 + length r.name.now + length r.type_name.now) (λ z. absurd (omega (arith, z, l))) in
       let t : eqb at (32 + length r.name.now + length r.type_name.now + length r.comment.now) ≡ false = ne_eqb at (32 + length r.name.now + length r.type_name.now + length r.comment.now) (λ z. absurd (omega (arith, z, l))) in
-      simp (p, q, s, t) (meant.StandsAt.count_there (sym (flags_are 0x1000) ∙ f) (omega (arith, l, count_is)) (omega (arith, m, count_is)))
+      simp (p, q, s, t) (meant.StandsAt.count_bytes (sym (flags_are 0x1000) ∙ f) (omega (arith, l, count_is)) (omega (arith, m, count_is)))
 
   -- ---- behind all these places nothing departs
 
@@ -400,7 +396,7 @@ module _ (e : Bor (List ℕ)) (r : AdsSymbolInfo) (bytes : List ℕ) (at : ℕ) 
       ⊎_elim
       (λ l. at_comment (omega (arith, is, l)))
       (λ g. let b = behind_same (guid_bytes r.guid) sections_there counted g.rest.more g.rest.departs in
-          sections_named x y g.ended b.more (omega (arith, is, g.rest.is, b.is, guid_long)) b.departs)
+      sections_named x y g.ended b.more (omega (arith, is, g.rest.is, b.is, guid_long)) b.departs)
       (behind_string r.comment.now end_of_comment (guid_bytes r.guid ++ sections_there) (guid_bytes r.guid ++ counted) k c)
 
   type_named : end_of_name ≡ 0 → (k : ℕ) → at ≡ 31 + length r.name.now + k → Departs (behind_name end_of_type end_of_comment sections_there) (behind_name 0 0 counted) k → Named
@@ -417,7 +413,7 @@ module _ (e : Bor (List ℕ)) (r : AdsSymbolInfo) (bytes : List ℕ) (at : ℕ) 
       (λ g. type_named g.ended g.rest.more (omega (arith, is, g.rest.is)) g.rest.departs)
       (behind_string r.name.now end_of_name (behind_name end_of_type end_of_comment sections_there) (behind_name 0 0 counted) k c)
 
-  named : Named
+  pub named : Named
   named =
       let four_long : length (take 4 e.now) ≡ 4 = omega (arith, length-take 4 e.now, strings_there e r h read) in
       let s : Departs (front (take 4 e.now) end_of_name end_of_type end_of_comment sections_there) (front written_is.0 0 0 0 counted) at
@@ -425,8 +421,5 @@ module _ (e : Bor (List ℕ)) (r : AdsSymbolInfo) (bytes : List ℕ) (at : ℕ) 
       ⊎_elim
       (λ l. at_length (omega (arith, l, four_long)))
       (λ g. let b = behind_same (header_bytes n) (behind_header end_of_name end_of_type end_of_comment sections_there) (behind_header 0 0 0 counted) g.more g.departs in
-          name_named b.more (omega (arith, g.is, four_long, b.is, length_header n)) b.departs)
+      name_named b.more (omega (arith, g.is, four_long, b.is, length_header n)) b.departs)
       (behind_long (take 4 e.now) written_is.0 (header_bytes n ++ behind_header end_of_name end_of_type end_of_comment sections_there) (header_bytes n ++ behind_header 0 0 0 counted) at (four_long ∙ sym written_is.1) s)
-
-pub parts_named : PartsNamed
-parts_named e r bytes at h claims read w d = named e r bytes at h claims read w d

@@ -5,7 +5,6 @@ ghost use Rattle.std.specs.Prelude.{◌≡◌, Some, IfOk, get_or};
 ghost use Rattle.plain_report.specs.Told.{part_text, fault_text, departure_text};
 ghost use Rattle.plain_report.specs.Departure.{part_at, fault_at, departure_of};
 ghost use Rattle.plain_report.specs.Meaning.{DepartureRefused, DepartureMeant};
-ghost use Rattle.plain_report.specs.Parts.{PartsNamed};
 ghost use Rattle.plain_report.specs.Texts.{DeparturesMeant};
 
 use refusal::{Mode, Refusal};
@@ -205,14 +204,9 @@ pub fn departure_refused()
     ensures { DepartureRefused }
 {}
 
-/// What is found is the first entry that is not plain, and what is told of it is true: it is not read, its record is refused, or a byte, the first that is, is another than would be written.
+/// What is found is the first entry that is not plain, and what is told of it is true: it is not read, its record is refused, or a byte, the first that is, is another than would be written. Such a byte is one of the entry's length, the end byte of its name, its type or its comment, or one of the count of its attributes, by the lengths and flags in the entry, and it is named so.
 pub fn departure_meant()
     ensures { DepartureMeant }
-{}
-
-/// A byte that is another than would be written is one of the entry's length, the end byte of its name, its type or its comment, or one of the count of its attributes, by the lengths and flags in the entry; and it is named so.
-pub fn parts_named()
-    ensures { PartsNamed }
 {}
 
 /// Departures of every kind, character for character.

@@ -1,8 +1,7 @@
 -- What is written of a salvage: proved.
-use Rattle.std.proofs.Common.{ℕ, zero, suc, ◌+◌, ◌-◌, ◌^◌, ◌<◌, ◌≤◌, ◌≡◌, ◌⊎◌, inl, inr, ⊎_elim, refl, sym, ap, subst, ◌∙◌, Bool, true, false, List, [], ◌∷◌, ◌++◌, codes, decimal, length, get_or, arith, cond, max, min, ◌==◌, if◌then◌else◌, append_assoc, length-append}
-use Rattle.std.specs.Prelude.{Result, Ok, Err, All, map, Contains, is_ok, is_err, take, drop}
+use Rattle.std.proofs.Common.{ℕ, zero, suc, ◌+◌, ◌-◌, ◌<◌, ◌≤◌, ◌≡◌, ◌⊎◌, ⊎_elim, refl, sym, ap, subst, ◌∙◌, Bool, false, List, [], ◌∷◌, ◌++◌, codes, decimal, length, get_or, arith, cond, max, ◌==◌, if◌then◌else◌, append_assoc, length-append}
+use Rattle.std.specs.Prelude.{Result, Ok, Err, All, map, Contains, is_ok, is_err, drop}
 use Rattle.std.specs.List.{flat_map, count_by, sum_by}
-use Rattle.std.specs.Borrow.{Bor}
 use Rattle.std.specs.Fmt.{digits}
 use Rattle.std.proofs.Math.Nat.{le-max_left, le-max_right}
 use Rattle.std.proofs.lemmas.List.{length-take, length-drop}
@@ -26,9 +25,7 @@ use Rattle.report.specs.Aligned.{Cell, right, IsColumn, IsRow}
 use Rattle.report.specs.Aligned as aligned
 use Rattle.report.specs.Cells.{at_right, number_cell}
 use Rattle.report.specs.Report.{tally_of, upload_text}
-use Rattle.report.specs.Tallies.{TalliesMeant}
 use Rattle.report.proofs.Tallies.{tallies_meant}
-use Rattle.salvage_report.specs.declared.Dropped.{Dropped}
 use Rattle.salvage_report.specs.declared.Widths.{Widths}
 use Rattle.salvage_report.specs.Dropped.{dropped_of, dropped_text, kept_text}
 use Rattle.salvage_report.specs.Runs.{headings, fitted, fitted_by, fitted_on, widths_of, headings_text, run_by, run_text, table_text, report_text}

@@ -10,7 +10,7 @@ use Rattle.walk.specs.Pieces.{pieces}
 use Rattle.salvage.specs.Salvage.{kept, dropped}
 use Rattle.wording.specs.Wording.{refusal_text}
 use Rattle.report.specs.declared.Upload.{Upload}
-use Rattle.report.specs.Aligned.{Cell, right, IsRow}
+use Rattle.report.specs.Aligned.{right, IsRow}
 use Rattle.report.specs.Report.{tally_of, upload_text}
 use Rattle.salvage_report.specs.Dropped.{kept_text}
 use Rattle.salvage_report.specs.Runs.{report_text}

@@ -2,9 +2,9 @@ use Rattle.std.proofs.Common.{◌≡◌, List, ℕ, ◌++◌, codes, ap, sym, �
 use Rattle.std.specs.List.{flat_map}
 use Rattle.report.specs.declared.table.Columns.{Columns}
 use Rattle.report.specs.Report.{upload_text}
-use Rattle.report.specs.Table.{headings_text, line_text, columns_of}
+use Rattle.report.specs.Table.{headings_text, line_text}
 use Rattle.report.proofs.Going.{three}
-use Rattle.branching.specs.Lines.{entries_at, table_of, table}
+use Rattle.branching.specs.Lines.{entries_at, table}
 use Rattle.branching.proofs.write_table.Goals as goal
 
 pub returns-clause-text : goal.returns-clause-text
