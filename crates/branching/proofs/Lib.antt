@@ -1,4 +1,5 @@
 pub mod Laws
 pub mod Going
 pub mod Tallies
+pub mod Tables
 pub mod Meant

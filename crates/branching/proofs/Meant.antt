@@ -50,6 +50,7 @@ use Rattle.branching.specs.Meaning.{Answers, Tells, TellsEach, BranchTold, Refus
 use Rattle.branching.specs.Meaning as meant
 use Rattle.branching.proofs.Laws.{goes, front_is, begin_so, branching_is, named_small}
 use Rattle.branching.proofs.Tallies.{tally_moved}
+use Rattle.branching.proofs.Tables.{told}
 
 -- a writer's answer where exactly as many slots are lent as there is to write
 abbrev full : List ℕ → Result (List ℕ) Refusal → List ℕ
@@ -121,6 +122,15 @@ module _ (u : Upload) where
         let so : Tells u text at (json_line (piece_at read s at)) = record { has = has; is = line ∙ ap (λ (k : ℕ). object (symbol_members k (part s at has.entry.length).now has.entry) ++ codes "\n") (piece_starts read s at) } in
         subst (TellsEach u text (at ∷ places)) (simp stood.there) (meant.next so (each places (All-tail Has at places h)))
 
+    -- something stands at each of them
+    there : (places : List ℕ) → All Has places → entries_at u places ≡ map (piece_at read s) places
+    unfolding Has
+    there [] h = refl
+    there (at ∷ places) h =
+        let has = All-head Has at places h in
+        let stood = stands_at at has.entry (steps_back read 30 (λ r. r.length) kind.four (kind.long u.mode) s at has.entry small has.alone) in
+        simp stood.there (ap (λ (l : List (Piece AdsSymbolInfo)). piece_at read s at ∷ l) (there places (All-tail Has at places h)))
+
     picks_have : (places run : List ℕ) → Picks 30 read (λ r. r.length) (λ r. r.name.now) s text places run → All Has run
     unfolding Has
     picks_have [] [] p = All-nil _
@@ -151,12 +161,14 @@ module _ (u : Upload) where
       let same : i.run ≡ begin_so u text xs = alike (branching symbol_places read s xs text) (Ok i.run) (begin_so u text xs) i.run (branching_is u text xs h) refl i.asked in
       let small = named_small u xs h in
       let have = picks_have text small (steps s.now) i.all i.every in
+      let has = subst (All (Has text small)) same (All-permutation (Has text small) i.all i.run i.same have) in
       record {
-        each = each text small (begin_so u text xs) (subst (All (Has text small)) same (All-permutation (Has text small) i.all i.run i.same have));
+        each = each text small (begin_so u text xs) has;
         in_order = subst (IsInNameOrder symbol_places s.now) same i.in_order;
         all = i.all;
         every = i.every;
         once = subst (IsPermutation i.all) same i.same;
+        tabled = told u small (begin_so u text xs) (there text small (begin_so u text xs) has);
       }
 
   -- a piece that is the one at its start, inside the upload
@@ -210,13 +222,16 @@ module _ (u : Upload) where
       let same : IsPermutation ok ordered = subst (λ (l : List (Piece AdsSymbolInfo)). IsPermutation l ordered) (pieces_back ok (All-filter accepts IsAt ps all_at)) (IsPermutation-map (piece_at read s) (map (λ p. p.start) ok) xs moved) in
       let once : IsPermutation ps (ordered ++ no) = IsPermutation-trans ps (ok ++ no) (ordered ++ no) (IsPermutation-filter_both accepts (λ p. is_err p.answer) (λ p. other p.answer) ps) (IsPermutation-append_left no ok ordered same) in
       let starts : map (λ p. p.start) (ordered ++ no) ≡ xs ++ refused u = map-append (λ p. p.start) ordered no ∙ ap (λ (l : List ℕ). l ++ map (λ p. p.start) no) (starts_back xs) in
-      let are : entries_at u (xs ++ refused u) ≡ ordered ++ no = ap (entries_at u) (sym starts) ∙ entries_back (ordered ++ no) (All-permutation IsAt ps (ordered ++ no) once all_at) in
+      let back = All-permutation IsAt ps (ordered ++ no) once all_at in
+      let are : entries_at u (xs ++ refused u) ≡ ordered ++ no = ap (entries_at u) (sym starts) ∙ entries_back (ordered ++ no) back in
       record {
         accepted = ordered;
         refused = no;
         once = once;
         in_order = subst (IsInNameOrder symbol_places s.now) (sym (starts_back xs)) (subst (IsInNameOrder symbol_places s.now) (taken xs h) i.in_order);
         behind = refusals ps;
+        are = starts;
+        tabled = told u (named_small u xs h) (xs ++ refused u) (are ∙ sym (ap (map (piece_at read s)) (sym starts) ∙ pieces_back (ordered ++ no) back));
         written = ap (flat_map json_line) are;
         counted = ap tally_of are ∙ tally_moved ps (ordered ++ no) once;
       }

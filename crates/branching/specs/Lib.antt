@@ -1,3 +1,4 @@
 pub mod Ordered
 pub mod Lines
+pub mod Tables
 pub mod Meaning

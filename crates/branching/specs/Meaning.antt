@@ -18,7 +18,8 @@ use Rattle.report.specs.declared.Upload.{Upload}
 use Rattle.report.specs.Meant.{object, symbol_members}
 use Rattle.report.specs.Report.{json_line, tally_of}
 use Rattle.branching.specs.Ordered.{branch, sorted}
-use Rattle.branching.specs.Lines.{entries_at, lines}
+use Rattle.branching.specs.Lines.{entries_at, lines, table}
+use Rattle.branching.specs.Tables.{IsTable}
 
 -- an answer in the order of the names, in three cases of which exactly one holds: above the limit; a step of the walk stands; neither, and something is so of the starts
 pub data Answers (u : Upload) (IsSo : List ℕ → Type 0) : Result (List ℕ) Refusal → Type 0 where
@@ -36,13 +37,14 @@ pub data TellsEach (u : Upload) (text : List ℕ) : List ℕ → List ℕ → Ty
   done : TellsEach u text [] []
   next : {at : ℕ} {places line rest : List ℕ} → Tells u text at line → TellsEach u text places rest → TellsEach u text (at ∷ places) (line ++ rest)
 
--- what is written of a branch: a line for each of the upload's entries whose names begin so, each once, in the order of the names
+-- what is written of a branch: a line of JSON, and in a table one, for each of the upload's entries whose names begin so, each once, in the order of the names
 pub record BranchTold (u : Upload) (text starts written : List ℕ) : Type 0 where
   pub each : TellsEach u text starts written
   pub in_order : IsInNameOrder symbol_places u.bytes.now starts
   pub all : List ℕ
   pub every : Picks 30 (symbol_of u.mode) (λ r. r.length) (λ r. r.name.now) u.bytes text (steps u.bytes.now) all
   pub once : IsPermutation all starts
+  pub tabled : IsTable u starts (table u starts)
 
 -- those of some entries that were refused, in their order
 pub data Refusals : List (Piece AdsSymbolInfo) → List (Piece AdsSymbolInfo) → Type 0 where
@@ -50,13 +52,15 @@ pub data Refusals : List (Piece AdsSymbolInfo) → List (Piece AdsSymbolInfo) �
   accepted : {p : Piece AdsSymbolInfo} {symbol : AdsSymbolInfo} {all refused : List (Piece AdsSymbolInfo)} → p.answer ≡ Ok symbol → Refusals all refused → Refusals (p ∷ all) refused
   refused : {p : Piece AdsSymbolInfo} {why : Refusal} {all refused : List (Piece AdsSymbolInfo)} → p.answer ≡ Err why → Refusals all refused → Refusals (p ∷ all) (p ∷ refused)
 
--- what is written of all entries, and counted: the lines that `list` writes, each once, those of the accepted in the order of the names, and behind them those of the refused in the upload's order
+-- what is written of all entries, and counted: the lines that `list` writes, each once, those of the accepted in the order of the names, and behind them those of the refused in the upload's order; in a table too
 pub record SortedTold (u : Upload) (starts : List ℕ) : Type 0 where
   pub accepted : List (Piece AdsSymbolInfo)
   pub refused : List (Piece AdsSymbolInfo)
   pub once : IsPermutation (pieces (symbol_of u.mode) u.bytes) (accepted ++ refused)
   pub in_order : IsInNameOrder symbol_places u.bytes.now (map (λ p. p.start) accepted)
   pub behind : Refusals (pieces (symbol_of u.mode) u.bytes) refused
+  pub are : map (λ p. p.start) (accepted ++ refused) ≡ starts
+  pub tabled : IsTable u starts (table u starts)
   pub written : lines u starts ≡ flat_map json_line (accepted ++ refused)
   pub counted : tally_of (entries_at u starts) ≡ tally_of (pieces (symbol_of u.mode) u.bytes)
 

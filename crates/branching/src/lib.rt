@@ -2,12 +2,14 @@
 #![tactic(auto)]
 
 ghost use Rattle.std.specs.Prelude.{◌≡◌, ◌≤◌, ◌++◌, IfOk, IfErr, OnOk, Ok, Err, length};
+ghost use Rattle.std.specs.List.{flat_map};
 ghost use Rattle.std.specs.Io.KnownBytes.{Appends};
 ghost use Rattle.refusal.specs.Refusal.{limit};
 ghost use Rattle.report.specs.Report.{tally_of};
+ghost use Rattle.report.specs.Table.{columns_of, line_text};
 ghost use Rattle.branching.specs.declared.NoOrder.TheVariants.{Refused, Memory};
 ghost use Rattle.branching.specs.Ordered.{IfRefused, by_name, branch, refused, sorted};
-ghost use Rattle.branching.specs.Lines.{entry_at, entries_at, lines};
+ghost use Rattle.branching.specs.Lines.{entry_at, entries_at, lines, table};
 
 pub mod theorems;
 
@@ -136,18 +138,30 @@ pub fn write_lines<W: Write>(upload: &Upload<'_>, starts: &[u32], out: &mut W) -
     Ok(tally)
 }
 
-/// Writes a table with a line for the entry at each of some starts, as wide as these lines are; how many there are, and how many were refused.
-pub fn write_table<W: Write>(upload: &Upload<'_>, starts: &[u32], out: &mut W) -> io::Result<Tally>
-    ensures { IfOk result (λ tally. tally ≡ tally_of (entries_at upload.now starts.now)) }
+// As wide as the entries at some starts need them.
+fn columns_of(upload: &Upload<'_>, starts: &[u32]) -> Columns
+    ensures { result ≡ columns_of (entries_at upload.now starts.now) }
 {
     let mut columns = Columns::new();
     for start in starts {
-        if let Some(piece) = entry_at(upload, *start) {
-            columns.fit(&piece);
-        }
+        let Some(piece) = entry_at(upload, *start) else {
+            continue;
+        };
+        columns.fit(&piece);
     }
-    writeln!(out, "{upload}")?;
-    columns.write_headings(out)?;
+    columns
+}
+
+// A line for the entry at each of some starts, in columns of a table.
+fn write_rows<W: Write>(
+    upload: &Upload<'_>,
+    starts: &[u32],
+    columns: Columns,
+    out: &mut W,
+) -> io::Result<Tally>
+    ensures text { OnOk result (Appends (W.contents out.old) (W.contents out.new) (flat_map (line_text columns) (entries_at upload.now starts.now))) }
+    ensures tally { IfOk result (λ tally. tally ≡ tally_of (entries_at upload.now starts.now)) }
+{
     let mut tally = Tally::new();
     for start in starts {
         let Some(piece) = entry_at(upload, *start) else {
@@ -156,5 +170,17 @@ pub fn write_table<W: Write>(upload: &Upload<'_>, starts: &[u32], out: &mut W) -
         tally.count(&piece.answer);
         columns.write_line(&piece, out)?;
     }
+    Ok(tally)
+}
+
+/// Writes a table with a line for the entry at each of some starts, as wide as these lines are; how many there are, and how many were refused.
+pub fn write_table<W: Write>(upload: &Upload<'_>, starts: &[u32], out: &mut W) -> io::Result<Tally>
+    ensures text { OnOk result (Appends (W.contents out.old) (W.contents out.new) (table upload.now starts.now)) }
+    ensures tally { IfOk result (λ tally. tally ≡ tally_of (entries_at upload.now starts.now)) }
+{
+    let columns = columns_of(upload, starts);
+    writeln!(out, "{upload}")?;
+    columns.write_headings(out)?;
+    let tally = write_rows(upload, starts, columns, out)?;
     Ok(tally)
 }

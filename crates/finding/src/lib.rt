@@ -5,6 +5,7 @@ ghost use Rattle.std.specs.Prelude.{◌≡◌, OnOk, IfOk, is_ok};
 ghost use Rattle.std.specs.Io.KnownBytes.{Appends};
 ghost use Rattle.finding.specs.Find.{named, value, place_text, value_text, attribute_text};
 ghost use Rattle.finding.specs.Meaning.{NamedMeant};
+ghost use Rattle.finding.specs.Written.{FoundWritten};
 
 use attribute::AdsAttribute;
 use named::Named;
@@ -74,4 +75,9 @@ pub fn write_attribute<W: Write>(
 /// An entry is found exactly where finding without an index finds it: the first of the walk's steps that has the name letter by letter, in any case. A refusal is that of finding.
 pub fn named_meant<'a, E: Named<'a>>()
     ensures { NamedMeant E.HEADER E.read E.length_of E.name_of }
+{}
+
+/// What is written of a symbol is its place and the type that stands in its entry, and of its attribute the value of the first whose name has these very bytes, in UTF-8; nothing where none has it.
+pub fn found_written()
+    ensures { FoundWritten }
 {}

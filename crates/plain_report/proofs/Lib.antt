@@ -1,3 +1,4 @@
 pub mod Pieces
+pub mod Parts
 pub mod Meaning
 pub mod Texts

@@ -1,4 +1,5 @@
 pub mod Told
 pub mod Departure
+pub mod Parts
 pub mod Meaning
 pub mod Texts

@@ -204,7 +204,7 @@ pub fn departure_refused()
     ensures { DepartureRefused }
 {}
 
-/// What is found is the first entry that is not plain, and what is told of it is true: it is not read, its record is refused, or a byte, the first that is, is another than would be written.
+/// What is found is the first entry that is not plain, and what is told of it is true: it is not read, its record is refused, or a byte, the first that is, is another than would be written. Such a byte is one of the entry's length, the end byte of its name, its type or its comment, or one of the count of its attributes, by the lengths and flags in the entry, and it is named so.
 pub fn departure_meant()
     ensures { DepartureMeant }
 {}

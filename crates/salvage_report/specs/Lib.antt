@@ -1,1 +1,3 @@
 pub mod Dropped
+pub mod Runs
+pub mod Meaning

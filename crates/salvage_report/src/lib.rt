@@ -2,21 +2,23 @@
 #![tactic(auto)]
 
 ghost use Rattle.std.specs.Prelude.{◌≡◌, ◌≤◌, ◌++◌, IfOk, OnOk, Some, codes, length};
+ghost use Rattle.std.specs.List.{flat_map};
 ghost use Rattle.std.specs.Io.KnownBytes.{Appends};
 ghost use Rattle.symbol.specs.Symbol.{symbol_of};
 ghost use Rattle.walk.specs.Pieces.{pieces};
 ghost use Rattle.salvage.specs.Salvage.{bytes_of, kept};
 ghost use Rattle.report.specs.Report.{tally_of, upload_text};
-ghost use Rattle.salvage_report.specs.Dropped.{dropped_of, dropped_text, kept_text, AppendsSome, Reports};
+ghost use Rattle.salvage_report.specs.Dropped.{dropped_of, dropped_text, kept_text};
+ghost use Rattle.salvage_report.specs.Runs.{headings, fitted, widths_of, headings_text, run_text, table_text, report_text};
+ghost use Rattle.salvage_report.specs.Meaning.{SalvageReported};
 
-use report::table::digits;
+use report::cells::{AtRight, Number, digits};
 use report::{Tally, Upload};
 use std::alloc::{AllocError, Global};
 use std::io::Write;
 use std::{fmt, io};
 use symbol::{AdsSymbolInfo, Symbols};
 use walk::Piece;
-use wording::strings::Spaces;
 use wording::{Bytes, InWords, Many};
 
 /// An upload's accepted entries, and how many there are.
@@ -92,24 +94,43 @@ impl fmt::Display for Dropped {
     }
 }
 
-// How wide the first two columns are.
+// How wide the first two columns of the table are: as the widest of their headings and of the numbers that are to stand in them.
 #[derive(Clone, Copy)]
 struct Widths {
     place: usize,
     length: usize,
 }
 
-fn widths_of(upload: &Upload<'_>) -> Widths {
-    let mut widths = Widths {
-        place: 5,
-        length: 6,
-    };
-    for piece in Symbols::new(upload.bytes, upload.mode) {
+impl Widths {
+    // For the headings alone.
+    fn new() -> Self
+        ensures { result ≡ headings }
+    {
+        Widths {
+            place: 5,
+            length: 6,
+        }
+    }
+
+    // Wide enough for one more piece, of which nothing stands there if it was accepted.
+    #[tactic(auto, unfolding(crate::specs::Runs::fitted))]
+    fn fit(&mut self, piece: &Piece<AdsSymbolInfo<'_>>)
+        ensures { self.new ≡ fitted self.old piece.now }
+    {
         if piece.answer.is_err() {
             let length = piece.end.saturating_sub(piece.start);
-            widths.place = digits(piece.start, 10).max(widths.place);
-            widths.length = digits(length, 10).max(widths.length);
+            self.place = self.place.max(digits(piece.start, 10));
+            self.length = self.length.max(digits(length, 10));
         }
+    }
+}
+
+fn widths_of(upload: &Upload<'_>) -> Widths
+    ensures { result ≡ widths_of (pieces (symbol_of upload.now.mode) upload.now.bytes) }
+{
+    let mut widths = Widths::new();
+    for piece in Symbols::new(upload.bytes, upload.mode) {
+        widths.fit(&piece);
     }
     widths
 }
@@ -127,7 +148,7 @@ fn write_kept<W: Write>(
     to: &str,
     out: &mut W,
 ) -> io::Result<()>
-    ensures { OnOk result (Appends (W.contents out.old) (W.contents out.new) (kept_text upload.now salvaged.now.tally salvaged.now.kept.items to.now)) }
+    ensures { OnOk result (Appends (W.contents out.old) (W.contents out.new) (kept_text salvaged.now.tally.accepted (length salvaged.now.kept.items) to.now (dropped_of upload.now salvaged.now.tally salvaged.now.kept.items))) }
 {
     let entries = Many {
         number: salvaged.tally.accepted,
@@ -140,58 +161,82 @@ fn write_kept<W: Write>(
 }
 
 /// Writes a line for each run that was dropped, and what was kept; `to` is where that is.
+#[tactic(auto, unfolding(crate::specs::Runs::report_text))]
 pub fn write<W: Write>(
     upload: &Upload<'_>,
     salvaged: &Salvaged,
     to: &str,
     out: &mut W,
 ) -> io::Result<()>
-    ensures { OnOk result (Reports (W.contents out.old) (W.contents out.new) upload.now salvaged.now.tally salvaged.now.kept.items to.now) }
+    ensures { OnOk result (Appends (W.contents out.old) (W.contents out.new) (report_text upload.now salvaged.now.tally salvaged.now.kept.items to.now)) }
 {
     write_upload(upload, out)?;
-    if salvaged.tally.refused > 0 {
-        write_runs(upload, out)?;
-    }
+    write_table(upload, &salvaged.tally, out)?;
     write_kept(upload, salvaged, to, out)?;
     Ok(())
 }
 
-fn write_headings<W: Write>(widths: Widths, out: &mut W) -> io::Result<()>
-    ensures { OnOk result (AppendsSome (W.contents out.old) (W.contents out.new)) }
+// A table of what was dropped, if anything was.
+#[tactic(auto, unfolding(crate::specs::Runs::table_text))]
+fn write_table<W: Write>(upload: &Upload<'_>, tally: &Tally, out: &mut W) -> io::Result<()>
+    ensures { OnOk result (Appends (W.contents out.old) (W.contents out.new) (table_text tally.now (pieces (symbol_of upload.now.mode) upload.now.bytes))) }
 {
-    let before = Spaces(widths.place.saturating_sub(5));
-    let between = Spaces(widths.length.saturating_sub(6));
-    writeln!(out, "{before}place  {between}length  why")
+    if tally.refused == 0 {
+        return Ok(());
+    }
+    let widths = widths_of(upload);
+    write_headings(widths, out)?;
+    write_runs(upload, widths, out)?;
+    Ok(())
 }
 
+#[tactic(auto, unfolding(crate::specs::Runs::headings_text))]
+fn write_headings<W: Write>(widths: Widths, out: &mut W) -> io::Result<()>
+    ensures { OnOk result (Appends (W.contents out.old) (W.contents out.new) (headings_text widths)) }
+{
+    let place = AtRight("place", widths.place);
+    let length = AtRight("length", widths.length);
+    writeln!(out, "{place}  {length}  why")
+}
+
+#[tactic(auto, unfolding(crate::specs::Runs::run_text))]
 fn write_run<W: Write>(
     piece: &Piece<AdsSymbolInfo<'_>>,
     widths: Widths,
     out: &mut W,
 ) -> io::Result<()>
-    ensures { OnOk result (AppendsSome (W.contents out.old) (W.contents out.new)) }
+    ensures { OnOk result (Appends (W.contents out.old) (W.contents out.new) (run_text widths piece.now)) }
 {
     match &piece.answer {
         Ok(_) => Ok(()),
         Err(why) => {
-            let place = piece.start;
-            let length = piece.end.saturating_sub(place);
-            let before = Spaces(widths.place.saturating_sub(digits(place, 10)));
-            let between = Spaces(widths.length.saturating_sub(digits(length, 10)));
+            let place = Number {
+                number: piece.start,
+                column: widths.place,
+            };
+            let length = Number {
+                number: piece.end.saturating_sub(piece.start),
+                column: widths.length,
+            };
             let why = InWords(why);
-            writeln!(out, "{before}{place}  {between}{length}  {why}")
+            writeln!(out, "{place}  {length}  {why}")
         }
     }
 }
 
-// An upload can have millions, so none is kept as text. Numbers stand at the right of their columns.
-fn write_runs<W: Write>(upload: &Upload<'_>, out: &mut W) -> io::Result<()>
-    ensures { OnOk result (AppendsSome (W.contents out.old) (W.contents out.new)) }
+// An upload can have millions, so none is kept as text.
+fn write_runs<W: Write>(upload: &Upload<'_>, widths: Widths, out: &mut W) -> io::Result<()>
+    ensures { OnOk result (Appends (W.contents out.old) (W.contents out.new) (flat_map (run_text widths) (pieces (symbol_of upload.now.mode) upload.now.bytes))) }
 {
-    let widths = widths_of(upload);
-    write_headings(widths, out)?;
     for piece in Symbols::new(upload.bytes, upload.mode) {
         write_run(&piece, widths, out)?;
     }
     Ok(())
 }
+
+// Theorems. Each is the contract of a function that does nothing, so that none goes unnoticed if its proof does.
+
+/// What is written of a salvage of an upload within the limit: a line for each of the pieces that were dropped, in order, with its place, its length and its refusal, in columns that are as wide as the widest of heading and cells and no wider; and how many entries and bytes were kept and dropped, these being the whole upload.
+pub fn salvage_reported()
+    ensures { SalvageReported }
+{}
