@@ -325,7 +325,7 @@ fn own_names(report: &Report, seed: u64, rig: &Rig, controller: &Controller) {
     let mut names: Vec<&[u8]> = rig.symbols.iter().map(|s| s.name.as_slice()).collect();
     Dice::new(seed).shuffle(&mut names);
     let mut slots = [0; sys::ADDRESS_SLOTS];
-    let what = "bind each symbol's own name (its find by halving in place of the Rust)";
+    let what = "bind own names (finds by halving in place of the Rust)";
     let runs = vec![
         plain(|| {
             let mut sum = 0;
@@ -353,7 +353,7 @@ pub fn rows(report: &mut Report, seed: u64, rig: &Rig) {
     let paths = paths(seed, rig);
     controller.check(&paths);
     own_names(report, seed, rig, &controller);
-    let what = "bind paths through the types (the finds alone in place of the Rust)";
+    let what = "bind through the types (the finds alone in place of the Rust)";
     let runs = vec![
         plain(|| controller.sum(&paths)),
         plain(|| controller.finds(&paths)),
