@@ -1,5 +1,6 @@
 //! The last line of the table.
-use crate::pairs::Row;
+use crate::finding::{Row, Rows};
+use crate::pieces::Shift;
 use std::fmt;
 use wording::{Grouped, Many};
 
@@ -20,10 +21,10 @@ fn add(count: &mut usize) {
 }
 
 impl Counted {
-    pub fn of(rows: &[Row<'_>]) -> Counted {
+    pub fn of(rows: &Rows<'_, '_>) -> Counted {
         let mut counted = Counted::default();
-        for row in rows {
-            counted.count(row);
+        for pair in rows.pairs {
+            counted.count(&rows.row(pair));
         }
         counted
     }
@@ -35,14 +36,14 @@ impl Counted {
         if row.b.is_some() {
             add(&mut self.in_b);
         }
-        match row.apart() {
-            Some(apart) => {
+        match row.shift() {
+            Some(shift) => {
                 if row.is_alike() {
                     add(&mut self.alike);
                 } else {
                     add(&mut self.different);
                 }
-                if apart != 0 {
+                if !shift.is(Shift::Later(0)) {
                     add(&mut self.moved);
                 }
             }

@@ -1,0 +1,9 @@
+//! The theorems (docs/FORMAT.md, "The command's text"). Each is the contract of a function that does nothing, so that none goes unnoticed if its proof does.
+#![tactic(auto)]
+
+ghost use Rattle.comparison.specs.Told.{RowsMeant};
+
+/// In the rows every piece of A stands once, in A's order, and every piece of B once; and where both stand in a row they are one entry: of one name letter by letter, in any case; refused, in the same bytes; at one place, and as long or one of them refused; or as long.
+pub fn rows_meant()
+    ensures { RowsMeant }
+{}
