@@ -4,4 +4,6 @@ pub mod Turns
 pub mod Lists
 pub mod Kept
 pub mod Once
+pub mod Apart
 pub mod Told
+pub mod Meant

@@ -1,5 +1,5 @@
 -- Every piece is told once: A's in their order, B's in another.
-use Rattle.std.proofs.Common.{ℕ, zero, suc, ◌+◌, ◌<◌, ◌≤◌, ◌≡◌, ◌⊎◌, inl, inr, refl, sym, ap, subst, ◌∙◌, List, [], ◌∷◌, ◌++◌, length, drop, map, arith}
+use Rattle.std.proofs.Common.{ℕ, ◌+◌, ◌≤◌, ◌≡◌, inl, inr, refl, sym, ap, subst, ◌∙◌, List, [], ◌∷◌, ◌++◌, length, drop, map, arith}
 use Rattle.std.specs.Prelude.{Option, Some, None, slice_get}
 use Rattle.std.specs.List.{flat_map, filter_map, cons_option, enumerate_from}
 use Rattle.std.specs.List.Sorted.{IsPermutation}
@@ -8,7 +8,6 @@ use Rattle.std.proofs.lemmas.List.Elements.{filter_map-append}
 use Rattle.std.proofs.lemmas.List.Sorted.{IsPermutation-append_right}
 use Rattle.comparison.specs.declared.pieces.Piece.{Piece}
 use Rattle.comparison.specs.declared.pairs.Pair.{Pair}
-use Rattle.comparison.specs.declared.finding.Row.{Row}
 use Rattle.comparison.specs.Pairs.{Partners, partners_of, alone, behind, told_one, told, pairs_of}
 use Rattle.comparison.specs.Rows.{piece_numbered, row_of, rows_of}
 use Rattle.comparison.proofs.Lists.{drop_step, drop_next, get_past, kept_flat, numbers, numbers_long, all_got, In, here, later, here_is, Apart, none, more, same_parts}

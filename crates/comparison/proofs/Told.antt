@@ -1,5 +1,5 @@
 -- What is told together is one entry, and no row is empty.
-use Rattle.std.proofs.Common.{ℕ, zero, suc, ◌+◌, ◌<◌, ◌≤◌, ◌≡◌, ◌⊎◌, inl, inr, refl, sym, ap, subst, ◌∙◌, Bool, true, false, ◌&&◌, ◌||◌, eqb-true, List, [], ◌∷◌, ◌++◌, length, drop, map, arith, Bor, Result}
+use Rattle.std.proofs.Common.{ℕ, zero, suc, ◌+◌, ◌<◌, ◌≡◌, ◌⊎◌, inl, inr, refl, sym, ap, subst, ◌∙◌, Bool, true, false, ◌&&◌, ◌||◌, eqb-true, List, [], ◌∷◌, ◌++◌, length, drop, map, arith, Bor, Result}
 use Rattle.std.specs.Prelude.{Option, Some, None, Ok, Err, slice_get, is_err}
 use Rattle.std.specs.List.{flat_map, enumerate_from}
 use Rattle.std.specs.Ordering.{nat_cmp, is_eq, ordering_then}
@@ -20,12 +20,13 @@ use Rattle.comparison.specs.declared.pairs.Rule.{Rule}
 use Rattle.comparison.specs.declared.pairs.Rule.TheVariants.{NameAndPlace, Name, Place}
 use Rattle.comparison.specs.declared.finding.Row.{Row}
 use Rattle.comparison.specs.Pieces.{known, by_name}
-use Rattle.comparison.specs.Pairs.{Partners, partners_of, partnered, joined, order_at, fits, fits_at, as_long, as_long_at, alone, behind, told_one, told, pairs_of}
+use Rattle.comparison.specs.Pairs.{Partners, partners_of, joined, order_at, fits, fits_at, as_long, as_long_at, alone, behind, told_one, told, pairs_of}
 use Rattle.comparison.specs.Rows.{piece_numbered, row_of, rows_of}
-use Rattle.comparison.specs.Told.{IsOneEntry, named, refused, placed, as_long as long_entry, IsRow, AreRows, RowsMeant}
+use Rattle.comparison.specs.Told.{IsNamedAlike, named, refused, IsOneEntry, alike, placed, as_long as long_entry, IsRow, AreRows, AreApart, RowsMeant}
 use Rattle.comparison.proofs.Lists.{drop_step, drop_next, set_either}
 use Rattle.comparison.proofs.Kept.{all_kept, joined_kept, Mutual, both_ways, nobody_there}
 use Rattle.comparison.proofs.Once.{ours, theirs}
+use Rattle.comparison.proofs.Apart.{left_apart}
 
 equal_of : (r : Ordering) → is_eq r ≡ true → r ≡ Equal
 equal_of Less h = cc
@@ -48,11 +49,11 @@ letters own other h = (same_by_letters own other).0 ((order_is_total.same own ot
 same_bytes : (xs ys : List ℕ) → is_eq (slice_cmp nat_cmp xs ys) ≡ true → xs ≡ ys
 same_bytes xs ys h = same_text xs ys (sym (texts_ties xs ys ∙ h))
 
-alike : (p q : Piece) → is_eq (by_name p q) ≡ true → IsOneEntry p q
+named_alike : (p q : Piece) → is_eq (by_name p q) ≡ true → IsNamedAlike p q
 unfolding by_name
-alike p q h = by p.name q.name refl refl h
+named_alike p q h = by p.name q.name refl refl h
   where
-    by : (n m : Result (Bor (List ℕ)) Refusal) → p.name ≡ n → q.name ≡ m → is_eq (slice_cmp nat_cmp (known n p.bytes.now) (known m q.bytes.now)) ≡ true → IsOneEntry p q
+    by : (n m : Result (Bor (List ℕ)) Refusal) → p.name ≡ n → q.name ≡ m → is_eq (slice_cmp nat_cmp (known n p.bytes.now) (known m q.bytes.now)) ≡ true → IsNamedAlike p q
     by (Ok n) (Ok m) a b h = named a b (letters n.now m.now h)
     by (Err v) (Err w) a b h = refused a b (same_bytes p.bytes.now q.bytes.now h)
     by (Ok n) (Err w) a b h = cc
@@ -68,8 +69,8 @@ one_place m n h = by (nat_cmp m n) refl h
 
 one_of : (r : Rule) (p q : Piece) → (is_eq (order_at r (Some p) (Some q)) && fits r p q) ≡ true → IsOneEntry p q
 unfolding order_at by_name
-one_of NameAndPlace p q h = alike p q (both (as_long p q) _ (both _ _ h).1).1
-one_of Name p q h = alike p q (both _ true h).0
+one_of NameAndPlace p q h = alike (named_alike p q (both (as_long p q) _ (both _ _ h).1).1)
+one_of Name p q h = alike (named_alike p q (both _ true h).0)
 one_of Place p q h =
     placed (one_place p.place q.place (both _ _ h).0)
     (elim (either (as_long p q) (is_err p.name) (is_err q.name) (both _ _ h).1) [ inl e ↦ inl (eqb-true _ _ e) | inr e ↦ inr e ])
@@ -161,5 +162,91 @@ module _ (ps qs : List Piece) where
   unfolding rows_of pairs_of told
   each = rows_append (alone 0 p.of_b) (told p.of_a p.of_b) (alone_rows 0 p.of_b refl) (told_rows 0 p.of_a refl)
 
+  -- what a pair is that stands among the rows
+  data IsPair (x : Pair) : Type 0 where
+    in_a : (k : ℕ) → x.a ≡ Some k → x.b ≡ None → slice_get p.of_a k ≡ Some None → IsPair x
+    in_b : (k : ℕ) → x.a ≡ None → x.b ≡ Some k → slice_get p.of_b k ≡ Some None → IsPair x
+    in_both : (k j : ℕ) (own other : Piece) → x.a ≡ Some k → x.b ≡ Some j → slice_get ps k ≡ Some own → slice_get qs j ≡ Some other → IsPair x
+
+  ArePairs : List Pair → Type 0
+  ArePairs xs = (m : ℕ) (x : Pair) → slice_get xs m ≡ Some x → IsPair x
+
+  no_pairs : ArePairs []
+  unfolding ArePairs
+  no_pairs m x e = cc
+
+  one_pair : (x : Pair) (xs : List Pair) → IsPair x → ArePairs xs → ArePairs (x ∷ xs)
+  unfolding ArePairs
+  one_pair x xs h t zero y e = let same : x ≡ y = cc in subst IsPair same h
+  one_pair x xs h t (suc m) y e = t m y e
+
+  more_pairs : (xs ys : List Pair) → ArePairs xs → ArePairs ys → ArePairs (xs ++ ys)
+  unfolding ArePairs
+  more_pairs [] ys a b = b
+  more_pairs (x ∷ xs) ys a b = one_pair x (xs ++ ys) (a zero x refl) (more_pairs xs ys (λ m y e. a (suc m) y e) b)
+
+  alone_pairs : (k : ℕ) (xs : List (Option ℕ)) → drop k p.of_b ≡ xs → ArePairs (alone k xs)
+  unfolding alone
+  alone_pairs k [] e = no_pairs
+  alone_pairs k (Some i ∷ xs) e = no_pairs
+  alone_pairs k (None ∷ xs) e = one_pair _ _ (in_b k refl refl (drop_step k p.of_b e).0) (alone_pairs (k + 1) xs (drop_next k p.of_b e))
+
+  behind_pairs : (o : Option ℕ) → ArePairs (behind o p.of_b)
+  behind_pairs None = no_pairs
+  behind_pairs (Some j) = alone_pairs (j + 1) (drop (j + 1) p.of_b) refl
+
+  pair : (k : ℕ) (o : Option ℕ) → slice_get p.of_a k ≡ Some o → IsPair (record { a = Some k; b = o })
+  pair k None e = in_a k refl refl e
+  pair k (Some j) e =
+      let other = slice_get_within p.of_b j (Some k) (m.there k j e) in
+      let u = there qs j (omega (arith, other, m.long_b)) in
+      let inside = slice_get_within p.of_a k (Some j) e in
+      let t = there ps k (omega (arith, inside, m.long_a)) in
+      in_both k j t.it u.it refl refl t.is u.is
+
+  told_pairs : (k : ℕ) (xs : List (Option ℕ)) → drop k p.of_a ≡ xs → ArePairs (flat_map (λ x. told_one p.of_b x.0 x.1) (enumerate_from k xs))
+  told_pairs k [] e = no_pairs
+  told_pairs k (o ∷ xs) e = one_pair _ _ (pair k o (drop_step k p.of_a e).0) (more_pairs (behind o p.of_b) (flat_map (λ x. told_one p.of_b x.0 x.1) (enumerate_from (k + 1) xs)) (behind_pairs o) (told_pairs (k + 1) xs (drop_next k p.of_a e)))
+
+  all_pairs : ArePairs (pairs_of p)
+  unfolding pairs_of told
+  all_pairs = more_pairs (alone 0 p.of_b) (told p.of_a p.of_b) (alone_pairs 0 p.of_b refl) (told_pairs 0 p.of_a refl)
+
+  -- the pair of a row
+  record Made (xs : List Pair) (m : ℕ) (r : Row) : Type 0 where
+    of : Pair
+    at : slice_get xs m ≡ Some of
+    is : row_of ps qs of ≡ r
+
+  made : (xs : List Pair) (m : ℕ) (r : Row) → slice_get (rows xs) m ≡ Some r → Made xs m r
+  made [] m r e = cc
+  made (x ∷ xs) zero r e = record { of = x; at = refl; is = cc }
+  made (x ∷ xs) (suc m) r e = let d = made xs m r e in record { of = d.of; at = d.at; is = d.is }
+
+  -- what one has alone has no partner
+  record Alone (part : List (Option ℕ)) (all : List Piece) (x : Piece) : Type 0 where
+    by : ℕ
+    is : slice_get all by ≡ Some x
+    free : slice_get part by ≡ Some None
+
+  alone_in_a : (x : Pair) (it : Piece) → IsPair x → piece_numbered ps x.a ≡ Some it → piece_numbered qs x.b ≡ None → Alone p.of_a ps it
+  alone_in_a x it (in_a k a b f) c d = record { by = k; is = ap (piece_numbered ps) (sym a) ∙ c; free = f }
+  alone_in_a x it (in_b k a b f) c d = let n : piece_numbered ps x.a ≡ None = ap (piece_numbered ps) a in cc
+  alone_in_a x it (in_both k j own other a b f g) c d = let n : piece_numbered qs x.b ≡ slice_get qs j = ap (piece_numbered qs) b in cc
+
+  alone_in_b : (x : Pair) (it : Piece) → IsPair x → piece_numbered ps x.a ≡ None → piece_numbered qs x.b ≡ Some it → Alone p.of_b qs it
+  alone_in_b x it (in_b k a b f) c d = record { by = k; is = ap (piece_numbered qs) (sym b) ∙ d; free = f }
+  alone_in_b x it (in_a k a b f) c d = let n : piece_numbered qs x.b ≡ None = ap (piece_numbered qs) b in cc
+  alone_in_b x it (in_both k j own other a b f g) c d = let n : piece_numbered ps x.a ≡ slice_get ps k = ap (piece_numbered ps) a in cc
+
+  apart : AreApart (rows_of ps qs)
+  unfolding rows_of ArePairs
+  apart i j r s x y e f ra rb sa sb alike_named =
+      let u = made (pairs_of p) i r e in
+      let v = made (pairs_of p) j s f in
+      let one = alone_in_a u.of x (all_pairs i u.of u.at) (ap (λ (z : Row). z.a) u.is ∙ ra) (ap (λ (z : Row). z.b) u.is ∙ rb) in
+      let other = alone_in_b v.of y (all_pairs j v.of v.at) (ap (λ (z : Row). z.a) v.is ∙ sa) (ap (λ (z : Row). z.b) v.is ∙ sb) in
+      left_apart ps qs one.by other.by x y one.is other.is one.free other.free alike_named
+
 pub rows_meant : RowsMeant
-rows_meant = record { ours = ours; theirs = theirs; each = each }
+rows_meant = record { ours = ours; theirs = theirs; each = each; apart = apart }

@@ -1,5 +1,5 @@
 -- One turn of each loop that pairs.
-use Rattle.std.proofs.Common.{ℕ, zero, suc, nat_eq, ◌&&◌, eqb-true, ◌+◌, ◌<◌, ◌≤◌, ◌≡◌, refl, sym, ap, ◌∙◌, Bool, true, false, List, [], ◌∷◌, ◌++◌, length, drop, get_or, append_assoc, append-nil, add-one, arith, drop_of_length-le}
+use Rattle.std.proofs.Common.{ℕ, zero, suc, nat_eq, ◌&&◌, eqb-true, ◌+◌, ◌≤◌, ◌≡◌, refl, sym, ap, ◌∙◌, true, false, List, [], ◌∷◌, ◌++◌, length, drop, get_or, append_assoc, append-nil, add-one, arith}
 use Rattle.std.specs.Prelude.{Option, Some, None, is_some, slice_get}
 use Rattle.std.specs.declared.cmp.Ordering.{Ordering}
 use Rattle.std.specs.Ordering.{is_le, is_ge, is_eq}

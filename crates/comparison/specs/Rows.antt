@@ -1,8 +1,10 @@
 -- docs/FORMAT.md, "The command's text", of `compare`: the rows of two uploads, and what is told of them.
-use Rattle.std.specs.Prelude.{ℕ, ◌==◌, ◌&&◌, Bool, true, false, List, [], ◌∷◌, Option, Some, None, Ok, Err, Result, map, nat_eq, slice_get, not, if◌then◌else◌}
+use Rattle.std.specs.Prelude.{ℕ, ◌==◌, ◌&&◌, Bool, false, List, Option, Some, None, Ok, Err, Result, map, nat_eq, slice_get, if◌then◌else◌}
 use Rattle.std.specs.Borrow.{Bor}
+use Rattle.std.specs.List.{list_all}
 use Rattle.std.specs.Cmp.Lexicographic.{pointwise}
 use Rattle.refusal.specs.declared.Refusal.{Refusal}
+use Rattle.report.specs.declared.Upload.{Upload}
 use Rattle.comparison.specs.declared.pieces.Piece.{Piece}
 use Rattle.comparison.specs.declared.pieces.Shift.{Shift}
 use Rattle.comparison.specs.declared.pieces.Shift.TheVariants.{Later, Earlier}
@@ -10,7 +12,7 @@ use Rattle.comparison.specs.declared.pairs.Pair.{Pair}
 use Rattle.comparison.specs.declared.finding.Row.{Row}
 use Rattle.comparison.specs.declared.finding.Rows.{Rows}
 use Rattle.comparison.specs.declared.finding.Moved.{Moved}
-use Rattle.comparison.specs.Pieces.{shift}
+use Rattle.comparison.specs.Pieces.{pieces_of, shift}
 use Rattle.comparison.specs.Pairs.{partners_of, pairs_of}
 
 abbrev pub piece_numbered : List Piece → Option ℕ → Option Piece
@@ -59,6 +61,9 @@ is_unmoved (Some s) = is_same_shift s (Later 0)
 
 abbrev pub stays : Row → Bool
 stays r = is_unmoved (shift_in r.a r.b) && is_alike r.a r.b
+
+abbrev pub are_alike : Upload → Upload → Bool
+are_alike u v = list_all stays (rows_of (pieces_of u) (pieces_of v))
 
 -- A's, where both have one
 abbrev pub name_else : Option (Bor (List ℕ)) → Result (Bor (List ℕ)) Refusal → Option (Bor (List ℕ))

@@ -1,5 +1,5 @@
 -- docs/FORMAT.md, "The command's text", of `compare`: every piece is told once, and what is told together is one entry.
-use Rattle.std.specs.Prelude.{ℕ, ◌≡◌, ◌⊎◌, true, List, [], ◌∷◌, Option, Some, None, Ok, Err, length, is_err}
+use Rattle.std.specs.Prelude.{ℕ, ◌≡◌, ◌⊎◌, true, List, [], ◌∷◌, Option, Some, None, Ok, Err, length, slice_get, is_err}
 use Rattle.std.specs.Borrow.{Bor}
 use Rattle.std.specs.List.{filter_map}
 use Rattle.std.specs.List.Sorted.{IsPermutation}
@@ -9,10 +9,14 @@ use Rattle.comparison.specs.declared.pieces.Piece.{Piece}
 use Rattle.comparison.specs.declared.finding.Row.{Row}
 use Rattle.comparison.specs.Rows.{rows_of}
 
--- a piece of A and one of B are the same entry: of one name letter by letter, in any case; refused, in the same bytes; at one place, and as long or one of them refused; or as long
+-- of one name letter by letter, in any case; or refused, in the same bytes
+pub data IsNamedAlike (p q : Piece) : Type 0 where
+  named : {own other : Bor (List ℕ)} → p.name ≡ Ok own → q.name ≡ Ok other → SameLetters own.now other.now → IsNamedAlike p q
+  refused : {why other : Refusal} → p.name ≡ Err why → q.name ≡ Err other → p.bytes.now ≡ q.bytes.now → IsNamedAlike p q
+
+-- a piece of A and one of B are the same entry: named alike; at one place, and as long or one of them refused; or as long
 pub data IsOneEntry (p q : Piece) : Type 0 where
-  named : {own other : Bor (List ℕ)} → p.name ≡ Ok own → q.name ≡ Ok other → SameLetters own.now other.now → IsOneEntry p q
-  refused : {why other : Refusal} → p.name ≡ Err why → q.name ≡ Err other → p.bytes.now ≡ q.bytes.now → IsOneEntry p q
+  alike : IsNamedAlike p q → IsOneEntry p q
   placed : p.place ≡ q.place → (length p.bytes.now ≡ length q.bytes.now) ⊎ ((is_err p.name ≡ true) ⊎ (is_err q.name ≡ true)) → IsOneEntry p q
   as_long : length p.bytes.now ≡ length q.bytes.now → IsOneEntry p q
 
@@ -27,8 +31,14 @@ abbrev pub AreRows : List Row → Type 0
 AreRows [] = Unit {0}
 AreRows (r ∷ rows) = IsRow r.a r.b × AreRows rows
 
+-- no entry that A has alone is named like one that B has alone
+abbrev pub AreApart : List Row → Type 0
+AreApart rows = (m n : ℕ) (r s : Row) (p q : Piece) → slice_get rows m ≡ Some r → slice_get rows n ≡ Some s
+    → r.a ≡ Some p → r.b ≡ None → s.a ≡ None → s.b ≡ Some q → ¬ IsNamedAlike p q
+
 -- A's pieces in their order, each once; B's, each once; and nothing else
 pub record RowsMeant : Type 0 where
   pub ours : (ps qs : List Piece) → filter_map (λ r. r.a) (rows_of ps qs) ≡ ps
   pub theirs : (ps qs : List Piece) → IsPermutation qs (filter_map (λ r. r.b) (rows_of ps qs))
   pub each : (ps qs : List Piece) → AreRows (rows_of ps qs)
+  pub apart : (ps qs : List Piece) → AreApart (rows_of ps qs)

@@ -1,7 +1,7 @@
 //! What is told of a row.
 ghost use Rattle.std.specs.Prelude.{◌≡◌, None};
 ghost use Rattle.std.specs.List.{list_all};
-ghost use Rattle.comparison.specs.Rows.{row_of, piece_numbered, is_same_shift, shift_in, moved_in, is_alike, stays, rows_in, name_in};
+ghost use Rattle.comparison.specs.Rows.{row_of, piece_numbered, is_same_shift, shift_in, moved_in, is_alike, is_unmoved, stays, rows_in, name_in};
 
 use crate::pairs::Pair;
 use crate::pieces::{Piece, Shift};
@@ -120,15 +120,21 @@ impl<'a> Row<'a> {
         }
     }
 
+    /// Whether both have the entry, at the same place.
+    pub fn is_in_place(&self) -> bool
+        ensures { result ≡ is_unmoved (shift_in self.now.a self.now.b) }
+    {
+        match self.shift() {
+            Some(shift) => shift.is(Shift::Later(0)),
+            None => false,
+        }
+    }
+
     /// Whether both have the entry, in the same bytes and at the same place.
     fn stays(&self) -> bool
         ensures { result ≡ stays self.now }
     {
-        let stays = match self.shift() {
-            Some(shift) => shift.is(Shift::Later(0)),
-            None => false,
-        };
-        stays && self.is_alike()
+        self.is_in_place() && self.is_alike()
     }
 
     /// The name of the entry, A's where both have one.

@@ -1,4 +1,9 @@
 //! `compare --json`: a line a finding.
+ghost use Rattle.std.specs.Prelude.{OnOk, Some};
+ghost use Rattle.std.specs.Io.KnownBytes.{Appends};
+ghost use Rattle.comparison.specs.Rows.{moved_in};
+ghost use Rattle.comparison.specs.Json.{later_text, moved_line, side_text, name_text, front_text};
+
 use crate::differences::{Difference, differences};
 use crate::finding::{Row, Rows};
 use crate::pieces::{Piece, Shift};
@@ -29,7 +34,10 @@ pub(crate) fn write<W: Write>(
 }
 
 // Where the entry stands, if otherwise apart than the one before.
-fn write_moved<W: Write>(row: &Row<'_>, before: Shift, out: &mut W) -> io::Result<()> {
+#[tactic(auto, unfolding(crate::specs::Json::moved_line))]
+fn write_moved<W: Write>(row: &Row<'_>, before: Shift, out: &mut W) -> io::Result<()>
+    ensures { OnOk result (Appends (W.contents out.old) (W.contents out.new) (moved_line (moved_in before row.now.a row.now.b))) }
+{
     let Some(moved) = row.moved(before) else {
         return Ok(());
     };
@@ -46,6 +54,8 @@ fn write_moved<W: Write>(row: &Row<'_>, before: Shift, out: &mut W) -> io::Resul
 struct Later(Shift);
 
 impl fmt::Display for Later {
+    ghost output = { λ l. Some (later_text l.0) };
+
     fn fmt<W: fmt::Write>(&self, f: &mut fmt::Formatter<W>) -> fmt::Result {
         match self.0 {
             Shift::Later(bytes) => write!(f, "{bytes}"),
@@ -55,21 +65,38 @@ impl fmt::Display for Later {
 }
 
 fn write_entry<W: Write>(alloc: Global, row: &Row<'_>, mode: Mode, out: &mut W) -> io::Result<()> {
-    match row.name() {
-        Some(name) => {
-            let name = Quoted(name);
-            write!(out, "{{\"name\":{name}")?;
-        }
-        None => write!(out, "{{\"name\":null")?,
-    }
-    let a = Side(&row.a);
-    let b = Side(&row.b);
-    write!(out, ",\"a\":{a},\"b\":{b},\"parts\":[")?;
+    write_front(row, out)?;
     if let (Some(a), Some(b)) = (&row.a, &row.b) {
         let all = differences(alloc, a, b, mode)?;
         write_differences(all.as_slice(), out)?;
     }
     writeln!(out, "]}}")
+}
+
+// What stands before the parts.
+#[tactic(auto, unfolding(crate::specs::Json::front_text))]
+fn write_front<W: Write>(row: &Row<'_>, out: &mut W) -> io::Result<()>
+    ensures { OnOk result (Appends (W.contents out.old) (W.contents out.new) (front_text row.now)) }
+{
+    let name = NameOrNull(row.name());
+    let a = Side(&row.a);
+    let b = Side(&row.b);
+    write!(out, "{{\"name\":{name},\"a\":{a},\"b\":{b},\"parts\":[")
+}
+
+// A name, if there is one.
+#[derive(Clone, Copy)]
+struct NameOrNull<'a>(Option<&'a [u8]>);
+
+impl fmt::Display for NameOrNull<'_> {
+    ghost output = { λ n. Some (name_text n.0) };
+
+    fn fmt<W: fmt::Write>(&self, f: &mut fmt::Formatter<W>) -> fmt::Result {
+        match self.0 {
+            Some(name) => Quoted(name).fmt(f),
+            None => write!(f, "null"),
+        }
+    }
 }
 
 fn write_differences<W: Write>(all: &[Difference<'_>], out: &mut W) -> io::Result<()> {
@@ -92,6 +119,8 @@ fn write_differences<W: Write>(all: &[Difference<'_>], out: &mut W) -> io::Resul
 struct Side<'a>(&'a Option<Piece<'a>>);
 
 impl fmt::Display for Side<'_> {
+    ghost output = { λ s. Some (side_text s.0.now) };
+
     fn fmt<W: fmt::Write>(&self, f: &mut fmt::Formatter<W>) -> fmt::Result {
         let Some(piece) = self.0 else {
             return write!(f, "null")

@@ -2,6 +2,9 @@
 //! (docs/FORMAT.md, "The command's text").
 #![tactic(auto)]
 
+ghost use Rattle.std.specs.Prelude.{◌≡◌, IfOk};
+ghost use Rattle.comparison.specs.Rows.{are_alike};
+
 mod counts;
 mod differences;
 mod finding;
@@ -20,14 +23,17 @@ use std::alloc::Global;
 use std::io;
 use std::io::Write;
 
-/// Writes what two uploads differ in; whether they are alike.
+/// Writes what two uploads differ in; whether they are alike, every entry at its place and in its bytes.
+#[tactic(auto, unfolding(crate::specs::Rows::rows_of))]
 pub fn compare<W: Write>(
     alloc: Global,
     a: &Upload<'_>,
     b: &Upload<'_>,
     as_json: bool,
     out: &mut W,
-) -> io::Result<bool> {
+) -> io::Result<bool>
+    ensures { IfOk result (λ alike. alike ≡ are_alike a.now b.now) }
+{
     let pieces_of_a = pieces(alloc, a)?;
     let pieces_of_b = pieces(alloc, b)?;
     let pairs = pairs(alloc, pieces_of_a.as_slice(), pieces_of_b.as_slice())?;

@@ -1,4 +1,4 @@
-use Rattle.std.proofs.Common.{◌≡◌, ◌∙◌, ap, map, refl}
+use Rattle.std.proofs.Common.{◌≡◌, ◌∙◌, ap, map}
 use Rattle.symbol.specs.Symbol.{symbol_of}
 use Rattle.walk.specs.Pieces.{pieces, walker_left}
 use Rattle.comparison.specs.Pieces.{piece_of, pieces_of}
