@@ -144,18 +144,18 @@ module _ (ps qs : List Piece) where
             → R (slice_get ps i) (slice_get qs j) ≡ Equal → ⊥
         by on Less e f g same =
             elim (among i x xs h) [
-              inl is ↦
-                (let first : R (slice_get ps x) (slice_get qs j) ≡ Less = elim (among j y ys k) [ inl at ↦ ap (λ (m : ℕ). R (slice_get ps x) (slice_get qs m)) at ∙ e | inr m ↦ below (slice_get ps x) (slice_get qs y) (slice_get qs j) e (t j m) ] in
-                let both : R (slice_get ps i) (slice_get qs j) ≡ Less = ap (λ (m : ℕ). R (slice_get ps m) (slice_get qs j)) is ∙ first in
-                cc)
+              | inl is ↦
+                  (let first : R (slice_get ps x) (slice_get qs j) ≡ Less = elim (among j y ys k) [ inl at ↦ ap (λ (m : ℕ). R (slice_get ps x) (slice_get qs m)) at ∙ e | inr m ↦ below (slice_get ps x) (slice_get qs y) (slice_get qs j) e (t j m) ] in
+                  let both : R (slice_get ps i) (slice_get qs j) ≡ Less = ap (λ (m : ℕ). R (slice_get ps m) (slice_get qs j)) is ∙ first in
+                  cc)
               | inr m ↦ on xs (y ∷ ys) p (omega arith) u (up t v) (ready_rest ps p.of_a x xs a) b m k f g same
             ]
         by on Greater e f g same =
             elim (among j y ys k) [
-              inl is ↦
-                (let first : R (slice_get ps i) (slice_get qs y) ≡ Greater = elim (among i x xs h) [ inl at ↦ ap (λ (m : ℕ). R (slice_get ps m) (slice_get qs y)) at ∙ e | inr m ↦ above (slice_get ps x) (slice_get qs y) (slice_get ps i) e (s i m) ] in
-                let both : R (slice_get ps i) (slice_get qs j) ≡ Greater = ap (λ (m : ℕ). R (slice_get ps i) (slice_get qs m)) is ∙ first in
-                cc)
+              | inl is ↦
+                  (let first : R (slice_get ps i) (slice_get qs y) ≡ Greater = elim (among i x xs h) [ inl at ↦ ap (λ (m : ℕ). R (slice_get ps m) (slice_get qs y)) at ∙ e | inr m ↦ above (slice_get ps x) (slice_get qs y) (slice_get ps i) e (s i m) ] in
+                  let both : R (slice_get ps i) (slice_get qs j) ≡ Greater = ap (λ (m : ℕ). R (slice_get ps i) (slice_get qs m)) is ∙ first in
+                  cc)
               | inr m ↦ on (x ∷ xs) ys p (omega arith) (up s u) v a (ready_rest qs p.of_b y ys b) h m f g same
             ]
         by on Equal e f g same =
@@ -168,12 +168,12 @@ module _ (ps qs : List Piece) where
             let g' : slice_get (matched Name ps qs n xs ys (partnered x y p)).of_b j ≡ Some None = ap (λ (q : Partners). slice_get (matched Name ps qs n xs ys q).of_b j) (sym join) ∙ g in
             let was = matched_free Name n xs ys (partnered x y p) in
             elim (among i x xs h) [
-              inl is ↦ (let w = was.0 i f' in let z : slice_get (slice_set p.of_a x (Some y)) i ≡ Some (Some y) = ap (slice_get (slice_set p.of_a x (Some y))) is ∙ set_same p.of_a x (Some y) ours in cc)
+              | inl is ↦ (let w = was.0 i f' in let z : slice_get (slice_set p.of_a x (Some y)) i ≡ Some (Some y) = ap (slice_get (slice_set p.of_a x (Some y))) is ∙ set_same p.of_a x (Some y) ours in cc)
               | inr m ↦
-                elim (among j y ys k) [
-                  inl is ↦ (let w = was.1 j g' in let z : slice_get (slice_set p.of_b y (Some x)) j ≡ Some (Some x) = ap (slice_get (slice_set p.of_b y (Some x))) is ∙ set_same p.of_b y (Some x) theirs in cc)
-                  | inr o ↦ on xs ys (partnered x y p) (omega arith) u v (ready_set ps p.of_a x xs (Some y) a) (ready_set qs p.of_b y ys (Some x) b) m o f' g' same
-                ]
+                  elim (among j y ys k) [
+                    | inl is ↦ (let w = was.1 j g' in let z : slice_get (slice_set p.of_b y (Some x)) j ≡ Some (Some x) = ap (slice_get (slice_set p.of_b y (Some x))) is ∙ set_same p.of_b y (Some x) theirs in cc)
+                    | inr o ↦ on xs ys (partnered x y p) (omega arith) u v (ready_set ps p.of_a x xs (Some y) a) (ready_set qs p.of_b y ys (Some x) b) m o f' g' same
+                  ]
             ]
 
 -- the numbers that are free
@@ -201,19 +201,19 @@ module _ (all : List (Option ℕ)) where
       let here = (drop_step k all e).0 in
       let sum = sum_by-cons (mark v) k (left (k + 1) xs) in
       elim (mark_cases v k) [
-        inl n ↦ record {
+        | inl n ↦ record {
           once = omega (arith, on.once, sum, n);
           is = λ h. (let i = on.is (omega (arith, h, sum, n)) in (omega (arith, i.0), i.1));
           all_of = λ h g. (let other : v ≢ k = λ s. (let m : mark v k ≡ 1 = ap (mark v) (sym s) ∙ marked v in omega (arith, m, n)) in let w = on.all_of (omega (arith, h, other)) g in omega (arith, w, sum));
         }
         | inr s ↦ (
-          let m : mark v k ≡ 1 = ap (mark v) (sym s) ∙ marked v in
-          let no : tally v (left (k + 1) xs) ≤ 0 = (elim (below_one (tally v (left (k + 1) xs))) [ inl z ↦ omega (arith, z) | inr z ↦ absurd (let i = on.is z in omega (arith, i.0, s)) ]) in
-          record {
-            once = omega (arith, no, sum, m);
-            is = λ h. (omega (arith, s), ap (slice_get all) s ∙ here);
-            all_of = λ h g. omega (arith, sum, m);
-          })
+            let m : mark v k ≡ 1 = ap (mark v) (sym s) ∙ marked v in
+            let no : tally v (left (k + 1) xs) ≤ 0 = (elim (below_one (tally v (left (k + 1) xs))) [ inl z ↦ omega (arith, z) | inr z ↦ absurd (let i = on.is z in omega (arith, i.0, s)) ]) in
+            record {
+              once = omega (arith, no, sum, m);
+              is = λ h. (omega (arith, s), ap (slice_get all) s ∙ here);
+              all_of = λ h g. omega (arith, sum, m);
+            })
       ]
     where
       below_one : (n : ℕ) → (n ≡ 0) ⊎ (0 < n)

@@ -95,7 +95,6 @@ nobody_there zero k l e = cc
 nobody_there (suc n) zero l e = cc
 nobody_there (suc n) (suc k) l e = nobody_there n k l e
 
-
 pub mutual_none : (ps qs : List Piece) → Mutual (length ps) (length qs) (nobody ps qs)
 mutual_none ps qs = record {
   there = λ k l e. absurd (nobody_there _ k l e);

@@ -109,12 +109,12 @@ module _ (all : Partnering) where
   in_held k [] j i e h g = let p = get_past k j all e h in cc
   in_held k (None ∷ xs) j i e h g =
       elim (cases_lt k j) [
-        inl l ↦ in_held (k + 1) xs j i (drop_next k all e) (omega (arith, l)) g
+        | inl l ↦ in_held (k + 1) xs j i (drop_next k all e) (omega (arith, l)) g
         | inr m ↦ let s = (drop_step k all e).0 in let same : j ≡ k = omega (arith, m) in let t : slice_get all j ≡ slice_get all k = ap (slice_get all) same in cc
       ]
   in_held k (Some o ∷ xs) j i e h g =
       elim (cases_lt k j) [
-        inl l ↦ later (in_held (k + 1) xs j i (drop_next k all e) (omega (arith, l)) g)
+        | inl l ↦ later (in_held (k + 1) xs j i (drop_next k all e) (omega (arith, l)) g)
         | inr m ↦ let same : j ≡ k = omega (arith, m) in here_is same
       ]
 
@@ -134,12 +134,12 @@ module _ (all : Partnering) where
   in_named k [] j i e h g = let p = get_past k i all e h in cc
   in_named k (None ∷ xs) j i e h g =
       elim (cases_lt k i) [
-        inl l ↦ in_named (k + 1) xs j i (drop_next k all e) (omega (arith, l)) g
+        | inl l ↦ in_named (k + 1) xs j i (drop_next k all e) (omega (arith, l)) g
         | inr m ↦ let s = (drop_step k all e).0 in let same : i ≡ k = omega (arith, m) in let t : slice_get all i ≡ slice_get all k = ap (slice_get all) same in cc
       ]
   in_named k (Some o ∷ xs) j i e h g =
       elim (cases_lt k i) [
-        inl l ↦ later (in_named (k + 1) xs j i (drop_next k all e) (omega (arith, l)) g)
+        | inl l ↦ later (in_named (k + 1) xs j i (drop_next k all e) (omega (arith, l)) g)
         | inr m ↦ let s = (drop_step k all e).0 in let same : i ≡ k = omega (arith, m) in let t : slice_get all i ≡ slice_get all k = ap (slice_get all) same in let one : j ≡ o = cc in here_is one
       ]
 
@@ -149,11 +149,11 @@ module _ (all : Partnering) where
   named_apart others n k (Some j ∷ xs) e =
       more
       (λ h.
-        let d = named_in (k + 1) xs j (drop_next k all e) h in
-        let a : slice_get others j ≡ Some (Some d.by) = n d.by j d.is in
-        let b : slice_get others j ≡ Some (Some k) = n k j (drop_step k all e).0 in
-        let same : d.by ≡ k = cc in
-        omega (arith, d.above, same))
+      let d = named_in (k + 1) xs j (drop_next k all e) h in
+      let a : slice_get others j ≡ Some (Some d.by) = n d.by j d.is in
+      let b : slice_get others j ≡ Some (Some k) = n k j (drop_step k all e).0 in
+      let same : d.by ≡ k = cc in
+      omega (arith, d.above, same))
       (named_apart others n (k + 1) xs (drop_next k all e))
 
 module _ (ps qs : List Piece) where

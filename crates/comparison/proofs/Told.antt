@@ -97,10 +97,10 @@ module _ (ps qs : List Piece) where
   unfolding AreOne Good
   step i j p o good =
       joined_kept Good i j p (λ a b k l h.
-        elim (set_either p.of_a i k (Some j) (Some l) h) [
-          inl e ↦ (let same : j ≡ l = let s = e.1 in cc in λ x y c d. o x y (ap (slice_get ps) (sym e.0) ∙ c) (ap (slice_get qs) same ∙ d))
-          | inr g ↦ good k l g
-        ]) good
+      elim (set_either p.of_a i k (Some j) (Some l) h) [
+        | inl e ↦ (let same : j ≡ l = let s = e.1 in cc in λ x y c d. o x y (ap (slice_get ps) (sym e.0) ∙ c) (ap (slice_get qs) same ∙ d))
+        | inr g ↦ good k l g
+      ]) good
 
   abbrev p : Partners
   p = partners_of ps qs

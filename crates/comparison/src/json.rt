@@ -16,11 +16,7 @@ use values::AsJson;
 use wording::strings::Quoted;
 
 /// Writes the lines.
-pub(crate) fn write<W: Write>(
-    alloc: Global,
-    rows: &Rows<'_, '_>,
-    out: &mut W,
-) -> io::Result<()> {
+pub(crate) fn write<W: Write>(alloc: Global, rows: &Rows<'_, '_>, out: &mut W) -> io::Result<()> {
     let mut before = Shift::Later(0);
     for pair in rows.pairs {
         let row = rows.row(pair);

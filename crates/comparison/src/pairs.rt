@@ -80,11 +80,7 @@ fn push_behind(
 }
 
 // What B has alone from a number on, up to the next that A has too.
-fn push_alone(
-    of_b: &[Option<usize>],
-    from: usize,
-    all: &mut Vec<Pair>,
-) -> Result<(), AllocError>
+fn push_alone(of_b: &[Option<usize>], from: usize, all: &mut Vec<Pair>) -> Result<(), AllocError>
     requires { from ≤ length of_b.now }
     ensures { OnOk result (all.new.items ≡ all.old.items ++ alone from (drop from of_b.now)) }
 {
@@ -133,13 +129,7 @@ fn piece_at<'a>(pieces: &[Piece<'a>], number: usize) -> Option<Piece<'a>>
 
 // An order of numbers: by the pieces' places, or by what they are known by.
 #[tactic(auto, using(crate::proofs::Orders::then_equal), unfolding(crate::specs::Pairs::order_at, crate::specs::Pieces::by_name))]
-fn compare<'a>(
-    rule: Rule,
-    a: &[Piece<'a>],
-    one: usize,
-    b: &[Piece<'a>],
-    other: usize,
-) -> Ordering
+fn compare<'a>(rule: Rule, a: &[Piece<'a>], one: usize, b: &[Piece<'a>], other: usize) -> Ordering
     ensures { result ≡ order_at rule (slice_get a.now one) (slice_get b.now other) }
 {
     match (piece_at(a, one), piece_at(b, other)) {
@@ -162,13 +152,7 @@ fn compare_numbers(pieces: &[Piece<'_>], one: usize, other: usize) -> Ordering
 }
 
 // Whether two pieces that stand alike are the same entry.
-fn fits_at<'a>(
-    rule: Rule,
-    a: &[Piece<'a>],
-    one: usize,
-    b: &[Piece<'a>],
-    other: usize,
-) -> bool
+fn fits_at<'a>(rule: Rule, a: &[Piece<'a>], one: usize, b: &[Piece<'a>], other: usize) -> bool
     ensures { result ≡ fits_at rule (slice_get a.now one) (slice_get b.now other) }
 {
     match (piece_at(a, one), piece_at(b, other)) {
@@ -202,11 +186,7 @@ fn free(alloc: Global, partners: &[Option<usize>]) -> Result<Vec<usize>, AllocEr
     Ok(all)
 }
 
-fn push_free(
-    number: usize,
-    partner: Option<usize>,
-    all: &mut Vec<usize>,
-) -> Result<(), AllocError>
+fn push_free(number: usize, partner: Option<usize>, all: &mut Vec<usize>) -> Result<(), AllocError>
     ensures { OnOk result (all.new.items ≡ all.old.items ++ free_one number partner) }
 {
     if partner.is_none() {

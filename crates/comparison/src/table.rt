@@ -252,11 +252,7 @@ impl Widths {
 
 /// Writes the table, or nothing where it has no line. The lines are made twice, once for their widths, and none is kept: there can be
 /// millions.
-pub(crate) fn write<W: Write>(
-    alloc: Global,
-    rows: &Rows<'_, '_>,
-    out: &mut W,
-) -> io::Result<()> {
+pub(crate) fn write<W: Write>(alloc: Global, rows: &Rows<'_, '_>, out: &mut W) -> io::Result<()> {
     let Some(widths) = widths_of(alloc, rows)? else {
         return Ok(());
     };

@@ -7,7 +7,7 @@ use Rattle.comparison.proofs.pairs.Pairing.join_alike.Goals.{then-is_empty-via-t
 pub returns-then-is_empty : goal.returns-then-is_empty
 returns-then-is_empty c =
     elim c.then-is_empty.branch [
-      then-is_empty-via-then-is_empty w ↦ sym (ours_ended c.args.rule _ _ _ _ _ _ (sym c.is_empty.ensures ∙ w.if-is_empty.true)) ∙ c.loop-turn.invariant
+      | then-is_empty-via-then-is_empty w ↦ sym (ours_ended c.args.rule _ _ _ _ _ _ (sym c.is_empty.ensures ∙ w.if-is_empty.true)) ∙ c.loop-turn.invariant
       | then-is_empty-via-else-is_empty+then-is_empty-2 w ↦ sym (theirs_ended c.args.rule _ _ _ _ _ _ (sym w.is_empty-else-is_empty.ensures ∙ w.if-is_empty-2.true)) ∙ c.loop-turn.invariant
     ]
 
