@@ -1,10 +1,14 @@
 //! The last line of the table.
-use crate::pairs::Row;
+ghost use Rattle.std.specs.Prelude.{◌≡◌, Some};
+ghost use Rattle.comparison.specs.Rows.{rows_in};
+ghost use Rattle.comparison.specs.Counts.{nothing, counted, counted_on, added, counted_text};
+
+use crate::finding::{Row, Rows};
 use std::fmt;
 use wording::{Grouped, Many};
 
 /// How many entries there are, and how they compare.
-#[derive(Clone, Copy, Default)]
+#[derive(Clone, Copy)]
 pub(crate) struct Counted {
     in_a: usize,
     in_b: usize,
@@ -15,49 +19,64 @@ pub(crate) struct Counted {
     moved: usize,
 }
 
-fn add(count: &mut usize) {
-    *count = count.saturating_add(1);
+// One more, if it is one.
+fn add(count: &mut usize, is_one: bool)
+    ensures { count.new ≡ added count.old is_one }
+{
+    if is_one {
+        *count = count.saturating_add(1);
+    }
 }
 
 impl Counted {
-    pub fn of(rows: &[Row<'_>]) -> Counted {
-        let mut counted = Counted::default();
-        for row in rows {
-            counted.count(row);
+    fn new() -> Counted
+        ensures { result ≡ nothing }
+    {
+        Counted {
+            in_a: 0,
+            in_b: 0,
+            alike: 0,
+            different: 0,
+            only_in_a: 0,
+            only_in_b: 0,
+            moved: 0,
+        }
+    }
+
+    /// Counts all rows.
+    #[tactic(auto, unfolding(crate::specs::Counts::counted_on))]
+    pub fn of(rows: &Rows<'_, '_>) -> Counted
+        ensures { result ≡ counted_on nothing (rows_in rows.now) }
+    {
+        let mut counted = Counted::new();
+        for pair in rows.pairs {
+            counted.count(&rows.row(pair));
         }
         counted
     }
 
-    fn count(&mut self, row: &Row<'_>) {
-        if row.a.is_some() {
-            add(&mut self.in_a);
-        }
-        if row.b.is_some() {
-            add(&mut self.in_b);
-        }
-        match row.apart() {
-            Some(apart) => {
-                if row.is_alike() {
-                    add(&mut self.alike);
-                } else {
-                    add(&mut self.different);
-                }
-                if apart != 0 {
-                    add(&mut self.moved);
-                }
-            }
-            None => {
-                if row.a.is_some() {
-                    add(&mut self.only_in_a);
-                } else {
-                    add(&mut self.only_in_b);
-                }
-            }
-        }
+    #[tactic(auto, unfolding(crate::specs::Counts::counted))]
+    fn count(&mut self, row: &Row<'_>)
+        ensures { self.new ≡ counted self.old row.now }
+    {
+        let has_a = row.a.is_some();
+        let has_b = row.b.is_some();
+        let has_both = has_a && has_b;
+        let is_alike = row.is_alike();
+        add(&mut self.in_a, has_a);
+        add(&mut self.in_b, has_b);
+        add(&mut self.alike, is_alike);
+        add(&mut self.different, has_both && !is_alike);
+        add(&mut self.only_in_a, has_a && !has_b);
+        add(&mut self.only_in_b, has_b && !has_a);
+        add(&mut self.moved, has_both && !row.is_in_place());
     }
 }
 
 impl fmt::Display for Counted {
+    ghost output = { λ c. Some (counted_text c) };
+
+    #[tactic(auto, unfolding(crate::specs::Counts::counted_text))]
     fn fmt<W: fmt::Write>(&self, f: &mut fmt::Formatter<W>) -> fmt::Result {
         let in_a = Many {
             number: self.in_a,

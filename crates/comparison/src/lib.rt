@@ -2,6 +2,9 @@
 //! (docs/FORMAT.md, "The command's text").
 #![tactic(auto)]
 
+ghost use Rattle.std.specs.Prelude.{◌≡◌, IfOk};
+ghost use Rattle.comparison.specs.Rows.{are_alike};
+
 mod counts;
 mod differences;
 mod finding;
@@ -9,43 +12,55 @@ mod json;
 mod pairs;
 mod pieces;
 mod table;
+pub mod theorems;
 
 use counts::Counted;
-use pairs::{Row, rows};
+use finding::Rows;
+use pairs::pairs;
 use pieces::pieces;
 use report::Upload;
 use std::alloc::Global;
 use std::io;
 use std::io::Write;
 
-/// Writes what two uploads differ in; whether they are alike.
+/// Writes what two uploads differ in; whether they are alike, every entry at its place and in its bytes.
+#[tactic(auto, unfolding(crate::specs::Rows::rows_of))]
 pub fn compare<W: Write>(
     alloc: Global,
     a: &Upload<'_>,
     b: &Upload<'_>,
     as_json: bool,
     out: &mut W,
-) -> io::Result<bool> {
+) -> io::Result<bool>
+    ensures { IfOk result (λ alike. alike ≡ are_alike a.now b.now) }
+{
     let pieces_of_a = pieces(alloc, a)?;
     let pieces_of_b = pieces(alloc, b)?;
-    let rows = rows(alloc, pieces_of_a.as_slice(), pieces_of_b.as_slice())?;
+    let pairs = pairs(alloc, pieces_of_a.as_slice(), pieces_of_b.as_slice())?;
+    let rows = Rows {
+        a: pieces_of_a.as_slice(),
+        b: pieces_of_b.as_slice(),
+        pairs: pairs.as_slice(),
+        mode: a.mode,
+    };
     if as_json {
-        return json::write(alloc, rows.as_slice(), a.mode, out);
+        json::write(alloc, &rows, out)?;
+    } else {
+        write_table(alloc, a, b, &rows, out)?;
     }
-    write_table(alloc, a, b, rows.as_slice(), out)
+    Ok(rows.are_alike())
 }
 
 fn write_table<W: Write>(
     alloc: Global,
     a: &Upload<'_>,
     b: &Upload<'_>,
-    rows: &[Row<'_>],
+    rows: &Rows<'_, '_>,
     out: &mut W,
-) -> io::Result<bool> {
+) -> io::Result<()> {
     writeln!(out, "A: {a}")?;
     writeln!(out, "B: {b}")?;
-    let is_alike = table::write(alloc, rows, a.mode, out)?;
+    table::write(alloc, rows, out)?;
     let counted = Counted::of(rows);
-    writeln!(out, "{counted}")?;
-    Ok(is_alike)
+    writeln!(out, "{counted}")
 }

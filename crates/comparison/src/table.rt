@@ -1,7 +1,7 @@
 //! `compare`: a line for each part that differs, for each entry that one upload has alone, and where entries moved.
 use crate::differences::{Difference, differences};
-use crate::pairs::Row;
-use crate::pieces::Piece;
+use crate::finding::{Row, Rows};
+use crate::pieces::{Piece, Shift};
 use refusal::{Mode, Refusal};
 use report::table::digits;
 use std::alloc::{AllocError, Global};
@@ -24,13 +24,13 @@ struct Line<'a> {
 #[derive(Clone, Copy)]
 enum Told<'a> {
     // From here on so many bytes later in B.
-    Moved(i64),
+    Moved(Shift),
     Differs(Difference<'a>),
     OnlyInA(Result<&'a [u8], Refusal>),
     OnlyInB(Result<&'a [u8], Refusal>),
 }
 
-fn place_of(piece: Option<&Piece<'_>>) -> Option<usize> {
+fn place_of(piece: &Option<Piece<'_>>) -> Option<usize> {
     match piece {
         Some(piece) => Some(piece.place),
         None => None,
@@ -39,8 +39,8 @@ fn place_of(piece: Option<&Piece<'_>>) -> Option<usize> {
 
 fn line_of<'a>(row: &Row<'a>, told: Told<'a>) -> Line<'a> {
     Line {
-        a: place_of(row.a),
-        b: place_of(row.b),
+        a: place_of(&row.a),
+        b: place_of(&row.b),
         name: row.name(),
         told,
     }
@@ -50,12 +50,12 @@ fn line_of<'a>(row: &Row<'a>, told: Told<'a>) -> Line<'a> {
 fn lines<'a>(
     alloc: Global,
     row: &Row<'a>,
-    before: i64,
+    before: Shift,
     mode: Mode,
 ) -> Result<Vec<Line<'a>>, AllocError> {
     let mut all = Vec::new(alloc);
     if let Some(moved) = row.moved(before) {
-        all.push(line_of(row, Told::Moved(moved.later)))?;
+        all.push(line_of(row, Told::Moved(moved.shift)))?;
     }
     if !row.is_alike() {
         push_told(alloc, row, mode, &mut all)?;
@@ -70,7 +70,7 @@ fn push_told<'a>(
     mode: Mode,
     all: &mut Vec<Line<'a>>,
 ) -> Result<(), AllocError> {
-    match (row.a, row.b) {
+    match (&row.a, &row.b) {
         (Some(a), Some(b)) => {
             for one in differences(alloc, a, b, mode)? {
                 all.push(line_of(row, Told::Differs(one)))?;
@@ -132,7 +132,7 @@ struct Last<'a>(&'a Told<'a>);
 impl fmt::Display for Last<'_> {
     fn fmt<W: fmt::Write>(&self, f: &mut fmt::Formatter<W>) -> fmt::Result {
         match self.0 {
-            Told::Moved(later) => moved(*later, f),
+            Told::Moved(shift) => moved(*shift, f),
             Told::Differs(one) => {
                 let in_a = AsText(one.in_a);
                 let in_b = AsText(one.in_b);
@@ -144,15 +144,17 @@ impl fmt::Display for Last<'_> {
     }
 }
 
-fn moved<W: fmt::Write>(later: i64, f: &mut fmt::Formatter<W>) -> fmt::Result {
-    if later == 0 {
-        return write!(f, "from here on at the same places");
-    }
-    let bytes = Bytes(later.unsigned_abs() as usize);
-    if later < 0 {
-        write!(f, "from here on {bytes} earlier in B")
-    } else {
-        write!(f, "from here on {bytes} later in B")
+fn moved<W: fmt::Write>(shift: Shift, f: &mut fmt::Formatter<W>) -> fmt::Result {
+    match shift {
+        Shift::Later(0) => write!(f, "from here on at the same places"),
+        Shift::Later(number) => {
+            let bytes = Bytes(number);
+            write!(f, "from here on {bytes} later in B")
+        }
+        Shift::Earlier(number) => {
+            let bytes = Bytes(number);
+            write!(f, "from here on {bytes} earlier in B")
+        }
     }
 }
 
@@ -229,7 +231,7 @@ impl Widths {
         &self,
         alloc: Global,
         row: &Row<'_>,
-        before: i64,
+        before: Shift,
         mode: Mode,
         out: &mut W,
     ) -> io::Result<()> {
@@ -248,37 +250,34 @@ impl Widths {
     }
 }
 
-/// Writes the table; whether it has no line. The lines are made twice, once for their widths, and none is kept: there can be
+/// Writes the table, or nothing where it has no line. The lines are made twice, once for their widths, and none is kept: there can be
 /// millions.
-pub(crate) fn write<W: Write>(
-    alloc: Global,
-    rows: &[Row<'_>],
-    mode: Mode,
-    out: &mut W,
-) -> io::Result<bool> {
-    let Some(widths) = widths_of(alloc, rows, mode)? else {
-        return Ok(true)
+pub(crate) fn write<W: Write>(alloc: Global, rows: &Rows<'_, '_>, out: &mut W) -> io::Result<()> {
+    let Some(widths) = widths_of(alloc, rows)? else {
+        return Ok(());
     };
     widths.write_headings(out)?;
-    let mut before = 0;
-    for row in rows {
-        widths.write_row(alloc, row, before, mode, out)?;
-        before = row.apart().unwrap_or(before);
+    let mut before = Shift::Later(0);
+    for pair in rows.pairs {
+        let row = rows.row(pair);
+        widths.write_row(alloc, &row, before, rows.mode, out)?;
+        before = row.shift().unwrap_or(before);
     }
-    Ok(false)
+    Ok(())
 }
 
 // The widths that the lines need, if there are any.
-fn widths_of(alloc: Global, rows: &[Row<'_>], mode: Mode) -> Result<Option<Widths>, AllocError> {
+fn widths_of(alloc: Global, rows: &Rows<'_, '_>) -> Result<Option<Widths>, AllocError> {
     let mut widths = HEADINGS;
     let mut is_empty = true;
-    let mut before = 0;
-    for row in rows {
-        for line in lines(alloc, row, before, mode)? {
+    let mut before = Shift::Later(0);
+    for pair in rows.pairs {
+        let row = rows.row(pair);
+        for line in lines(alloc, &row, before, rows.mode)? {
             widths.widen(alloc, &line)?;
             is_empty = false;
         }
-        before = row.apart().unwrap_or(before);
+        before = row.shift().unwrap_or(before);
     }
     Ok(if is_empty { None } else { Some(widths) })
 }

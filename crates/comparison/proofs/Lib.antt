@@ -1,0 +1,9 @@
+pub mod Going
+pub mod Orders
+pub mod Turns
+pub mod Lists
+pub mod Kept
+pub mod Once
+pub mod Apart
+pub mod Told
+pub mod Meant

@@ -1,0 +1,20 @@
+//! The theorems (docs/FORMAT.md, "The command's text"). Each is the contract of a function that does nothing, so that none goes unnoticed if its proof does.
+#![tactic(auto)]
+
+ghost use Rattle.comparison.specs.Told.{RowsMeant};
+ghost use Rattle.comparison.specs.Meant.{CountsMeant, TextsMeant};
+
+/// In the rows every piece of A stands once, in A's order, and every piece of B once; and where both stand in a row they are one entry: of one name letter by letter, in any case; refused, in the same bytes; at one place, and as long or one of them refused; or as long. No name is left over in both.
+pub fn rows_meant()
+    ensures { RowsMeant }
+{}
+
+/// Each number of the last line is how many rows there are of what it tells.
+pub fn counts_meant()
+    ensures { CountsMeant }
+{}
+
+/// The last line of the table, the lines of what moved and those of entries up to their parts, with every number another.
+pub fn texts_meant()
+    ensures { TextsMeant }
+{}
