@@ -743,7 +743,6 @@ static void try_mode(void)
 void try_edges(void)
 {
     draft_rich();
-    try_room_lengths();
     for (side = 0; side < SIDES; side++) {
         for (mode = 0; mode < MODES; mode++)
             try_mode();
@@ -760,6 +759,8 @@ void try_edges(void)
         long_counts();
         long_guids();
     }
+    side = AT_END;
+    try_room_lengths(); /* two million of them, and so behind all in which most wrong versions are found */
 }
 
 /* ---- 16,777,216 bytes, and one more ---- */
