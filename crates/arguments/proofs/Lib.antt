@@ -1,0 +1,3 @@
+pub mod OperandLaws
+pub mod OptionLaws
+pub mod LengthLaws
