@@ -13,12 +13,12 @@ end_or_on : (e : Bool) (line : List Word) → (if e then line else operands_of l
 end_or_on true line = refl
 end_or_on false line = refl
 
-cons_passed : (b : Bool) (w : Word) (line : List Word) → (b && is_option w.now) ≡ true → seen b (w ∷ line) ≡ seen (not (ends_options w.now)) line
+pub cons_passed : (b : Bool) (w : Word) (line : List Word) → (b && is_option w.now) ≡ true → seen b (w ∷ line) ≡ seen (not (ends_options w.now)) line
 unfolding operands_of
 cons_passed true w line h = let g : is_option w.now ≡ true = h in rw g (end_or_on (ends_options w.now) line)
 cons_passed false w line h = grind arith
 
-cons_met : (b : Bool) (w : Word) (line : List Word) → (b && is_option w.now) ≡ false → seen b (w ∷ line) ≡ w ∷ seen b line
+pub cons_met : (b : Bool) (w : Word) (line : List Word) → (b && is_option w.now) ≡ false → seen b (w ∷ line) ≡ w ∷ seen b line
 unfolding operands_of
 cons_met true w line h = rw h refl
 cons_met false w line h = refl

@@ -9,15 +9,15 @@ use Rattle.arguments.specs.declared.misuse.Misuse.{Misuse}
 use Rattle.arguments.specs.Words.{Word, is_option, ends_options}
 use Rattle.arguments.specs.Options.{taken, and_then, options_from}
 
-cons_past : (o : Options) (w : Word) (line : List Word) → is_option w.now ≡ false → options_from o (w ∷ line) ≡ options_from o line
+pub cons_past : (o : Options) (w : Word) (line : List Word) → is_option w.now ≡ false → options_from o (w ∷ line) ≡ options_from o line
 unfolding options_from
 cons_past o w line h = rw h refl
 
-cons_end : (o : Options) (w : Word) (line : List Word) → is_option w.now ≡ true → ends_options w.now ≡ true → options_from o (w ∷ line) ≡ Ok (Given o)
+pub cons_end : (o : Options) (w : Word) (line : List Word) → is_option w.now ≡ true → ends_options w.now ≡ true → options_from o (w ∷ line) ≡ Ok (Given o)
 unfolding options_from
 cons_end o w line h e = rw (h, e) refl
 
-cons_taken : (o : Options) (w : Word) (line : List Word) (r : Result Said Misuse) → is_option w.now ≡ true → ends_options w.now ≡ false → taken o w ≡ r
+pub cons_taken : (o : Options) (w : Word) (line : List Word) (r : Result Said Misuse) → is_option w.now ≡ true → ends_options w.now ≡ false → taken o w ≡ r
     → options_from o (w ∷ line) ≡ and_then (λ more. options_from more line) r
 unfolding options_from
 cons_taken o w line r h e t = rw (h, e) (ap (and_then (λ more. options_from more line)) t)

@@ -2,3 +2,4 @@ pub mod Words
 pub mod Options
 pub mod Command
 pub mod Request
+pub mod Meant

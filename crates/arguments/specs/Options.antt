@@ -28,7 +28,7 @@ flag_of name =
     else None
 
 -- a file has one form, which may be told twice
-abbrev in_form : Form → Options → Option Form → Option Options
+abbrev pub in_form : Form → Options → Option Form → Option Options
 in_form Binary o (Some Hexadecimal) = None
 in_form Hexadecimal o (Some Binary) = None
 in_form f o before = Some (record o { form = Some f })

@@ -185,18 +185,18 @@ suited l c = if_suited (unsuited l.options c l.command) (on_ok (ask l c) (withou
 abbrev line_of : Bor (List Word) → Options → Word → Line
 line_of words o w = record { words = words; command = w; options = o }
 
-abbrev of_command : Bor (List Word) → Options → Word → Option Command → Result Request Misuse
+abbrev pub of_command : Bor (List Word) → Options → Word → Option Command → Result Request Misuse
 of_command words o w None = Err (Unfit expected.Command w)
 of_command words o w (Some c) = suited (line_of words o w) c
 
-abbrev of_word : Bor (List Word) → Options → Option Word → Result Request Misuse
+abbrev pub of_word : Bor (List Word) → Options → Option Word → Result Request Misuse
 of_word words o None = Err (Against HasCommand)
 of_word words o (Some w) = of_command words o w (command_of w.now)
 
 unfoldable pub request_of : Bor (List Word) → Options → Result Request Misuse
 request_of words o = of_word words o (slice_get (operands_of words.now) 0)
 
-abbrev as_said : Bor (List Word) → Result Said Misuse → Result Request Misuse
+abbrev pub as_said : Bor (List Word) → Result Said Misuse → Result Request Misuse
 as_said words (Ok (said.Given o)) = request_of words o
 as_said words (Ok said.Help) = Ok request.Help
 as_said words (Ok said.Version) = Ok request.Version
