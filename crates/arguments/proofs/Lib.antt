@@ -1,0 +1,4 @@
+pub mod OperandLaws
+pub mod OptionLaws
+pub mod LengthLaws
+pub mod Meant

@@ -1,0 +1,5 @@
+pub mod Words
+pub mod Options
+pub mod Command
+pub mod Request
+pub mod Meant
