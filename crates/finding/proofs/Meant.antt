@@ -1,6 +1,6 @@
 -- What is found by a name is the first entry that has it.
 use Rattle.std.proofs.Common.{ℕ, ◌<◌, ◌≤◌, ◌≡◌, refl, sym, ap, subst, ◌∙◌, Bool, true, false, List, length, Bor, if◌then◌else◌}
-use Rattle.std.specs.Prelude.{ltb, Option, Some, None, Result, Ok, Err}
+use Rattle.std.specs.Prelude.{ltb, Result, Ok, Err}
 use borrow.Author.Tests.{ltb-false}
 use Rattle.part.specs.Outcome.{and_then}
 use Rattle.refusal.specs.Refusal.{limit}
@@ -8,16 +8,14 @@ use Rattle.refusal.specs.declared.Mode.{Mode}
 use Rattle.refusal.specs.declared.Refusal.{Refusal}
 use Rattle.refusal.specs.declared.Refusal.TheVariants.{TooLarge}
 use Rattle.names.proofs.Meaning.{same_by_letters}
-use Rattle.entry.specs.Walk.{steps}
 use Rattle.walk.specs.Step.{step_at}
 use Rattle.walk.proofs.Back.{steps_back}
 use Rattle.name_find.specs.Find.{find}
-use Rattle.name_find.specs.Meaning.{Finds}
 use Rattle.name_find.proofs.Meaning.{found_is_first_of}
 use Rattle.report.specs.declared.Upload.{Upload}
 use Rattle.finding.specs.declared.Found.{Found}
 use Rattle.finding.specs.Find.{entry_at, named}
-use Rattle.finding.specs.Meaning.{IsFirst, AnsweredAt, NamedMeant}
+use Rattle.finding.specs.Meaning.{IsFirst, NamedMeant}
 
 small_of : (b : Bool) (n m : ℕ) (large : Refusal) (y : Result ℕ Refusal) (at : ℕ) → ltb n m ≡ b → (if b then Err large else y) ≡ Ok at → m ≤ n
 small_of true n m large y at e h = cc

@@ -1,12 +1,9 @@
 -- What `find` writes, by the bytes of the entry: proved.
-use Rattle.std.proofs.Common.{ℕ, ◌+◌, ◌≡◌, refl, sym, ap, ◌∙◌, List, [], ◌∷◌, ◌++◌, codes, decimal, encode_utf8_all, length, take, drop, Bor, Result, Ok, Err}
-use Rattle.std.specs.Prelude.{map}
-use Rattle.std.specs.List.{flat_map}
+use Rattle.std.proofs.Common.{ℕ, ◌+◌, ◌≡◌, refl, ap, ◌∙◌, List, [], ◌∷◌, ◌++◌, codes, decimal, length, take, drop, Bor, Result, Ok, Err}
 use Rattle.std.proofs.lemmas.List.Concat.{flat_map-cons}
 use Rattle.le.specs.Le.{le2}
 use Rattle.part.specs.Outcome.{outcome}
 use Rattle.refusal.specs.declared.Refusal.{Refusal}
-use Rattle.text.specs.Text.{code_point}
 use Rattle.attribute.specs.declared.AdsAttribute.{AdsAttribute}
 use Rattle.attribute.specs.Asked.{FirstNamed}
 use Rattle.attribute.specs.Attribute as attribute
@@ -15,7 +12,7 @@ use Rattle.symbol.specs.declared.AdsSymbolInfo.{AdsSymbolInfo}
 use Rattle.symbol.proofs.Lies.{symbols_inside}
 use Rattle.wording.specs.Text.{exact, exact_char}
 use Rattle.finding.specs.declared.Found.{Found}
-use Rattle.finding.specs.Find.{value, value_text, place_text, attribute_text}
+use Rattle.finding.specs.Find.{value, value_text, attribute_text}
 use Rattle.finding.specs.Written.{in_utf8, FoundWritten}
 
 exact_is : (s : List ℕ) → exact s ≡ in_utf8 s
