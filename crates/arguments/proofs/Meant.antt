@@ -1,6 +1,6 @@
 -- What the words of a line mean: proved.
 use Rattle.std.proofs.Common.{ℕ, suc, ◌+◌, ◌<◌, ◌≤◌, ◌≡◌, refl, sym, ap, subst, ◌∙◌, Bool, true, false, List, [], ◌∷◌, ◌++◌, length, arith, Ok, Err}
-use Rattle.std.specs.Prelude.{◌≢◌, ◌||◌, slice_get, option_and_then, ◌==◌, ◌&&◌, nat_lt, codes, Option, Some, None, Result}
+use Rattle.std.specs.Prelude.{◌≢◌, ◌||◌, slice_get, option_and_then, ◌==◌, ◌&&◌, nat_lt, codes, drop, Option, Some, None, Result}
 use Rattle.std.specs.List.{list_any}
 use Rattle.std.specs.Str.{bytes_eq}
 use Rattle.std.specs.Borrow.{Bor}
@@ -16,13 +16,15 @@ use Rattle.arguments.specs.declared.misuse.Misuse.{Misuse}
 use Rattle.arguments.specs.Words.{Word, is_option, ends_options, operands_of}
 use Rattle.arguments.specs.Options.{taken, long, short, marked, in_form, without_value, with_flag, flag_of, and_then, none_given, options_from, options_of}
 use Rattle.arguments.specs.Command.{unsuited, unsuited_to_room, command_of, task_of}
-use Rattle.arguments.specs.Request.{read_of, request_of, suited, without_more, run_of, asked_of, of_a_word, bind_of, compare_of, find_of, other_file, sheet_of, import_of, export_of, captures_of, against_captures, make_of, room_of, length_of}
+use Rattle.arguments.specs.Request.{read_of, request_of, suited, without_more, run_of, asked_of, of_a_word, bind_of, compare_of, find_of, other_file, sheet_of, import_of, export_of, captures_of, against_captures, make_of, room_of, length_of, as_said, of_word, of_command}
 use Rattle.arguments.specs.declared.options.Flag.{Flag}
 use Rattle.arguments.specs.declared.options.Flag.TheVariants as flag
-use Rattle.arguments.specs.declared.misuse.Misuse.TheVariants.{Against}
+use Rattle.arguments.specs.declared.misuse.Misuse.TheVariants.{Against, Unfit}
+use Rattle.arguments.specs.declared.misuse.Expected.TheVariants.{Command}
 use Rattle.arguments.specs.declared.misuse.Rule.TheVariants.{OneForm}
 use Rattle.refusal.specs.declared.Mode.TheVariants.{Checked}
-use Rattle.arguments.specs.Meant.{IsOperand, dash, empty, other, IsSorted, nothing, operand, option, ended, WordsSorted, IsFlag, binary, hex, checked, json, sorted, OptionsMeant, CommandsMeant}
+use Rattle.arguments.specs.Meant.{IsOperand, dash, empty, other, IsSorted, nothing, operand, option, ended, WordsSorted, IsFlag, binary, hex, checked, json, sorted, OptionsMeant, CommandsMeant, names}
+use Rattle.arguments.specs.Examples.{RequestsMeant}
 use Rattle.arguments.proofs.OperandLaws.{cons_met, cons_passed}
 use Rattle.arguments.proofs.OptionLaws.{cons_past, cons_end, cons_taken}
 
@@ -243,6 +245,80 @@ options_meant = record {
 }
 
 -- ---- the commands
+neither : (x y : Bool) → (x || y) ≡ false → (x ≡ false) × (y ≡ false)
+neither true y h = grind arith
+neither false y h = (refl, h)
+
+-- a word that is none of some is not the first of them, nor of the others
+front : (t n : List ℕ) (ns : List (List ℕ)) → list_any (bytes_eq t) (n ∷ ns) ≡ false → (bytes_eq t n ≡ false) × (list_any (bytes_eq t) ns ≡ false)
+front t n ns h = neither (bytes_eq t n) (list_any (bytes_eq t) ns) h
+
+no_command : (t : List ℕ) → list_any (bytes_eq t) names ≡ false → command_of t ≡ None
+unfolding command_of task_of
+no_command t h =
+    let find = front t (codes "find") (drop 1 names) h in
+    let show = front t (codes "show") (drop 2 names) find.1 in
+    let why = front t (codes "why") (drop 3 names) show.1 in
+    let lists = front t (codes "list") (drop 4 names) why.1 in
+    let branch = front t (codes "branch") (drop 5 names) lists.1 in
+    let types = front t (codes "type") (drop 6 names) branch.1 in
+    let check = front t (codes "check") (drop 7 names) types.1 in
+    let plain = front t (codes "plain") (drop 8 names) check.1 in
+    let compare = front t (codes "compare") (drop 9 names) plain.1 in
+    let salvage = front t (codes "salvage") (drop 10 names) compare.1 in
+    let bind = front t (codes "bind") (drop 11 names) salvage.1 in
+    let captures = front t (codes "captures") (drop 12 names) bind.1 in
+    let sheet = front t (codes "sheet") (drop 13 names) captures.1 in
+    let room = front t (codes "room") (drop 14 names) sheet.1 in
+    rw (room.0, captures.0, sheet.0, find.0, show.0, why.0, lists.0, branch.0, types.0, check.0, plain.0, compare.0, salvage.0, bind.0) refl
+
+named : (p : ℕ × ℕ) (w : Word) (line : List Word) (o : Options) → IsOperand w.now → list_any (bytes_eq w.now) names ≡ false → options_of line ≡ Ok (Given o)
+    → read_of (record { ref_ptr = p; now = w ∷ line }) ≡ Err (Unfit Command w)
+unfolding read_of request_of
+named p w line o h u g =
+    let words : Bor (List Word) = record { ref_ptr = p; now = w ∷ line } in
+    ap (as_said words) (cons_past none_given w line (not_option w.now h) ∙ g)
+    ∙ ap (λ ops. of_word words o (slice_get ops 0)) (met w line (not_option w.now h))
+    ∙ ap (of_command words o w) (no_command w.now u)
+
 pub commands_meant : CommandsMeant
 unfolding read_of request_of suited without_more run_of asked_of of_a_word bind_of compare_of find_of other_file sheet_of import_of export_of captures_of against_captures make_of room_of length_of options_from taken long short marked with_flag flag_of operands_of unsuited unsuited_to_room command_of task_of
-commands_meant = record { operands = refl; options = refl }
+commands_meant = record { operands = refl; options = refl; unknown = named }
+
+pub requests_meant : RequestsMeant
+unfolding read_of request_of suited without_more run_of asked_of of_a_word bind_of compare_of find_of other_file sheet_of import_of export_of captures_of against_captures make_of room_of length_of options_from taken long short marked with_flag flag_of operands_of unsuited unsuited_to_room command_of task_of
+requests_meant = record {
+  find = refl;
+  attribute = refl;
+  show = refl;
+  why = refl;
+  list = refl;
+  in_json = refl;
+  branch = refl;
+  types = refl;
+  one_type = refl;
+  check = refl;
+  plain = refl;
+  compare = refl;
+  salvage = refl;
+  bind = refl;
+  split = refl;
+  each = refl;
+  join = refl;
+  sheet = refl;
+  upload = refl;
+  room = refl;
+  longest = refl;
+  options = refl;
+  help = refl;
+  version = refl;
+  dashes = refl;
+  no_command = refl;
+  lacks = refl;
+  extra = refl;
+  not_for = refl;
+  once = refl;
+  bound_once = refl;
+  signed = refl;
+  longer = refl;
+}

@@ -3,3 +3,4 @@ pub mod Options
 pub mod Command
 pub mod Request
 pub mod Meant
+pub mod Examples

@@ -126,7 +126,14 @@ counts r = list_all (λ n. agree (asks (with_operands r n)) (nat_le r.wants n &&
 abbrev pub suits : Row → Bool
 suits r = list_all (λ flag. agree (asks (lying flag ∷ with_operands r r.wants)) (list_any (bytes_eq flag) r.accepts)) flags
 
--- each command has its operands and its options, and no other
+abbrev pub names : List (List ℕ)
+names =
+    codes "find" ∷ codes "show" ∷ codes "why" ∷ codes "list" ∷ codes "branch" ∷ codes "type" ∷ codes "check" ∷ codes "plain" ∷ codes "compare"
+    ∷ codes "salvage" ∷ codes "bind" ∷ codes "captures" ∷ codes "sheet" ∷ codes "room" ∷ []
+
+-- each command has its operands and its options, and no other; a word that is none of them is told
 pub record CommandsMeant : Type 0 where
   pub operands : list_all counts commands ≡ true
   pub options : list_all suits commands ≡ true
+  pub unknown : (p : ℕ × ℕ) (w : Word) (line : List Word) (o : Options) → IsOperand w.now → list_any (bytes_eq w.now) names ≡ false → options_of line ≡ Ok (Given o)
+      → read_of (record { ref_ptr = p; now = w ∷ line }) ≡ Err (Unfit Command w)

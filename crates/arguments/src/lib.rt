@@ -1,6 +1,7 @@
 //! What the words of the command line ask for (docs/FORMAT.md, "The command's text").
 #![tactic(auto)]
 
+ghost use Rattle.arguments.specs.Examples.{RequestsMeant};
 ghost use Rattle.arguments.specs.Meant.{WordsSorted, OptionsMeant, CommandsMeant};
 
 mod command;
@@ -26,7 +27,12 @@ pub fn options_meant()
     ensures { OptionsMeant }
 {}
 
-/// Each command has the operands and the options that the help text tells of it, and no other.
+/// Each command has the operands and the options that the help text tells of it, and no other; a word that is none of them is told.
 pub fn commands_meant()
     ensures { CommandsMeant }
+{}
+
+/// What each command asks for, with every operand another text.
+pub fn requests_meant()
+    ensures { RequestsMeant }
 {}

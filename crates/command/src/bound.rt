@@ -55,27 +55,47 @@ impl<'a> Paths<'a> {
         }
     }
 
-    // A line a path; whether none was refused.
-    fn write<W: Write>(&self, as_json: bool, out: &mut W) -> Result<bool, Failure> {
+    // The headings of a table, whose columns are as wide as all lines need.
+    fn write_headings<W: Write>(&self, out: &mut W) -> Result<Columns, Failure> {
         let mut columns = Columns::new();
-        if !as_json {
-            for path in self.paths {
-                columns.fit(&self.bound(path.as_slice()));
-            }
-            columns.write_headings(out)?;
+        for path in self.paths {
+            columns.fit(&self.bound(path.as_slice()));
         }
+        columns.write_headings(out)?;
+        Ok(columns)
+    }
+
+    // A line a path; whether none was refused.
+    fn write_table<W: Write>(&self, out: &mut W) -> Result<bool, Failure> {
+        let columns = self.write_headings(out)?;
         let mut all = true;
         for path in self.paths {
             let bound = self.bound(path.as_slice());
             all = all && bound.answer.is_ok();
-            if as_json {
-                json::write_line(&bound, out)?;
-            } else {
-                columns.write_line(&bound, out)?;
-            }
+            columns.write_line(&bound, out)?;
         }
         Ok(all)
     }
+
+    // The same in JSON.
+    fn write_json<W: Write>(&self, out: &mut W) -> Result<bool, Failure> {
+        let mut all = true;
+        for path in self.paths {
+            let bound = self.bound(path.as_slice());
+            all = all && bound.answer.is_ok();
+            json::write_line(&bound, out)?;
+        }
+        Ok(all)
+    }
+}
+
+fn all_in_windows_1252(alloc: Global, paths: &[&str]) -> Result<Vec<Vec<u8>>, Failure> {
+    let mut all: Vec<Vec<u8>> = Vec::new(alloc);
+    for path in paths {
+        let path = windows_1252(alloc, path)?;
+        all.push(path).map_err(AllocError::from)?;
+    }
+    Ok(all)
 }
 
 /// A table of the addresses of some paths, or a line of JSON for each, in the order of the paths; whether none was refused.
@@ -87,11 +107,7 @@ pub fn bind<W: Write>(
     as_json: bool,
     out: &mut W,
 ) -> Result<bool, Failure> {
-    let mut asked: Vec<Vec<u8>> = Vec::new(alloc);
-    for path in paths {
-        let path = windows_1252(alloc, path)?;
-        asked.push(path).map_err(AllocError::from)?;
-    }
+    let asked = all_in_windows_1252(alloc, paths)?;
     let symbol_slots = by_name::<AdsSymbolInfo>(alloc, symbols)?;
     let type_slots = by_name::<AdsDataTypeInfo>(alloc, types)?;
     let asked = Paths {
@@ -106,5 +122,9 @@ pub fn bind<W: Write>(
         mode: symbols.mode,
         paths: asked.as_slice(),
     };
-    asked.write(as_json, out)
+    if as_json {
+        asked.write_json(out)
+    } else {
+        asked.write_table(out)
+    }
 }

@@ -5,6 +5,8 @@ use crate::find::{refused, windows_1252};
 use branching::NoOrder;
 use report::{Tally, Upload};
 use std::alloc::Global;
+use std::fmt;
+use std::fmt::{Display, Formatter};
 use std::io::Write;
 use wording::InWords;
 use wording::strings::Shown;
@@ -44,6 +46,20 @@ pub fn branch<W: Write>(
     }
 }
 
+// That no name begins with a text.
+#[derive(Clone, Copy)]
+struct NoBranch<'a>(&'a [u8]);
+
+impl Display for NoBranch<'_> {
+    fn fmt<W: fmt::Write>(&self, f: &mut Formatter<W>) -> fmt::Result {
+        let asked = Shown(self.0);
+        write!(
+            f,
+            "refusal 13, name not found: no symbol's name begins with {asked}"
+        )
+    }
+}
+
 // Those whose names begin with what was asked, if there are any.
 fn write_some<W: Write>(
     alloc: Global,
@@ -54,10 +70,7 @@ fn write_some<W: Write>(
     out: &mut W,
 ) -> Result<(), Failure> {
     if starts.is_empty() {
-        let shown = Shown(asked);
-        return Err(Failure::Refused(format!(in alloc;
-            "{upload}: refusal 13, name not found: no symbol's name begins with {shown}"
-        )?));
+        return Err(refused(alloc, upload, &NoBranch(asked)));
     }
     write(upload, starts, as_json, out)?;
     Ok(())

@@ -5,7 +5,8 @@ use finding::Found;
 use refusal::{Mode, Refusal};
 use report::Upload;
 use std::alloc::Global;
-use std::fmt::Display;
+use std::fmt;
+use std::fmt::{Display, Formatter};
 use std::io::Write;
 use symbol::{AdsSymbolInfo, Symbols};
 use walk::Entry;
@@ -87,50 +88,140 @@ fn no_attribute(
     symbol: &AdsSymbolInfo<'_>,
     asked: &[u8],
 ) -> Result<(), Failure> {
-    let mut there = String::new(alloc);
+    let why = NoAttribute { symbol, asked };
+    Err(refused(alloc, upload, &why))
+}
+
+// That a symbol has no attribute of a name, and which it has.
+#[derive(Clone, Copy)]
+struct NoAttribute<'a> {
+    symbol: &'a AdsSymbolInfo<'a>,
+    asked: &'a [u8],
+}
+
+impl Display for NoAttribute<'_> {
+    fn fmt<W: fmt::Write>(&self, f: &mut Formatter<W>) -> fmt::Result {
+        let (name, asked) = (Shown(self.symbol.name), Shown(self.asked));
+        write!(
+            f,
+            "refusal 13, name not found: {name} has no attribute {asked}; it has "
+        )?;
+        write_names(self.symbol, f)
+    }
+}
+
+fn write_names<W: fmt::Write>(symbol: &AdsSymbolInfo<'_>, f: &mut Formatter<W>) -> fmt::Result {
     let mut is_first = true;
     for one in symbol.attributes {
-        let one = Shown(one.name);
-        if !is_first {
-            there.push_str(", ")?;
-        }
-        write!(there, "{one}")?;
+        write_name(is_first, one.name, f)?;
         is_first = false;
     }
     if is_first {
-        there.push_str("none")?;
+        f.write_str("none")
+    } else {
+        Ok(())
     }
-    let name = Shown(symbol.name);
-    let asked = Shown(asked);
-    Err(Failure::Refused(format!(in alloc;
-        "{upload}: refusal 13, name not found: {name} has no attribute {asked}; it has {there}"
-    )?))
 }
 
-// That no symbol has a name, and why: one that has it was refused in the checked mode, or one differs in the case of
-// accented letters, and whoever types a name in another case does not expect that these alone are told apart.
+fn write_name<W: fmt::Write>(is_first: bool, name: &[u8], f: &mut Formatter<W>) -> fmt::Result {
+    let name = Shown(name);
+    if is_first {
+        write!(f, "{name}")
+    } else {
+        write!(f, ", {name}")
+    }
+}
+
+/// Why nothing has a name that was asked for.
+#[derive(Clone, Copy)]
+pub enum NotFound<'a> {
+    /// What has it was refused.
+    Refused {
+        /// Where that starts.
+        at: usize,
+        /// Why.
+        why: Refusal,
+    },
+    /// One differs in the case of accented letters: whoever types a name in another case does not expect that these alone
+    /// are told apart.
+    Alike(&'a [u8]),
+    /// Nothing is like it.
+    Nothing,
+}
+
+/// That nothing of a kind has a name, and why.
+#[derive(Clone, Copy)]
+pub struct Unfound<'a> {
+    /// What it should have been.
+    pub kind: &'static str,
+    /// The name.
+    pub asked: &'a [u8],
+    /// Why.
+    pub why: NotFound<'a>,
+}
+
+impl Display for Unfound<'_> {
+    fn fmt<W: fmt::Write>(&self, f: &mut Formatter<W>) -> fmt::Result {
+        f.write_str("refusal 13, name not found: ")?;
+        match self.why {
+            NotFound::Refused { at, why } => write_refused(self.asked, at, why, f),
+            NotFound::Alike(name) => write_alike(self.kind, self.asked, name, f),
+            NotFound::Nothing => write_nothing(self.kind, self.asked, f),
+        }
+    }
+}
+
+fn write_refused<W: fmt::Write>(
+    asked: &[u8],
+    at: usize,
+    why: Refusal,
+    f: &mut Formatter<W>,
+) -> fmt::Result {
+    let (asked, why) = (Shown(asked), InWords(&why));
+    write!(f, "{asked} at {at} was refused, {why}")
+}
+
+fn write_alike<W: fmt::Write>(
+    kind: &str,
+    asked: &[u8],
+    name: &[u8],
+    f: &mut Formatter<W>,
+) -> fmt::Result {
+    write_nothing(kind, asked, f)?;
+    let name = Shown(name);
+    write!(f, ", but one is {name}")
+}
+
+fn write_nothing<W: fmt::Write>(kind: &str, asked: &[u8], f: &mut Formatter<W>) -> fmt::Result {
+    let asked = Shown(asked);
+    write!(f, "no {kind} is {asked}")
+}
+
 fn no_symbol<'a>(
     alloc: Global,
     upload: &Upload<'a>,
     asked: &[u8],
 ) -> Result<Found<AdsSymbolInfo<'a>>, Failure> {
-    let shown = Shown(asked);
+    let why = Unfound {
+        kind: "symbol",
+        asked,
+        why: not_found(alloc, upload, asked)?,
+    };
+    Err(refused(alloc, upload, &why))
+}
+
+// Why no symbol has a name: one that has it was refused in the checked mode, or one is alike.
+fn not_found<'a>(
+    alloc: Global,
+    upload: &Upload<'a>,
+    asked: &[u8],
+) -> Result<NotFound<'a>, Failure> {
     if let Some((at, why)) = refused_for_its_end(upload, asked) {
-        let why = InWords(&why);
-        return Err(Failure::Refused(format!(in alloc;
-            "{upload}: refusal 13, name not found: {shown} at {at} was refused, {why}"
-        )?));
+        return Ok(NotFound::Refused { at, why });
     }
     match alike(alloc, upload, asked)? {
-        Some(name) => {
-            let name = Shown(name);
-            Err(Failure::Refused(format!(in alloc;
-                "{upload}: refusal 13, name not found: no symbol is {shown}, but one is {name}"
-            )?))
-        }
-        None => Err(Failure::Refused(format!(in alloc;
-            "{upload}: refusal 13, name not found: no symbol is {shown}"
-        )?)),
+        Some(name) => Ok(NotFound::Alike(name)),
+        None => Ok(NotFound::Nothing),
     }
 }
 

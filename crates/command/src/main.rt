@@ -1,7 +1,6 @@
 //! `vindaskot`: any upload, in words.
 #![tactic(auto)]
 
-mod arguments;
 mod bound;
 mod branch;
 mod captured;
@@ -19,10 +18,10 @@ mod source;
 mod types;
 mod written;
 
-use arguments::{Asked, Request, Run};
+use arguments::{Asked, Operands, Request, Run};
 use failure::Failure;
 use report::{Tally, Upload};
-use std::alloc::Global;
+use std::alloc::{AllocError, Global};
 use std::env;
 use std::env::VarError;
 use std::io::{BufWriter, ErrorKind, IsTerminal, Write};
@@ -40,7 +39,8 @@ fn main(rt: HostRuntime) -> ExitCode {
 // Does what is asked; whether nothing was refused.
 fn run(rt: &HostRuntime) -> Result<bool, Failure> {
     let line = words(rt)?;
-    let request = arguments::read(rt.alloc(), line.as_slice())?;
+    let line = texts(rt.alloc(), line.as_slice())?;
+    let request = request_of(rt.alloc(), line.as_slice())?;
     let mut out = BufWriter::with_capacity(rt.alloc(), 65536, rt.stdout())?;
     let end = answer(rt, &request, &mut out);
     let printed = out.flush();
@@ -57,6 +57,22 @@ fn words(rt: &HostRuntime) -> Result<Vec<String>, Failure> {
             "a word of the command line is not UTF-8; a file of such a name can be read from standard input",
         )?)),
         Err(_) => Err(Failure::Memory),
+    }
+}
+
+// Those behind the program's name.
+fn texts<'a>(alloc: Global, line: &'a [String]) -> Result<Vec<&'a str>, Failure> {
+    let mut texts = Vec::new(alloc);
+    for word in line.iter().skip(1) {
+        texts.push(word.as_str()).map_err(AllocError::from)?;
+    }
+    Ok(texts)
+}
+
+fn request_of<'a>(alloc: Global, line: &'a [&'a str]) -> Result<Request<'a>, Failure> {
+    match arguments::read(line) {
+        Ok(request) => Ok(request),
+        Err(why) => Err(Failure::Usage(format!(in alloc; "{why}")?)),
     }
 }
 
@@ -105,32 +121,80 @@ fn answer_of_an_upload<W: Write>(
 ) -> Result<bool, Failure> {
     let alloc = rt.alloc();
     match &run.asked {
-        Asked::Find { name, attribute } => find::find(alloc, upload, name, *attribute, out)?,
-        Asked::Show { name } => show::show(alloc, upload, name, is_coloured(rt), out)?,
-        Asked::Why { name } => explain::explain(alloc, upload, name, out)?,
-        Asked::Branch { text, json } => branch::branch(alloc, upload, text, *json, out)?,
-        Asked::List { sorted, json } => {
-            let tally = list(alloc, upload, *sorted, *json, out)?;
-            return unless_refused(rt, upload, tally);
-        }
-        Asked::Check => return Ok(report::check::check(upload, out)?.refused == 0),
-        Asked::Plain => return plain_form::plain(alloc, upload, out),
-        Asked::Compare { with, json } => {
-            let other = source::read(rt, with, run.form, run.mode)?;
-            return compare::compare(alloc, upload, &other.upload(), *json, out);
-        }
-        Asked::Bind { types, paths, json } => {
-            let types = source::read(rt, types, run.form, run.mode)?;
-            let types = types.upload();
-            return bound::bind(alloc, upload, &types, paths.as_slice(), *json, out);
-        }
-        Asked::Salvage { to } => salvaged::salvage(rt, upload, to, out)?,
-        Asked::Type { name, json } => types::print(alloc, upload, *name, *json, out)?,
+        Asked::Find { name, attribute } => done(find::find(alloc, upload, name, *attribute, out)),
+        Asked::Show { name } => done(show::show(alloc, upload, name, is_coloured(rt), out)),
+        Asked::Why { name } => done(explain::explain(alloc, upload, name, out)),
+        Asked::Branch { text, json } => done(branch::branch(alloc, upload, text, *json, out)),
+        Asked::List { sorted, json } => list(alloc, upload, *sorted, *json, out),
+        Asked::Check => check(upload, out),
+        Asked::Plain => plain_form::plain(alloc, upload, out),
+        Asked::Compare { with, json } => compare_with(rt, run, upload, with, *json, out),
+        Asked::Bind { types, paths, json } => bind_paths(
+            rt, run, upload, types, *paths, *json, out,
+        ),
+        Asked::Salvage { to } => done(salvaged::salvage(rt, upload, to, out)),
+        Asked::Types { name, json } => done(types::print(alloc, upload, *name, *json, out)),
     }
-    Ok(true)
 }
 
+// Of what ends only when all is done.
+fn done(end: Result<(), Failure>) -> Result<bool, Failure> {
+    match end {
+        Ok(()) => Ok(true),
+        Err(why) => Err(why),
+    }
+}
+
+fn check<W: Write>(upload: &Upload<'_>, out: &mut W) -> Result<bool, Failure> {
+    Ok(report::check::check(upload, out)?.refused == 0)
+}
+
+fn compare_with<W: Write>(
+    rt: &HostRuntime,
+    run: &Run<'_>,
+    upload: &Upload<'_>,
+    with: &str,
+    as_json: bool,
+    out: &mut W,
+) -> Result<bool, Failure> {
+    let other = source::read(rt, with, run.form, run.mode)?;
+    compare::compare(rt.alloc(), upload, &other.upload(), as_json, out)
+}
+
+fn bind_paths<W: Write>(
+    rt: &HostRuntime,
+    run: &Run<'_>,
+    upload: &Upload<'_>,
+    types: &str,
+    paths: Operands<'_>,
+    as_json: bool,
+    out: &mut W,
+) -> Result<bool, Failure> {
+    let types = source::read(rt, types, run.form, run.mode)?;
+    let paths = paths.to_vec(rt.alloc())?;
+    bound::bind(
+        rt.alloc(),
+        upload,
+        &types.upload(),
+        paths.as_slice(),
+        as_json,
+        out,
+    )
+}
+
+// A list, and how it ends: entries that were refused stand in it, and one of many is easily overlooked.
 fn list<W: Write>(
+    alloc: Global,
+    upload: &Upload<'_>,
+    sorted: bool,
+    as_json: bool,
+    out: &mut W,
+) -> Result<bool, Failure> {
+    let tally = write_list(alloc, upload, sorted, as_json, out)?;
+    unless_refused(alloc, upload, tally)
+}
+
+fn write_list<W: Write>(
     alloc: Global,
     upload: &Upload<'_>,
     sorted: bool,
@@ -146,13 +210,12 @@ fn list<W: Write>(
     Ok(report::table::list(upload, out)?)
 }
 
-// How a list ends: entries that were refused stand in it, and one of many is easily overlooked.
-fn unless_refused(rt: &HostRuntime, upload: &Upload<'_>, tally: Tally) -> Result<bool, Failure> {
+fn unless_refused(alloc: Global, upload: &Upload<'_>, tally: Tally) -> Result<bool, Failure> {
     if tally.refused == 0 {
         return Ok(true);
     }
     let (refused, all) = (Grouped(tally.refused), Grouped(tally.all()));
-    Err(Failure::Refused(format!(in rt.alloc(); "{upload}: refused entries: {refused} of {all}")?))
+    Err(Failure::Refused(format!(in alloc; "{upload}: refused entries: {refused} of {all}")?))
 }
 
 // Colour is for a terminal that can show it, and for nobody who has said NO_COLOR (no-color.org), be it text or not.

@@ -1,7 +1,7 @@
 //! `type`: data types with their members.
 
 use crate::failure::Failure;
-use crate::find::{is_alike, refused, small, windows_1252};
+use crate::find::{NotFound, Unfound, is_alike, refused, small, windows_1252};
 use data_type::{AdsDataTypeInfo, DataTypes};
 use field::AdsFieldInfo;
 use refusal::{Mode, Refusal};
@@ -10,7 +10,6 @@ use std::alloc::Global;
 use std::io::Write;
 use type_report::node::Node;
 use type_report::{Counts, list, table};
-use wording::strings::Shown;
 use wording::{Grouped, InWords};
 
 /// All data types, or the first of a name.
@@ -57,26 +56,27 @@ fn named<'a>(alloc: Global, upload: &Upload<'a>, name: &str) -> Result<Node<'a>,
     }
 }
 
-// That no data type has a name, and why: one that has it was refused, for whatever of its members, or one differs in the
-// case of accented letters.
 fn no_type<'a>(alloc: Global, upload: &Upload<'a>, asked: &[u8]) -> Result<Node<'a>, Failure> {
-    let shown = Shown(asked);
+    let why = Unfound {
+        kind: "data type",
+        asked,
+        why: not_found(alloc, upload, asked)?,
+    };
+    Err(refused(alloc, upload, &why))
+}
+
+// Why no data type has a name: one that has it was refused, for whatever of its members, or one is alike.
+fn not_found<'a>(
+    alloc: Global,
+    upload: &Upload<'a>,
+    asked: &[u8],
+) -> Result<NotFound<'a>, Failure> {
     if let Some((at, why)) = refused_of_that_name(upload, asked) {
-        let why = InWords(&why);
-        return Err(Failure::Refused(format!(in alloc;
-            "{upload}: refusal 13, name not found: {shown} at {at} was refused, {why}"
-        )?));
+        return Ok(NotFound::Refused { at, why });
     }
     match alike(alloc, upload, asked)? {
-        Some(name) => {
-            let name = Shown(name);
-            Err(Failure::Refused(format!(in alloc;
-                "{upload}: refusal 13, name not found: no data type is {shown}, but one is {name}"
-            )?))
-        }
-        None => Err(Failure::Refused(format!(in alloc;
-            "{upload}: refusal 13, name not found: no data type is {shown}"
-        )?)),
+        Some(name) => Ok(NotFound::Alike(name)),
+        None => Ok(NotFound::Nothing),
     }
 }
 
