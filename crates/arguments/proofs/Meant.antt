@@ -1,5 +1,5 @@
 -- What the words of a line mean: proved.
-use Rattle.std.proofs.Common.{ℕ, suc, ◌+◌, ◌<◌, ◌≤◌, ◌≡◌, refl, sym, ap, subst, ◌∙◌, Bool, true, false, List, [], ◌∷◌, ◌++◌, length, arith, Ok, Err}
+use Rattle.std.proofs.Common.{ℕ, ◌≡◌, refl, sym, ap, subst, ◌∙◌, Bool, true, false, List, [], ◌∷◌, length, arith, Ok, Err}
 use Rattle.std.specs.Prelude.{◌≢◌, ◌||◌, slice_get, option_and_then, ◌==◌, ◌&&◌, nat_lt, codes, drop, Option, Some, None, Result}
 use Rattle.std.specs.List.{list_any}
 use Rattle.std.specs.Str.{bytes_eq}
@@ -25,7 +25,7 @@ use Rattle.arguments.specs.declared.misuse.Rule.TheVariants.{OneForm}
 use Rattle.refusal.specs.declared.Mode.TheVariants.{Checked}
 use Rattle.arguments.specs.Meant.{IsOperand, dash, empty, other, IsSorted, nothing, operand, option, ended, WordsSorted, IsFlag, binary, hex, checked, json, sorted, OptionsMeant, CommandsMeant, names}
 use Rattle.arguments.specs.Examples.{RequestsMeant}
-use Rattle.arguments.proofs.OperandLaws.{cons_met, cons_passed}
+use Rattle.arguments.proofs.OperandLaws.{cons_met}
 use Rattle.arguments.proofs.OptionLaws.{cons_past, cons_end, cons_taken}
 
 -- ---- a word by its bytes

@@ -1,5 +1,5 @@
 -- docs/FORMAT.md, "The command's text": what each command asks for, with every operand another text.
-use Rattle.std.specs.Prelude.{ℕ, ◌≡◌, true, false, List, [], ◌∷◌, Option, Some, None, Result, Ok, Err, codes, map}
+use Rattle.std.specs.Prelude.{ℕ, ◌≡◌, true, false, List, [], ◌∷◌, Some, None, Result, Ok, Err, codes, map}
 use Rattle.std.specs.Borrow.{Bor}
 use Rattle.upload.specs.declared.Form.TheVariants.{Binary, Hexadecimal}
 use Rattle.refusal.specs.declared.Mode.TheVariants.{Present, Checked}

@@ -1,8 +1,7 @@
 -- docs/FORMAT.md, "The command's text": what the words of a line mean, by their bytes.
 use Rattle.std.specs.Prelude.{ℕ, ◌≡◌, ◌≢◌, ◌+◌, ◌&&◌, nat_le, not, Bool, true, false, List, [], ◌∷◌, ◌++◌, Some, None, Ok, Err, is_ok, replicate, codes, map}
-use Rattle.std.specs.List.{All, list_all, list_any}
+use Rattle.std.specs.List.{list_all, list_any}
 use Rattle.std.specs.Str.{bytes_eq}
-use Rattle.std.specs.Borrow.{Bor}
 use Rattle.upload.specs.declared.Form.TheVariants.{Binary, Hexadecimal}
 use Rattle.refusal.specs.declared.Mode.TheVariants.{Present, Checked}
 use Rattle.arguments.specs.declared.options.Options.{Options}

@@ -1,10 +1,9 @@
 -- docs/FORMAT.md, "The command's text": what a line asks for.
-use Rattle.std.specs.Prelude.{ℕ, ◌+◌, ◌*◌, ◌-◌, ◌^◌, ◌==◌, ◌&&◌, ◌||◌, nat_le, nat_lt, not, Bool, true, false, List, [], ◌∷◌, Option, Some, None, Result, Ok, Err, length, slice_get, ok_or, is_some, codes, if◌then◌else◌}
+use Rattle.std.specs.Prelude.{ℕ, ◌==◌, ◌&&◌, ◌||◌, nat_le, nat_lt, not, Bool, true, false, List, Option, Some, None, Result, Ok, Err, length, slice_get, ok_or, is_some, codes, if◌then◌else◌}
 use Rattle.std.specs.List.{list_all}
 use Rattle.std.specs.Str.{bytes_eq}
 use Rattle.std.specs.Str.Parse.{digits_value}
 use Rattle.std.specs.Borrow.{Bor}
-use Rattle.upload.specs.declared.Form.{Form}
 use Rattle.refusal.specs.declared.Mode.{Mode}
 use Rattle.refusal.specs.declared.Mode.TheVariants.{Present, Checked}
 use Rattle.arguments.specs.declared.command.Command.{Command}
@@ -21,7 +20,6 @@ use Rattle.arguments.specs.declared.misuse.Rule.TheVariants.{HasCommand, Capture
 use Rattle.arguments.specs.declared.misuse.Need.{Need}
 use Rattle.arguments.specs.declared.misuse.Need.TheVariants as need
 use Rattle.arguments.specs.declared.misuse.Expected.TheVariants as expected
-use Rattle.arguments.specs.declared.operands.Operands.{Operands}
 use Rattle.arguments.specs.declared.request.Line.{Line}
 use Rattle.arguments.specs.declared.request.Captures.{Captures}
 use Rattle.arguments.specs.declared.request.Captures.TheVariants.{Split, Each, Join}

@@ -1,4 +1,4 @@
-use Rattle.std.proofs.Common.{◌≡◌, sym, ◌∙◌}
+use Rattle.std.proofs.Common.{sym, ◌∙◌}
 use Rattle.arguments.proofs.OptionLaws.{refused}
 use Rattle.arguments.proofs.options.read_options.Goals as goal
 

@@ -1,4 +1,4 @@
-use Rattle.std.proofs.Common.{◌≡◌, refl, sym, ◌∙◌}
+use Rattle.std.proofs.Common.{refl, sym, ◌∙◌}
 use Rattle.arguments.specs.Request.{length_of}
 use Rattle.arguments.proofs.LengthLaws.{too_long}
 use Rattle.arguments.proofs.request.length_of.Goals as goal
