@@ -64,6 +64,13 @@ static uint64_t mark_of(const struct spot *s)
     return (flags & 0x4) != 0 ? 0x4 : (flags & 0x40) != 0 ? 0x40 : flags & 0x20000;
 }
 
+/* What they say of why no data type takes its place: a pointer to an interface, or another one, or 0. */
+static uint64_t pointer_of(const struct spot *s)
+{
+    const uint64_t flags = s->of_type ? of(s, 28, 4) : 0;
+    return (flags & 0x400) != 0 ? 0x400 : flags & 0x800000;
+}
+
 /* Behind the three strings, where the array records stand, counted from the entry. */
 static size_t arrays_at(const struct spot *s)
 {
@@ -113,6 +120,8 @@ static bool settle(struct spot *s, size_t part_at)
         const struct run name = type_name_of(s);
         const struct bytes asked = part(s->of_type ? types.bytes : symbols.bytes, s->at + name.place, name.len);
         struct spot named = {true, 0, s->bits, 0, 0};
+        if (pointer_of(s) != 0)
+            return refuse(22, part_at, pointer_of(s));
         if (names == ALIASES_MOST)
             return refuse(24, part_at, ALIASES_MOST);
         if (!find(&types, 42, 32, asked, &named.at))
@@ -358,7 +367,7 @@ static void make_known(void)
 {
     static const struct shape of_st = {0, 40, {{0}}};
     made_symbols.len = made_types.len = 0;
-    size_t start = put_head(text("ST"), text(""), 0, 0, &of_st, 8);
+    size_t start = put_head(text("ST"), text(""), 0, 0, &of_st, 10);
     put_plain_entry("a", "INT", 4, 0, 2);
     put_plain_entry("b", "BIT", 13, 0x20, 3);
     close_entry(put_head(text("c"), text(ROWS), 8, 0, &rows, 0));
@@ -367,10 +376,13 @@ static void make_known(void)
     put_plain_entry("s", "INT", 0, 0x20000, 2);
     put_plain_entry("far", "INT", 0xFFFFFFFF, 0, 2);
     put_plain_entry("A", "REAL", 16, 0, 4);
+    put_plain_entry("to", "ST", 20, 0x00800000, 8);
+    put_plain_entry("face", "none", 28, 0x00800400, 8);
     close_entry(start);
     close_entry(put_head(text(ROWS), text("INT"), 0, 0, &rows, 0));
     put_plain_entry("LOOP", "loop", 0, 0, 4);
     put_plain_entry("REF", "ST", 0, 0x4, 8);
+    put_plain_entry("POINTER TO ST", "ST", 0, 0x00800001, 8);
     put_plain_entry("D", "C1", 0, 0, 40);
     for (int i = 1; i <= 15; i++) {
         char name[9], next[9];
@@ -385,6 +397,7 @@ static void make_known(void)
     put_variable("D", "D", 5000, 40, 0);
     put_variable("LOOP", "LOOP", 6000, 4, 0);
     put_variable("R", "REF", 7000, 8, 0);
+    put_variable("P", "POINTER TO ST", 7500, 8, 0);
     put_variable("Z", "none", 8000, 4, 0);
     put_variable("bit", "ST", 9000, 0, 0x2);
     put_variable("ref", "ST", 9500, 8, 0x4);
@@ -411,6 +424,8 @@ static const struct known {
     {"a[2][-1]", 0, 0, 0, 3006, 0, 2, 0},
     {"C.a", 0, 0, 0, 4004, 0, 2, 0},
     {"D", 0, 0, 0, 5000, 0, 40, 0},
+    {"P", 0, 0, 0, 7500, 0, 8, 0},
+    {"M.to", 0, 0, 0, 1020, 0, 8, 0},
     {"bit", 0, 0, 0, 9000, 0, 0, 0},
     {"D.a", 24, 2, 16, 0, 0, 0, 0},
     {"LOOP[1]", 24, 5, 16, 0, 0, 0, 0},
@@ -432,6 +447,7 @@ static const struct known {
     {"M.c[18446744073709551617,0]", 14, 2, 4, 0, 0, 0, 0},
     {"M.c[1,-4294967297]", 14, 3, 6, 0, 0, 0, 0},
     {"M..a", 20, 2, 0, 0, 0, 0, 0},
+    {"D..", 20, 2, 0, 0, 0, 0, 0},
     {"M.", 20, 2, 0, 0, 0, 0, 0},
     {"M.c[", 20, 4, 0, 0, 0, 0, 0},
     {"M.c[-]", 20, 5, 0, 0, 0, 0, 0},
@@ -448,6 +464,10 @@ static const struct known {
     {"M.p", 22, 2, 0x40, 0, 0, 0, 0},
     {"M.s", 22, 2, 0x20000, 0, 0, 0, 0},
     {"R.a", 22, 2, 0x4, 0, 0, 0, 0},
+    {"P.a", 22, 2, 0x800000, 0, 0, 0, 0},
+    {"P[0]", 22, 2, 0x800000, 0, 0, 0, 0},
+    {"M.to.a", 22, 5, 0x800000, 0, 0, 0, 0},
+    {"M.face.a", 22, 7, 0x400, 0, 0, 0, 0},
     {"bit.a", 22, 4, 0x2, 0, 0, 0, 0},
     {"ref..", 22, 4, 0x4, 0, 0, 0, 0},
     {"M.far", 23, 4294967295, 4294968295, 0, 0, 0, 0},
@@ -512,8 +532,8 @@ static struct bytes type_named(size_t number)
 
 static uint32_t some_flags(void)
 {
-    static const uint32_t marks[] = {0x4, 0x40, 0x20000, 0x20044};
-    return (one_in(5) ? 0x20 : 0) | (one_in(50) ? marks[below(4)] : 0) | (one_in(2) ? 1 : 0);
+    static const uint32_t marks[] = {0x4, 0x40, 0x20000, 0x20044, 0x400, 0x800000, 0x800400};
+    return (one_in(5) ? 0x20 : 0) | (one_in(30) ? marks[below(7)] : 0) | (one_in(2) ? 1 : 0);
 }
 
 static struct shape some_shape(bool array)

@@ -83,7 +83,8 @@
  *   21  subscripts of a path that are not as many as    their place in the path, how many dimensions there are
  *       there are dimensions
  *   22  a part of a path that has no offset             its place in the path; 0x2 it is below a symbol of a bit, 0x4 a
- *                                                       reference, 0x40 a property, 0x20000 a static member
+ *                                                       reference, 0x40 a property, 0x20000 a static member; below a
+ *                                                       pointer 0x400 to a TcCOM interface, 0x800000 of the PLC
  *   23  an index offset above 32 bits                   4294967295, the offset
  *   24  more than 16 data types, one behind another,    place in the path of the part below them, 16
  *       of which each only names the next
@@ -891,8 +892,9 @@ enum {
  * vindaskot_name_index_build_in and vindaskot_type_name_index_build_in make once for all paths; other starts are no
  * fault, but may hide a name. The mode is that of both uploads. SIZE is in bits where SIZE_IN_BITS is 1, and the value
  * begins at bit BIT, from 0 to 7, of the byte at OFFSET. Refusals: 5 for the symbols, the data types and the path; 13
- * (0, 0) where no symbol has a name that the path begins with; then, part by part, the first of 20, 24, 13, 22, 21, 14
- * and 23; of 14 the first figure counts the elements, and the second is the subscript's place in the path. */
+ * (0, 0) where no symbol has a name that the path begins with; 22 where it goes on behind a symbol of a bit, 0x2, or of
+ * a reference, 0x4; then, part by part, the first of 20, 22 below a pointer, 24, 13, 22, 21, 14 and 23; of 14 the first
+ * figure counts the elements, and the second is the subscript's place in the path. */
 uint32_t vindaskot_bind_in(const uint8_t *symbols, size_t symbols_length, bool checked, const uint32_t *symbol_starts,
                            size_t symbol_starts_length, const uint8_t *types, size_t types_length,
                            const uint32_t *type_starts, size_t type_starts_length, const uint8_t *path,

@@ -50,9 +50,11 @@ pub struct Address<'a> {
 ///
 /// [`TooLarge`](crate::RefusalKind::TooLarge) for the symbols, the data types and the path;
 /// [`NameNotFound`](crate::RefusalKind::NameNotFound), whose figures are 0 where no symbol has a name that the path
-/// begins with, and else the place in the path of the member, or of the part whose data type, is not there; then, part
-/// by part, [`BadPath`](crate::RefusalKind::BadPath), [`TooManyAliases`](crate::RefusalKind::TooManyAliases),
-/// [`NoOffset`](crate::RefusalKind::NoOffset), [`WrongDimensions`](crate::RefusalKind::WrongDimensions),
+/// begins with, and else the place in the path of the member, or of the part whose data type, is not there;
+/// [`NoOffset`](crate::RefusalKind::NoOffset) where the path goes on behind a symbol of a bit, 0x2, or of a reference,
+/// 0x4; then, part by part, [`BadPath`](crate::RefusalKind::BadPath), `NoOffset` below a pointer, 0x400 to a TcCOM
+/// interface and 0x800000 of the PLC, [`TooManyAliases`](crate::RefusalKind::TooManyAliases), `NoOffset` of a reference,
+/// 0x4, a property, 0x40, and a static member, 0x20000, [`WrongDimensions`](crate::RefusalKind::WrongDimensions),
 /// [`NoSuchNumber`](crate::RefusalKind::NoSuchNumber) for a subscript outside its bounds and
 /// [`OffsetTooLarge`](crate::RefusalKind::OffsetTooLarge).
 pub fn bind<'a>(

@@ -75,7 +75,8 @@ pub enum RefusalKind {
     /// there are.
     WrongDimensions = sys::REFUSED_WRONG_DIMENSIONS,
     /// A part of a path that has no offset: its place in the path; 0x2 it is below a symbol of a bit, 0x4 a reference,
-    /// 0x40 a property, 0x20000 a static member.
+    /// 0x40 a property, 0x20000 a static member; it is below a pointer, 0x400 to a TcCOM interface, 0x800000 of the
+    /// PLC.
     NoOffset = sys::REFUSED_NO_OFFSET,
     /// An index offset above 32 bits: 4,294,967,295, the offset.
     OffsetTooLarge = sys::REFUSED_OFFSET_TOO_LARGE,
@@ -243,6 +244,8 @@ fn mark(flag: usize) -> &'static str {
         0x4 => "a reference",
         0x40 => "a property",
         0x20000 => "a static member",
+        0x400 => "below an interface pointer",
+        0x800000 => "below a pointer",
         _ => "unknown",
     }
 }

@@ -116,3 +116,70 @@ fn through_slots_that_are_lent() {
     let none = NameIndex::over(symbols.data(), symbols.mode(), &[]);
     assert_eq!(bind(none, types, path), Err(refusal(13, 0, 0)));
 }
+
+/// A symbol, by the bytes of "Symbol entries".
+fn symbol(name: &[u8], type_name: &[u8], offset: u32, size: u32) -> Vec<u8> {
+    let len = (33 + name.len() + type_name.len()) as u32;
+    let numbers = [len, 0x4040, offset, size, 0, 0].map(u32::to_le_bytes);
+    let lens = [name.len() as u16, type_name.len() as u16, 0].map(u16::to_le_bytes);
+    [
+        &numbers.concat(),
+        &lens.concat(),
+        name,
+        &[0],
+        type_name,
+        &[0, 0],
+    ]
+    .concat()
+}
+
+/// A data type, or a member of one, by the bytes of "Field entries".
+fn entry(
+    name: &[u8],
+    type_name: &[u8],
+    [size, offset, flags]: [u32; 3],
+    members: &[Vec<u8>],
+) -> Vec<u8> {
+    let len = (45 + name.len() + type_name.len() + members.concat().len()) as u32;
+    let numbers = [len, 0, 0, 0, size, offset, 0, flags].map(u32::to_le_bytes);
+    let counts = [name.len(), type_name.len(), 0, 0, members.len()];
+    let counts = counts.map(|n| (n as u16).to_le_bytes());
+    let strings = [name, &[0], type_name, &[0, 0]].concat();
+    [numbers.concat(), counts.concat(), strings, members.concat()].concat()
+}
+
+#[test]
+fn a_pointer_has_an_address_and_nothing_below_it() {
+    let symbols = [
+        symbol(b"M.pLens", b"POINTER TO ST", 1000, 8),
+        symbol(b"M.stLens", b"ST", 2000, 40),
+    ];
+    let members = [
+        entry(b"fEnd", b"REAL", [4, 24, 0], &[]),
+        entry(b"pNext", b"ST", [8, 28, 0x0080_0000], &[]),
+        entry(b"iNext", b"none", [4, 36, 0x0080_0400], &[]),
+    ];
+    let types = [
+        entry(b"POINTER TO ST", b"ST", [8, 0, 0x0080_0001], &[]),
+        entry(b"ST", b"", [40, 0, 1], &members),
+    ];
+    let binder = Binder::new(symbols.concat(), types.concat()).unwrap();
+    for (path, offset, size) in [
+        ("M.pLens", 1000, 8),
+        ("M.stLens.fEnd", 2024, 4),
+        ("M.stLens.pNext", 2028, 8),
+        ("M.stLens.iNext", 2036, 4),
+    ] {
+        let address = binder.bind(path).unwrap();
+        assert_eq!((address.offset.0, address.size), (offset, size), "{path}");
+    }
+    for (path, expected) in [
+        ("M.pLens.fEnd", refusal(22, 8, 0x0080_0000)),
+        ("M.pLens[0]", refusal(22, 8, 0x0080_0000)),
+        ("M.stLens.pNext.fEnd", refusal(22, 15, 0x0080_0000)),
+        ("M.stLens.iNext.fEnd", refusal(22, 15, 0x400)),
+        ("M.pLens..", refusal(20, 8, 0)),
+    ] {
+        assert_eq!(binder.bind(path), Err(expected), "{path}");
+    }
+}

@@ -47,6 +47,8 @@ const TOLD: &str = "\
 22 6 4 no offset: a reference at byte 6
 22 7 64 no offset: a property at byte 7
 22 8 131072 no offset: a static member at byte 8
+22 9 1024 no offset: below an interface pointer at byte 9
+22 10 8388608 no offset: below a pointer at byte 10
 23 4294967295 4294967296 index offset too large: 4294967295 at most, 4294967296 here
 24 9 16 too many aliases: more than 16 in a row at byte 9
 25 1 2 expected 1, got 2

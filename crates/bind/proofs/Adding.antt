@@ -279,20 +279,23 @@ module _ (find : Finder) (types : Bor (List ℕ)) where
 
   settled_is : (most : ℕ) (here there : Here) (at : ℕ) → settled find types most here at ≡ Ok there → bits there ≡ bits here
   unfolding settled
-  settled_is zero here there at h = by (rests here) h
+  settled_is zero here there at h = by (rests here) (here.entry.pointer == 0) h
     where
-      by : (a : Bool) → (if a then Ok here else Err (TooManyAliases at)) ≡ Ok there → bits there ≡ bits here
-      by true k = same_here here there k
-      by false k = absurd (grind arith)
-  settled_is (suc most) here there at h = by (λ next. settled_is most next there at) (rests here) h
+      by : (a p : Bool) → (if a then Ok here else if p then Err (TooManyAliases at) else Err (NoOffset at here.entry.pointer)) ≡ Ok there → bits there ≡ bits here
+      by true p k = same_here here there k
+      by false true k = absurd (grind arith)
+      by false false k = absurd (grind arith)
+  settled_is (suc most) here there at h = by (λ next. settled_is most next there at) (rests here) (here.entry.pointer == 0) h
     where
       on : ((next : Here) → settled find types most next at ≡ Ok there → bits there ≡ bits next) → (r : Result Here Refusal) → to_type find types here at ≡ r → and_then r (λ next. settled find types most next at) ≡ Ok there → bits there ≡ bits here
       on more (Ok next) e k = more next k ∙ through here next at e
       on more (Err why) e k = absurd (grind arith)
 
-      by : ((next : Here) → settled find types most next at ≡ Ok there → bits there ≡ bits next) → (a : Bool) → (if a then Ok here else and_then (to_type find types here at) (λ next. settled find types most next at)) ≡ Ok there → bits there ≡ bits here
-      by more true k = same_here here there k
-      by more false k = on more (to_type find types here at) refl k
+      by : ((next : Here) → settled find types most next at ≡ Ok there → bits there ≡ bits next) → (a p : Bool)
+          → (if a then Ok here else if p then and_then (to_type find types here at) (λ next. settled find types most next at) else Err (NoOffset at here.entry.pointer)) ≡ Ok there → bits there ≡ bits here
+      by more true p k = same_here here there k
+      by more false true k = on more (to_type find types here at) refl k
+      by more false false k = absurd (grind arith)
 
 pub steps_add : StepsAdd
 steps_add = record { member = member_is; element = element_is; data_type = settled_is }

@@ -42,6 +42,7 @@ entry_of own at =
       size = le4 own.now 12;
       in_bits = false;
       mark = symbol_mark (le2 own.now 20);
+      pointer = 0;
       type_name = front (behind own (31 + le2 own.now 24)) (le2 own.now 26);
       arrays = front own 0;
       items = record { bytes = front own 0; count = 0 };

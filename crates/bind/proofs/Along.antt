@@ -1,33 +1,50 @@
 -- Along a path: data type by data type, part by part.
-use Rattle.std.proofs.Common.{ℕ, zero, suc, ◌+◌, ◌-◌, ◌<◌, ◌≤◌, ◌≡◌, ◌≢◌, refl, sym, ap, ◌∙◌, Bool, true, false, List, length, Bor, arith, if◌then◌else◌}
+use Rattle.std.proofs.Common.{ℕ, zero, suc, ◌+◌, ◌-◌, ◌<◌, ◌≤◌, ◌≡◌, ◌≢◌, refl, sym, ap, ◌∙◌, Bool, true, false, List, length, Bor, arith, if◌then◌else◌, eq-eqb}
 use Rattle.std.specs.Prelude.{Result, Ok, Err, ◌==◌}
 use borrow.Author.Tests.{ne_eqb}
 use Rattle.part.specs.Outcome.{outcome, and_then}
 use Rattle.refusal.specs.Refusal.{most_aliases}
 use Rattle.refusal.specs.declared.Refusal.{Refusal}
-use Rattle.refusal.specs.declared.Refusal.TheVariants.{BadPath, TooManyAliases}
+use Rattle.refusal.specs.declared.Refusal.TheVariants.{BadPath, NoOffset, TooManyAliases}
 use Rattle.path.specs.declared.Split.{Split}
 use Rattle.path.specs.Path.{first_part}
 use Rattle.path.proofs.Shorter.{shorter}
 use Rattle.bind.specs.declared.steps.Here.{Here}
-use Rattle.bind.specs.Binding.{Finder, rests, to_type, to_part, settled, along}
+use Rattle.bind.specs.Binding.{Finder, rests, rests_or, to_type, to_part, settled, along}
+
+-- behind an entry that is passed; and behind one that is no pointer
+abbrev goes : Here → ℕ → Result Here Refusal → Result Here Refusal
+goes here at next = if here.entry.pointer == 0 then next else Err (NoOffset at here.entry.pointer)
+
+passed : (here : Here) (at : ℕ) (next : Result Here Refusal) → rests here ≡ false → rests_or here at next ≡ goes here at next
+passed here at next h = ap (λ (t : Bool). if t then Ok here else goes here at next) h
+
+on : (here : Here) (at : ℕ) (next : Result Here Refusal) → rests here ≡ false → here.entry.pointer ≡ 0 → rests_or here at next ≡ next
+on here at next h p = passed here at next h ∙ ap (λ (t : Bool). if t then next else Err (NoOffset at here.entry.pointer)) (eq-eqb here.entry.pointer 0 p)
 
 module _ (find : Finder) (types : Bor (List ℕ)) where
   pub rests_here : (n : ℕ) (here : Here) (at : ℕ) → rests here ≡ true → settled find types n here at ≡ Ok here
   unfolding settled
-  rests_here zero here at h = ap (λ (t : Bool). if t then Ok here else Err (TooManyAliases at)) h
-  rests_here (suc n) here at h = ap (λ (t : Bool). if t then Ok here else and_then (to_type find types here at) (λ next. settled find types n next at)) h
+  rests_here zero here at h = ap (λ (t : Bool). if t then Ok here else goes here at (Err (TooManyAliases at))) h
+  rests_here (suc n) here at h = ap (λ (t : Bool). if t then Ok here else goes here at (and_then (to_type find types here at) (λ next. settled find types n next at))) h
 
-  pub no_more : (here : Here) (at : ℕ) → rests here ≡ false → settled find types 0 here at ≡ Err (TooManyAliases at)
+  pub below_pointer : (n : ℕ) (here : Here) (at : ℕ) → rests here ≡ false → here.entry.pointer ≢ 0 → settled find types n here at ≡ Err (NoOffset at here.entry.pointer)
   unfolding settled
-  no_more here at h = ap (λ (t : Bool). if t then Ok here else Err (TooManyAliases at)) h
+  below_pointer zero here at h p = passed here at (Err (TooManyAliases at)) h ∙ ap (λ (t : Bool). if t then Err (TooManyAliases at) else Err (NoOffset at here.entry.pointer)) (ne_eqb here.entry.pointer 0 p)
+  below_pointer (suc n) here at h p =
+      let next : Result Here Refusal = and_then (to_type find types here at) (λ next. settled find types n next at) in
+      passed here at next h ∙ ap (λ (t : Bool). if t then next else Err (NoOffset at here.entry.pointer)) (ne_eqb here.entry.pointer 0 p)
 
-  pub one_type : (n : ℕ) (here : Here) (at : ℕ) → rests here ≡ false → 0 < n → settled find types n here at ≡ and_then (to_type find types here at) (λ next. settled find types (n - 1) next at)
+  pub no_more : (here : Here) (at : ℕ) → rests here ≡ false → here.entry.pointer ≡ 0 → settled find types 0 here at ≡ Err (TooManyAliases at)
   unfolding settled
-  one_type zero here at h m = absurd (omega arith)
-  one_type (suc n) here at h m =
+  no_more here at h p = on here at (Err (TooManyAliases at)) h p
+
+  pub one_type : (n : ℕ) (here : Here) (at : ℕ) → rests here ≡ false → here.entry.pointer ≡ 0 → 0 < n → settled find types n here at ≡ and_then (to_type find types here at) (λ next. settled find types (n - 1) next at)
+  unfolding settled
+  one_type zero here at h p m = absurd (omega arith)
+  one_type (suc n) here at h p m =
       let e : n ≡ suc n - 1 = omega arith in
-      ap (λ (t : Bool). if t then Ok here else and_then (to_type find types here at) (λ next. settled find types n next at)) h
+      on here at (and_then (to_type find types here at) (λ next. settled find types n next at)) h p
       ∙ ap (λ (k : ℕ). and_then (to_type find types here at) (λ next. settled find types k next at)) e
 
   module _ (long : ℕ) where

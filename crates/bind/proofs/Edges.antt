@@ -29,4 +29,12 @@ edges_bound =
       reference_first = refl;
       property_before_static = refl;
       bit_before_reference = refl;
+      pointer_alone = refl;
+      below_pointer = refl;
+      number_of_pointer = refl;
+      pointer_member = refl;
+      below_pointer_member = refl;
+      below_interface = refl;
+      pointer_element = refl;
+      below_pointer_element = refl;
     }

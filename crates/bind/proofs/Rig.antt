@@ -52,4 +52,6 @@ rig_bound =
       reference_type = refl;
       too_large = refl;
       in_circles = refl;
+      no_part_first = refl;
+      reference_first = refl;
     }

@@ -107,10 +107,14 @@ to_type find types here at = outcome (find here.entry.type_name.now) (λ start. 
 abbrev pub rests : Here → Bool
 rests here = nat_lt 7 (length here.left.now) || nat_lt 0 here.entry.items.count
 
+-- such an entry; else what comes next, of which a pointer has nothing
+abbrev pub rests_or : Here → ℕ → Result Here Refusal → Result Here Refusal
+rests_or here at next = if rests here then Ok here else if here.entry.pointer == 0 then next else Err (NoOffset at here.entry.pointer)
+
 -- such an entry; else its data type, and so on, at most so many times
 unfoldable pub settled : Finder → Bor (List ℕ) → ℕ → Here → ℕ → Result Here Refusal
-settled find types zero here at = if rests here then Ok here else Err (TooManyAliases at)
-settled find types (suc more) here at = if rests here then Ok here else and_then (to_type find types here at) (λ next. settled find types more next at)
+settled find types zero here at = rests_or here at (Err (TooManyAliases at))
+settled find types (suc more) here at = rests_or here at (and_then (to_type find types here at) (λ next. settled find types more next at))
 
 -- along the parts of a text, at the end of a path of a length, in at most so many
 unfoldable pub along : Finder → Bor (List ℕ) → ℕ → ℕ → Here → Bor (List ℕ) → Result Here Refusal

@@ -3,7 +3,7 @@ use Rattle.std.specs.Prelude.{ℕ, ◌+◌, ◌≡◌, List, [], ◌∷◌, ◌+
 use Rattle.std.specs.List.{flat_map}
 use Rattle.refusal.specs.declared.Refusal.{Refusal}
 use Rattle.refusal.specs.declared.Refusal.TheVariants.{NoSuchNumber, BadPath, NoOffset, OffsetTooLarge, TooManyAliases}
-use Rattle.bind.specs.declared.reading.Place.TheVariants.{DataType}
+use Rattle.bind.specs.declared.reading.Place.TheVariants.{Symbol, DataType}
 use Rattle.bind.specs.Entries.{symbol, entry, Told, at, Controller, leads_in}
 
 abbrev symbols : List ℕ
@@ -19,13 +19,16 @@ symbols =
     ++ symbol (codes "w") (codes "S") [] 9 90 20 0
     ++ symbol (codes "f") (codes "FL") [] 10 100 8 0
     ++ symbol (codes "d") (codes "FL") [] 11 110 1 6
+    ++ symbol (codes "M.pLens") (codes "POINTER TO ST") [] 12 600 8 0
+    ++ symbol (codes "y") (codes "ST") [] 13 700 60 0
 
 -- A is B, and so on up to Q
 abbrev aliases : List ℕ
 aliases = flat_map (λ (letter : ℕ). entry (letter ∷ []) ((letter + 1) ∷ []) [] 7 0 0 [] []) (codes "ABCDEFGHIJKLMNOP")
 
 -- a type that has itself as a member, and an array of two of itself; the aliases; arrays over many numbers, over all of a DINT, over its end; an array of two arrays
--- of two, and of one array from 5 to 9; members with more than one flag
+-- of two, and of one array from 5 to 9; members with more than one flag; a pointer by the name of its type, and what it points to, with pointers by their own flags: one of
+-- the PLC, one to an interface that is not there, and an array of two
 abbrev types : List ℕ
 types =
     entry (codes "NODE") [] [] 160040 0 0 [] (entry (codes "next") (codes "NODE") [] 160040 3 0 [] [] ∷ entry (codes "list") (codes "NODE") [] 80 70000 0 ((0, 2) ∷ []) [] ∷ entry (codes "value") (codes "INT") [] 2 9 0 [] [] ∷ [])
@@ -39,16 +42,18 @@ types =
     ++ entry (codes "S") (codes "U") [] 20 0 0 ((0, 1) ∷ []) []
     ++ entry (codes "U") (codes "DINT") [] 20 0 0 ((5, 5) ∷ []) []
     ++ entry (codes "FL") [] [] 8 0 0 [] (entry (codes "a") (codes "INT") [] 2 0 0x20044 [] [] ∷ entry (codes "b") (codes "INT") [] 2 0 0x20040 [] [] ∷ [])
+    ++ entry (codes "POINTER TO ST") (codes "ST") [] 8 0 0x800001 [] []
+    ++ entry (codes "ST") [] [] 60 0 0 [] (entry (codes "fEnd") (codes "REAL") [] 4 24 0 [] [] ∷ entry (codes "p") (codes "ST") [] 8 28 0x800000 [] [] ∷ entry (codes "i") (codes "none") [] 8 36 0x800400 [] [] ∷ entry (codes "a") (codes "ST") [] 16 44 0x800000 ((0, 2) ∷ []) [] ∷ [])
 
 abbrev edges : Controller
 edges =
     record {
       symbols = symbols;
-      symbol_starts = (codes "MAIN.fbNext", 0) ∷ (codes "t", 48) ∷ (codes "u", 83) ∷ (codes "l", 118) ∷ (codes "x", 154) ∷ (codes "z", 190) ∷ (codes "o", 226) ∷ (codes "v", 262) ∷ (codes "w", 297) ∷ (codes "f", 332) ∷ (codes "d", 368) ∷ [];
+      symbol_starts = (codes "MAIN.fbNext", 0) ∷ (codes "t", 48) ∷ (codes "u", 83) ∷ (codes "l", 118) ∷ (codes "x", 154) ∷ (codes "z", 190) ∷ (codes "o", 226) ∷ (codes "v", 262) ∷ (codes "w", 297) ∷ (codes "f", 332) ∷ (codes "d", 368) ∷ (codes "M.pLens", 404) ∷ (codes "y", 457) ∷ [];
       types = types;
       type_starts = (codes "NODE", 0) ∷ (codes "A", 216) ∷ (codes "B", 263) ∷ (codes "C", 310) ∷ (codes "D", 357) ∷ (codes "E", 404) ∷ (codes "F", 451) ∷ (codes "G", 498)
           ∷ (codes "H", 545) ∷ (codes "I", 592) ∷ (codes "J", 639) ∷ (codes "K", 686) ∷ (codes "L", 733) ∷ (codes "M", 780) ∷ (codes "N", 827) ∷ (codes "O", 874) ∷ (codes "P", 921)
-          ∷ (codes "Q", 968) ∷ (codes "LA", 1063) ∷ (codes "XA", 1121) ∷ (codes "OA", 1180) ∷ (codes "V", 1238) ∷ (codes "W", 1293) ∷ (codes "S", 1351) ∷ (codes "U", 1406) ∷ (codes "FL", 1464) ∷ [];
+          ∷ (codes "Q", 968) ∷ (codes "LA", 1063) ∷ (codes "XA", 1121) ∷ (codes "OA", 1180) ∷ (codes "V", 1238) ∷ (codes "W", 1293) ∷ (codes "S", 1351) ∷ (codes "U", 1406) ∷ (codes "FL", 1464) ∷ (codes "POINTER TO ST", 1609) ∷ (codes "ST", 1669) ∷ [];
     }
 
 abbrev leads : List ℕ → Result Told Refusal
@@ -80,3 +85,12 @@ pub record EdgesBound : Type 0 where
   pub reference_first : leads (codes "f.a") ≡ Err (NoOffset 2 0x4)
   pub property_before_static : leads (codes "f.b") ≡ Err (NoOffset 2 0x40)
   pub bit_before_reference : leads (codes "d.a") ≡ Err (NoOffset 2 0x2)
+  -- a pointer has its address, and nothing below it; neither has a member that is one by its own flags, of which the lowest is told, before its type is looked for; nor an element
+  pub pointer_alone : leads (codes "M.pLens") ≡ at 12 600 0 8 (codes "POINTER TO ST") (Symbol 404)
+  pub below_pointer : leads (codes "M.pLens.fEnd") ≡ Err (NoOffset 8 0x800000)
+  pub number_of_pointer : leads (codes "M.pLens[0]") ≡ Err (NoOffset 8 0x800000)
+  pub pointer_member : leads (codes "y.p") ≡ at 13 728 0 8 (codes "ST") (DataType 1769)
+  pub below_pointer_member : leads (codes "y.p.fEnd") ≡ Err (NoOffset 4 0x800000)
+  pub below_interface : leads (codes "y.i.fEnd") ≡ Err (NoOffset 4 0x400)
+  pub pointer_element : leads (codes "y.a[1]") ≡ at 13 752 0 8 (codes "ST") (DataType 1867)
+  pub below_pointer_element : leads (codes "y.a[1].fEnd") ≡ Err (NoOffset 7 0x800000)

@@ -25,6 +25,10 @@ symbol_mark flags = if has flags 0x2 then 0x2 else if has flags 0x4 then 0x4 els
 abbrev pub type_mark : ℕ → ℕ
 type_mark flags = if has flags 0x4 then 0x4 else if has flags 0x40 then 0x40 else if has flags 0x20000 then 0x20000 else 0
 
+-- why no data type takes the place of a data type, or of a member: 0x400 a pointer to an interface, 0x800000 another pointer
+abbrev pub pointer_mark : ℕ → ℕ
+pointer_mark flags = if has flags 0x400 then 0x400 else if has flags 0x800000 then 0x800000 else 0
+
 -- a symbol at a place of its upload
 unfoldable pub symbol_entry : Bor (List ℕ) → ℕ → Entry
 symbol_entry s at =
@@ -35,6 +39,7 @@ symbol_entry s at =
       size = le4 own.now 12;
       in_bits = false;
       mark = symbol_mark (le2 own.now 20);
+      pointer = 0;
       type_name = front (behind own (31 + le2 own.now 24)) (le2 own.now 26);
       arrays = front own 0;
       items = record { bytes = front own 0; count = 0 };
@@ -59,6 +64,7 @@ type_entry s end =
       size = le4 own.now 16;
       in_bits = has (le4 own.now 28) 0x20;
       mark = type_mark (le4 own.now 28);
+      pointer = pointer_mark (le4 own.now 28);
       type_name = front (behind own (43 + le2 own.now 32)) (le2 own.now 34);
       arrays = front (behind own (strings_end own.now)) (8 * le2 own.now 38);
       items = record { bytes = behind own (strings_end own.now + 8 * le2 own.now 38); count = le2 own.now 40 };

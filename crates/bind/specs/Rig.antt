@@ -110,3 +110,6 @@ pub record RigBound : Type 0 where
   pub reference_type : leads (codes "t.y") ≡ Err (NoOffset 2 0x4)
   pub too_large : leads (codes "h.f") ≡ Err (OffsetTooLarge 4294967299)
   pub in_circles : leads (codes "c.f") ≡ Err (TooManyAliases 2)
+  -- of two faults the one that is met first: a text that is no part, before a type that is its own; a reference, before its offset above 32 bits
+  pub no_part_first : leads (codes "c..") ≡ Err (BadPath 2)
+  pub reference_first : leads (codes "h.q") ≡ Err (NoOffset 2 0x4)

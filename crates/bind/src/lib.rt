@@ -161,7 +161,7 @@ fn check_length(bytes: &[u8]) -> Result<(), Refusal>
 /// # Errors
 ///
 /// 5 for the symbols, the data types and the path above the limit; 13 where no symbol has a name with which the path begins; 22 where
-/// the path goes on below a symbol that is a bit or a reference; then what is met first along the path, part by part: 20, 24, 13, 22,
+/// the path goes on below a symbol that is a bit or a reference; then what is met first along the path, part by part: 20, 22, 24, 13, 22,
 /// 21, 14 and 23 (docs/FORMAT.md, "Binding").
 #[tactic(auto, unfolding(crate::specs::Binding::binding, crate::specs::Binding::from_symbol))]
 pub fn bind<'a>(

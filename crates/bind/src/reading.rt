@@ -3,7 +3,7 @@
 
 ghost use Rattle.std.specs.Prelude.{◌≡◌, ◌<◌, ◌^◌, slice_index};
 ghost use Rattle.le.specs.Le.{le2, le4};
-ghost use Rattle.bind.specs.Reading.{behind, front, own_of, name_of, symbol_mark, type_mark, symbol_entry, symbol_group, type_entry};
+ghost use Rattle.bind.specs.Reading.{behind, front, own_of, name_of, symbol_mark, type_mark, pointer_mark, symbol_entry, symbol_group, type_entry};
 
 use data_type::SubItems;
 
@@ -28,6 +28,8 @@ pub struct Entry<'a> {
     pub in_bits: bool,
     /// The flag because of which it has no offset, or lends none to what is below it; else 0.
     pub mark: u32,
+    /// The flag that says that it is a pointer, so that no data type takes its place; else 0.
+    pub pointer: u32,
     /// The name of its type.
     pub type_name: &'a [u8],
     /// Its array records, 8 bytes each.
@@ -119,6 +121,18 @@ fn type_mark(flags: u32) -> u32
     }
 }
 
+fn pointer_mark(flags: u32) -> u32
+    ensures { result ≡ pointer_mark flags }
+{
+    if le::has(flags, 0x400) {
+        0x400
+    } else if le::has(flags, 0x800000) {
+        0x800000
+    } else {
+        0
+    }
+}
+
 /// The symbol at a place of its upload.
 pub fn symbol_entry(bytes: &[u8], at: usize) -> Entry<'_>
     ensures { result ≡ symbol_entry bytes.entry at }
@@ -131,6 +145,7 @@ pub fn symbol_entry(bytes: &[u8], at: usize) -> Entry<'_>
         size: u32_at(own, 12),
         in_bits: false,
         mark: symbol_mark(u16_at(own, 20)),
+        pointer: 0,
         type_name: front(
             behind(own, 31 + u16_at(own, 24) as usize),
             u16_at(own, 26) as usize,
@@ -167,6 +182,7 @@ pub fn type_entry(s: &[u8], end: usize) -> Entry<'_>
         size: u32_at(own, 16),
         in_bits: le::has(flags, 0x20),
         mark: type_mark(flags),
+        pointer: pointer_mark(flags),
         type_name: front(behind(own, 43 + name), type_name),
         arrays: front(behind(own, strings_end), arrays),
         items: SubItems {

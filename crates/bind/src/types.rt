@@ -39,6 +39,13 @@ fn rests(here: &Here<'_>) -> bool
     here.left.len() > 7 || here.entry.items.count > 0
 }
 
+// The flag that says that an entry is a pointer, or 0.
+fn pointer_of(here: &Here<'_>) -> usize
+    ensures { result ≡ here.now.entry.pointer }
+{
+    here.entry.pointer as usize
+}
+
 impl<'a> NamedTypes<'a> {
     // Where the data type of a name starts.
     #[tactic(auto, unfolding(crate::specs::Found::type_found))]
@@ -86,14 +93,20 @@ impl<'a> NamedTypes<'a> {
         }
     }
 
-    // An entry that has dimensions left or sub-items; else its data type, and so on.
-    #[tactic(auto, using(crate::proofs::Along::rests_here, crate::proofs::Along::no_more, crate::proofs::Along::one_type))]
+    // An entry that has dimensions left or sub-items; else its data type, and so on. A pointer has none.
+    #[tactic(auto, using(crate::proofs::Along::rests_here, crate::proofs::Along::below_pointer, crate::proofs::Along::no_more, crate::proofs::Along::one_type))]
     fn settled(self, start: Here<'a>, at: usize) -> Result<Here<'a>, Refusal>
         ensures { result ≡ settled (type_found self.entry.mode self.entry.upload) self.entry.upload.bytes 16 start.entry at }
     {
         let mut here = start;
         let mut more = MOST_ALIASES;
         while !rests(&here) {
+            if pointer_of(&here) != 0 {
+                return Err(Refusal::NoOffset {
+                    place: at,
+                    flag: pointer_of(&here),
+                });
+            }
             if more == 0 {
                 return Err(Refusal::TooManyAliases { place: at });
             }

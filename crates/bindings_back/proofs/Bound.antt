@@ -50,14 +50,15 @@ letters : (a : List ℕ) → SameLetters a a
 letters [] = letters_of.SameLetters.end
 letters (x ∷ a) = letter itself (letters a)
 
--- a symbol's entry is no array, and has no member
+-- a symbol's entry is no array, is no pointer, and has no member
 record Bare (e : Entry) : Type 0 where
   no_array : length e.arrays.now ≡ 0
   no_member : e.items.count ≡ 0
+  no_pointer : e.pointer ≡ 0
 
 bare : (s : Bor (List ℕ)) (at : ℕ) → Bare (symbol_entry s at)
 unfolding symbol_entry
-bare s at = record { no_array = refl; no_member = refl }
+bare s at = record { no_array = refl; no_member = refl; no_pointer = refl }
 
 -- the symbol, as it is read
 record IsRead (mode : Mode) (s : Bor (List ℕ)) (at : ℕ) (g : FitSymbol) : Type 0 where
@@ -183,6 +184,7 @@ module _ (mode : Mode) (symbols types : Upload) (path : Bor (List ℕ)) (before 
       record {
         no_dimension = omega arith;
         no_member = clear.no_member;
+        no_pointer = clear.no_pointer;
         start = b.start;
         named = subst (λ (x : List ℕ). TypeNamed mode t x b.start) (sym type_name) b.named;
         has_offset = record { reference = flag 0x4 b.reference; property = flag 0x40 b.property; static_member = flag 0x20000 b.static_member };

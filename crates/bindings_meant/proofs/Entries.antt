@@ -1,5 +1,5 @@
 -- What an entry tells is what its reader tells: proved.
-use Rattle.std.proofs.Common.{ℕ, zero, suc, ◌+◌, ◌-◌, ◌*◌, min, ◌<◌, ◌≤◌, ◌≡◌, refl, sym, ap, ap₂, subst, ◌∙◌, List, [], ◌∷◌, ◌++◌, length, length-drop, arith, Bor}
+use Rattle.std.proofs.Common.{ℕ, zero, suc, ◌+◌, ◌-◌, ◌*◌, min, ◌<◌, ◌≤◌, ◌≡◌, refl, sym, ap, ap₂, subst, ◌∙◌, Bool, true, false, List, [], ◌∷◌, ◌++◌, length, length-drop, arith, Bor, if◌then◌else◌}
 use Rattle.std.specs.Prelude.{Option, Some, None, Result, Ok, Err}
 use Rattle.std.specs.Option.{option_map}
 use Rattle.std.proofs.lemmas.List.{length-append, length-take}
@@ -30,10 +30,11 @@ use Rattle.data_type.specs.Kind as type_kind
 use Rattle.data_type.proofs.Inside.{turn, accepted_at, holds}
 use Rattle.data_type.proofs.Numbers.{heads, fills, le2_part}
 use Rattle.data_type.proofs.Parts.{part_in}
-use Rattle.bind.specs.Reading.{behind, front, own_of, name_of, symbol_entry, type_entry}
+use Rattle.bind.specs.Reading.{behind, front, own_of, name_of, pointer_mark, symbol_entry, type_entry}
 use Rattle.bind.specs.Adding.{items_of}
 use Rattle.bind.proofs.Alone.{behind_is, own_is, front_is}
-use Rattle.bindings_meant.specs.Entries.{IsSymbol, IsType, EntriesMeant}
+use Rattle.bindings_meant.specs.Entries.{Pointer, IsSymbol, IsType, EntriesMeant}
+use Rattle.bindings_meant.specs.Entries as entries
 
 -- a symbol
 record Read (e : Bor (List ℕ)) (r : AdsSymbolInfo) : Type 0 where
@@ -60,6 +61,7 @@ symbol_is mode symbols at r h =
       flags = x.flags;
       offset = ap (λ o. o.0) (sym x.offset);
       size = sym x.size;
+      no_pointer = refl;
       type_name = front_is own (31 + le2 own.now 24) (le2 own.now 26) (omega (arith, x.room)) ∙ x.type_name;
     }
 
@@ -90,6 +92,14 @@ name_length s h =
     let short : length (own_of s).now ≡ min claim (length s.now) = length-take claim s.now in
     le2_part s.now 0 claim 32 (omega (arith, h, short))
 
+pointer_is : (flags : ℕ) → Pointer flags (pointer_mark flags)
+pointer_is flags = by (has flags 0x400) (has flags 0x800000) refl refl
+  where
+    by : (a b : Bool) → has flags 0x400 ≡ a → has flags 0x800000 ≡ b → Pointer flags (if a then 0x400 else if b then 0x800000 else 0)
+    by true b p q = entries.Pointer.interface p
+    by false true p q = entries.Pointer.plc p q
+    by false false p q = entries.Pointer.neither p q
+
 type_is : (mode : Mode) (levels : ℕ) (s : Bor (List ℕ)) (end : ℕ) (r : AdsDataTypeInfo) → type_at mode levels (own_of s) ≡ Ok r → IsType r (own_of s).now (name_of s).now (type_entry s end)
 unfolding type_entry
 type_is mode levels s end r h =
@@ -119,6 +129,7 @@ type_is mode levels s end r h =
       offset = sym t.offset;
       size = sym t.size;
       in_bits = ap (λ f. has f.0 0x20) (sym t.flags);
+      pointer = subst (λ f. Pointer f.0 (pointer_mark (le4 own.now 28))) (sym t.flags) (pointer_is (le4 own.now 28));
       type_name = front_is own (43 + n) (le2 own.now 34) (omega (arith, wide)) ∙ sym t.type_name;
       arrays = arrays;
       items = ap₂ (λ (x : Bor (List ℕ)) (k : ℕ). record { bytes = x; count = k }) bytes (sym d.items);

@@ -405,9 +405,9 @@ module _ (find : Finder) (types : Bor (List ℕ)) where
   Named = Answers find
 
   -- a data type in an entry's place
-  at_data_type : (here next : Here) (start at : ℕ) → Passes here → find here.entry.type_name.now ≡ Ok start → at_type here types start at ≡ Ok next → ToType Named types (spot_of here) (spot_of next) × (next.bit ≡ here.bit)
+  at_data_type : (here next : Here) (start at : ℕ) → Passes here → here.entry.pointer ≡ 0 → find here.entry.type_name.now ≡ Ok start → at_type here types start at ≡ Ok next → ToType Named types (spot_of here) (spot_of next) × (next.bit ≡ here.bit)
   unfolding at_type type_entry left_of
-  at_data_type here next start at p f h = by (e.mark == 0) refl h
+  at_data_type here next start at p z f h = by (e.mark == 0) refl h
     where
       e : Entry
       e = type_entry (behind types start) (length types.now)
@@ -422,6 +422,7 @@ module _ (find : Finder) (types : Bor (List ℕ)) where
             record {
               no_dimension = p.no_dimension;
               no_member = p.no_member;
+              no_pointer = z;
               start = start;
               named = f;
               has_offset = offset_is (own_of (behind types start)).now (eqb-true e.mark 0 q);
@@ -434,12 +435,12 @@ module _ (find : Finder) (types : Bor (List ℕ)) where
           )
       by false q k = absurd (grind arith)
 
-  type_leads : (here next : Here) (at : ℕ) → Passes here → to_type find types here at ≡ Ok next → ToType Named types (spot_of here) (spot_of next) × (next.bit ≡ here.bit)
+  type_leads : (here next : Here) (at : ℕ) → Passes here → here.entry.pointer ≡ 0 → to_type find types here at ≡ Ok next → ToType Named types (spot_of here) (spot_of next) × (next.bit ≡ here.bit)
   unfolding to_type
-  type_leads here next at p h = by (find here.entry.type_name.now) refl h
+  type_leads here next at p z h = by (find here.entry.type_name.now) refl h
     where
       by : (f : Result ℕ Refusal) → find here.entry.type_name.now ≡ f → outcome f (λ start. at_type here types start at) (λ why. Err (NoSuchType at)) ≡ Ok next → ToType Named types (spot_of here) (spot_of next) × (next.bit ≡ here.bit)
-      by (Ok start) f k = at_data_type here next start at p f k
+      by (Ok start) f k = at_data_type here next start at p z f k
       by (Err why) f k = absurd (grind arith)
 
   type_back : (here : Here) (t : Spot) (at : ℕ) → here.bit < 8 → ToType Named types (spot_of here) t → Arrives (to_type find types here at) t
@@ -457,27 +458,31 @@ module _ (find : Finder) (types : Bor (List ℕ)) where
         bit = b;
       }
 
-  same_here : (here there : Here) (t : Bool) (why : Refusal) → (if t then Ok here else Err why) ≡ Ok there → (t ≡ true) × (here ≡ there)
-  same_here here there true why h = (refl, cc)
-  same_here here there false why h = absurd (grind arith)
-
   settles_is : (most : ℕ) (here there : Here) (at : ℕ) → settled find types most here at ≡ Ok there → Settles Named types most (spot_of here) (spot_of there) × (there.bit ≡ here.bit)
   unfolding settled
-  settles_is zero here there at h =
-      let s = same_here here there (rests here) (TooManyAliases at) h in
-      subst (λ (x : Here). Settles Named types 0 (spot_of here) (spot_of x) × (x.bit ≡ here.bit)) s.1 (leads.Settles.rests (rests_is here s.0), refl)
-  settles_is (suc most) here there at h = by (λ next. settles_is most next there at) (rests here) refl h
+  settles_is zero here there at h = by (rests here) (here.entry.pointer == 0) refl h
     where
-      by : ((next : Here) → settled find types most next at ≡ Ok there → Settles Named types most (spot_of next) (spot_of there) × (there.bit ≡ next.bit)) → (a : Bool) → rests here ≡ a
-          → (if a then Ok here else and_then (to_type find types here at) (λ next. settled find types most next at)) ≡ Ok there → Settles Named types (suc most) (spot_of here) (spot_of there) × (there.bit ≡ here.bit)
-      by more true q k =
+      by : (a p : Bool) → rests here ≡ a → (if a then Ok here else if p then Err (TooManyAliases at) else Err (NoOffset at here.entry.pointer)) ≡ Ok there
+          → Settles Named types 0 (spot_of here) (spot_of there) × (there.bit ≡ here.bit)
+      by true p q k =
+          let is : here ≡ there = cc in
+          subst (λ (x : Here). Settles Named types 0 (spot_of here) (spot_of x) × (x.bit ≡ here.bit)) is (leads.Settles.rests (rests_is here q), refl)
+      by false true q k = absurd (grind arith)
+      by false false q k = absurd (grind arith)
+  settles_is (suc most) here there at h = by (λ next. settles_is most next there at) (rests here) (here.entry.pointer == 0) refl refl h
+    where
+      by : ((next : Here) → settled find types most next at ≡ Ok there → Settles Named types most (spot_of next) (spot_of there) × (there.bit ≡ next.bit)) → (a p : Bool) → rests here ≡ a → (here.entry.pointer == 0) ≡ p
+          → (if a then Ok here else if p then and_then (to_type find types here at) (λ next. settled find types most next at) else Err (NoOffset at here.entry.pointer)) ≡ Ok there
+          → Settles Named types (suc most) (spot_of here) (spot_of there) × (there.bit ≡ here.bit)
+      by more true p q z k =
           let is : here ≡ there = cc in
           subst (λ (x : Here). Settles Named types (suc most) (spot_of here) (spot_of x) × (x.bit ≡ here.bit)) is (leads.Settles.rests (rests_is here q), refl)
-      by more false q k =
+      by more false true q z k =
           let b = both_passed (to_type find types here at) k in
-          let m = type_leads here b.0 at (passes_is here q) b.1.0 in
+          let m = type_leads here b.0 at (passes_is here q) (eqb-true here.entry.pointer 0 z) b.1.0 in
           let s = more b.0 b.1.1 in
           (leads.Settles.through m.0 s.0, s.1 ∙ m.1)
+      by more false false q z k = absurd (grind arith)
 
   settles_back : (most : ℕ) (here : Here) (s t : Spot) (at : ℕ) → here.bit < 8 → spot_of here ≡ s → Settles Named types most s t → Arrives (settled find types most here at) t
   settles_back most here s t at b e (leads.Settles.rests r) =
@@ -487,13 +492,13 @@ module _ (find : Finder) (types : Bor (List ℕ)) where
       let a = type_back here next at b own in
       let z = settles_back fewer a.there next t at a.bit a.spot more in
       let one : settled find types (suc fewer) here at ≡ and_then (to_type find types here at) (λ next. settled find types fewer next at) =
-      settled_step fewer here at (passed here own.no_dimension own.no_member) in
+      settled_step fewer here at (passed here own.no_dimension own.no_member) own.no_pointer in
       arrives (settled find types (suc fewer) here at) (settled find types fewer a.there at) t (one ∙ ap (λ (r : Result Here Refusal). and_then r (λ next. settled find types fewer next at)) a.is) z
     where
-      settled_step : (n : ℕ) (here : Here) (at : ℕ) → rests here ≡ false → settled find types (suc n) here at ≡ and_then (to_type find types here at) (λ next. settled find types n next at)
-      settled_step n here at h =
+      settled_step : (n : ℕ) (here : Here) (at : ℕ) → rests here ≡ false → here.entry.pointer ≡ 0 → settled find types (suc n) here at ≡ and_then (to_type find types here at) (λ next. settled find types n next at)
+      settled_step n here at h z =
           let e : suc n - 1 ≡ n = omega arith in
-          one_type find types (suc n) here at h (omega arith) ∙ ap (λ (k : ℕ). and_then (to_type find types here at) (λ next. settled find types k next at)) e
+          one_type find types (suc n) here at h z (omega arith) ∙ ap (λ (k : ℕ). and_then (to_type find types here at) (λ next. settled find types k next at)) e
 
   module _ (long : ℕ) where
     leads_is : (n : ℕ) (here there : Here) (text : Bor (List ℕ)) → here.bit < 8 → length text.now ≤ n → along find types long n here text ≡ Ok there → Leads Named types (spot_of here) text (spot_of there) × (there.bit < 8)

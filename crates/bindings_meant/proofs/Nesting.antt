@@ -258,19 +258,21 @@ module _ (find : Finder) (types : Bor (List ℕ)) (known : Entry → Bool) (each
 
   settled_is : (most : ℕ) (here there : Here) (at : ℕ) → Rested here → settled find types most here at ≡ Ok there → Rested there
   unfolding settled
-  settled_is zero here there at r h = by (rests here) h
+  settled_is zero here there at r h = by (rests here) (here.entry.pointer == 0) h
     where
-      by : (a : Bool) → (if a then Ok here else Err (TooManyAliases at)) ≡ Ok there → Rested there
-      by true k = same_rested here there r k
-      by false k = absurd (grind arith)
-  settled_is (suc most) here there at r h = by (λ next. settled_is most next there at) (rests here) refl h
+      by : (a p : Bool) → (if a then Ok here else if p then Err (TooManyAliases at) else Err (NoOffset at here.entry.pointer)) ≡ Ok there → Rested there
+      by true p k = same_rested here there r k
+      by false true k = absurd (grind arith)
+      by false false k = absurd (grind arith)
+  settled_is (suc most) here there at r h = by (λ next. settled_is most next there at) (rests here) (here.entry.pointer == 0) refl h
     where
-      by : ((next : Here) → Rested next → settled find types most next at ≡ Ok there → Rested there) → (a : Bool) → rests here ≡ a
-          → (if a then Ok here else and_then (to_type find types here at) (λ next. settled find types most next at)) ≡ Ok there → Rested there
-      by more true q k = same_rested here there r k
-      by more false q k =
+      by : ((next : Here) → Rested next → settled find types most next at ≡ Ok there → Rested there) → (a p : Bool) → rests here ≡ a
+          → (if a then Ok here else if p then and_then (to_type find types here at) (λ next. settled find types most next at) else Err (NoOffset at here.entry.pointer)) ≡ Ok there → Rested there
+      by more true p q k = same_rested here there r k
+      by more false true q k =
           let b = both_passed (to_type find types here at) k in
           more b.0 (through here b.0 at r (no_items here q) b.1.0) b.1.1
+      by more false false q k = absurd (grind arith)
 
   -- a member
   member_inside : (here there : Here) (name : List ℕ) (at : ℕ) → Rested here → to_member here name at ≡ Ok there → Inside there

@@ -249,6 +249,7 @@ module _ {T U : List ℕ → ℕ → Type 0} (types : Bor (List ℕ)) (on : (nam
       record {
         no_dimension = t.no_dimension;
         no_member = t.no_member;
+        no_pointer = t.no_pointer;
         start = t.start;
         named = on here.entry.type_name.now t.start t.named;
         has_offset = t.has_offset;

@@ -1,5 +1,5 @@
 -- docs/FORMAT.md, "Binding", "Symbol entries" and "Data type entries": what an entry tells on the way along a path is what its reader tells.
-use Rattle.std.specs.Prelude.{ℕ, suc, ◌≤◌, ◌≡◌, List, ◌∷◌, ◌++◌, Ok, length}
+use Rattle.std.specs.Prelude.{ℕ, suc, ◌≤◌, ◌≡◌, true, false, List, ◌∷◌, ◌++◌, Ok, length}
 use Rattle.std.specs.Borrow.{Bor}
 use Rattle.le.specs.Le.{le2, le4, has}
 use Rattle.refusal.specs.Refusal.{limit}
@@ -14,7 +14,13 @@ use Rattle.bind.specs.Reading.{behind, own_of, name_of, symbol_entry, type_entry
 use Rattle.bind.specs.Adding.{items_of}
 use Rattle.bindings_meant.specs.Reaches.{SymbolNamed, TypeNamed}
 
--- by an entry's own bytes, and what is told of it
+-- which flag says that a data type, or a member, is a pointer: 0x400 to an interface, else 0x800000, else none
+pub data Pointer (flags : ℕ) : ℕ → Type 0 where
+  interface : has flags 0x400 ≡ true → Pointer flags 0x400
+  plc : has flags 0x400 ≡ false → has flags 0x800000 ≡ true → Pointer flags 0x800000
+  neither : has flags 0x400 ≡ false → has flags 0x800000 ≡ false → Pointer flags 0
+
+-- by an entry's own bytes, and what is told of it. A symbol is no pointer by its own flags
 pub record IsSymbol (r : AdsSymbolInfo) (own : List ℕ) (e : Entry) : Type 0 where
   pub group : r.index_group ≡ record { 0 = le4 own 4 }
   pub start : r.index_offset ≡ record { 0 = le4 own 8 }
@@ -22,6 +28,7 @@ pub record IsSymbol (r : AdsSymbolInfo) (own : List ℕ) (e : Entry) : Type 0 wh
   pub flags : r.flags ≡ record { 0 = le2 own 20 }
   pub offset : e.offset ≡ r.index_offset.0
   pub size : e.size ≡ r.size
+  pub no_pointer : e.pointer ≡ 0
   pub type_name : e.type_name ≡ r.type_name
 
 pub record IsType (r : AdsDataTypeInfo) (own name : List ℕ) (e : Entry) : Type 0 where
@@ -31,6 +38,7 @@ pub record IsType (r : AdsDataTypeInfo) (own name : List ℕ) (e : Entry) : Type
   pub offset : e.offset ≡ r.field.offset
   pub size : e.size ≡ r.field.size
   pub in_bits : e.in_bits ≡ has r.field.flags.0 0x20
+  pub pointer : Pointer r.field.flags.0 e.pointer
   pub type_name : e.type_name ≡ r.field.type_name
   pub arrays : e.arrays ≡ r.arrays.bytes
   pub items : e.items ≡ r.sub_items

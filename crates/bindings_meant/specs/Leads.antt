@@ -78,10 +78,11 @@ pub data Rests (here : Spot) : Type 0 where
   members : 0 < here.entry.items.count → Rests here
 
 module _ (TypeAt : List ℕ → ℕ → Type 0) (types : Bor (List ℕ)) where
-  -- the data type of an entry's type name takes the entry's place, and adds nothing
+  -- the data type of an entry's type name takes the entry's place, and adds nothing; the entry is no pointer
   pub record ToType (here there : Spot) : Type 0 where
     pub no_dimension : length here.left < 8
     pub no_member : here.entry.items.count ≡ 0
+    pub no_pointer : here.entry.pointer ≡ 0
     pub start : ℕ
     pub named : TypeAt here.entry.type_name.now start
     pub has_offset : HasOffset (own_of (behind types start)).now
