@@ -6,7 +6,7 @@ use Rattle.upload.specs.declared.Form.TheVariants.{Binary, Hexadecimal}
 use Rattle.refusal.specs.declared.Mode.TheVariants.{Present, Checked}
 use Rattle.arguments.specs.declared.options.Options.{Options}
 use Rattle.arguments.specs.declared.options.Said.TheVariants.{Help, Version, Given}
-use Rattle.arguments.specs.declared.misuse.Misuse.TheVariants.{UnknownOption, UnknownLetter, Valued, Against, Unfit}
+use Rattle.arguments.specs.declared.misuse.Misuse.TheVariants.{UnknownOption, UnknownLetters, Valued, Against, Unfit}
 use Rattle.arguments.specs.declared.misuse.Rule.TheVariants.{OneForm}
 use Rattle.arguments.specs.declared.misuse.Expected.TheVariants.{Command}
 use Rattle.arguments.specs.Words.{Word, operands_of}
@@ -66,8 +66,12 @@ pub record OptionsMeant : Type 0 where
   pub version : options_of (lying (codes "--version") ∷ lying (codes "--what") ∷ []) ≡ Ok Version
   pub short_version : options_of (lying (codes "-V") ∷ []) ≡ Ok Version
   pub unknown : options_of (lying (codes "--hexa") ∷ lying (codes "--help") ∷ []) ≡ Err (UnknownOption (lying (codes "--hexa")))
-  pub letter : options_of (lying (codes "-x") ∷ []) ≡ Err (UnknownLetter (lying (codes "-x")))
+  pub letter : options_of (lying (codes "-x") ∷ []) ≡ Err (UnknownLetters (lying (codes "-x")))
+  pub letters : options_of (lying (codes "-hex") ∷ []) ≡ Err (UnknownLetters (lying (codes "-hex")))
+  pub more_letters : options_of (lying (codes "-Vx") ∷ []) ≡ Err (UnknownLetters (lying (codes "-Vx")))
   pub valued : options_of (lying (codes "--hex=yes") ∷ []) ≡ Err (Valued (lying (codes "--hex=yes")))
+  pub valued_help : options_of (lying (codes "--help=no") ∷ []) ≡ Err (Valued (lying (codes "--help=no")))
+  pub valued_version : options_of (lying (codes "--version=1") ∷ []) ≡ Err (Valued (lying (codes "--version=1")))
 
 -- a command: its word and what must stand behind that, the operands that it wants then, those that it can do without, and the options that are for it
 pub record Row : Type 0 where
