@@ -111,23 +111,28 @@ commands =
     ∷ row (codes "room" ∷ []) 1 0 []
     ∷ []
 
--- whether something is asked for by a command with so many operands, each the text 7, and an option before or behind
--- one is said, and the other
+-- both hold, or neither does
 abbrev agree : Bool → Bool → Bool
 agree true b = b
 agree false b = not b
 
+-- whether a line asks for something
 abbrev asks : List Word → Bool
 asks line = is_ok (read_of (record { ref_ptr = (0, 0); now = line }))
 
+-- a command with so many operands, each the text 7
 abbrev with_operands : Row → ℕ → List Word
 with_operands r n = map lying (r.words ++ replicate n (codes "7"))
 
+-- of 0 to 7 operands it has those that the row tells, and no others
 abbrev pub counts : Row → Bool
 counts r = list_all (λ n. agree (asks (with_operands r n)) (nat_le r.wants n && nat_le n (r.wants + r.spares))) (0 ∷ 1 ∷ 2 ∷ 3 ∷ 4 ∷ 5 ∷ 6 ∷ 7 ∷ [])
 
+-- so of the options, before all and behind all
 abbrev pub suits : Row → Bool
-suits r = list_all (λ flag. agree (asks (lying flag ∷ with_operands r r.wants)) (list_any (bytes_eq flag) r.accepts)) flags
+suits r =
+    let given : List Word = with_operands r r.wants in
+    list_all (λ flag. let accepted = list_any (bytes_eq flag) r.accepts in agree (asks (lying flag ∷ given)) accepted && agree (asks (given ++ (lying flag ∷ []))) accepted) flags
 
 abbrev pub names : List (List ℕ)
 names =
