@@ -14,7 +14,7 @@ use Rattle.arguments.specs.declared.options.Said.{Said}
 use Rattle.arguments.specs.declared.options.Said.TheVariants.{Help, Version, Given}
 use Rattle.arguments.specs.declared.misuse.Misuse.{Misuse}
 use Rattle.arguments.specs.Words.{Word, is_option, ends_options, operands_of}
-use Rattle.arguments.specs.Options.{taken, long, short, marked, in_form, without_value, with_flag, flag_of, and_then, none_given, options_from, options_of}
+use Rattle.arguments.specs.Options.{taken, long, short, alone, marked, in_form, without_value, with_flag, flag_of, and_then, none_given, options_from, options_of}
 use Rattle.arguments.specs.Command.{unsuited, unsuited_to_room, command_of, task_of}
 use Rattle.arguments.specs.Request.{read_of, request_of, suited, without_more, run_of, asked_of, of_a_word, bind_of, compare_of, find_of, other_file, sheet_of, import_of, export_of, captures_of, against_captures, make_of, room_of, length_of, as_said, of_word, of_command}
 use Rattle.arguments.specs.declared.options.Flag.{Flag}
@@ -195,6 +195,7 @@ record Does (text : List ℕ) : Type 0 where
   goes_on : ends_options text ≡ false
 
 valueless : (r : Option Options) (w : Word) → list_any (λ b. b == 61) w.now ≡ false → without_value w r ≡ said r
+unfolding alone
 valueless None w h = refl
 valueless (Some o) w h = rw h refl
 
@@ -224,7 +225,7 @@ any_order o v w line f g =
     two o v w line a b ∙ ap (λ r. and_then (λ p. options_from p line) (said r)) (exchanged o a.which b.which) ∙ sym (two o w v line b a)
 
 pub options_meant : OptionsMeant
-unfolding options_from taken long short marked with_flag flag_of
+unfolding options_from taken long short alone marked with_flag flag_of
 options_meant = record {
   any_order = any_order;
   no_word = refl;
@@ -241,7 +242,11 @@ options_meant = record {
   short_version = refl;
   unknown = refl;
   letter = refl;
+  letters = refl;
+  more_letters = refl;
   valued = refl;
+  valued_help = refl;
+  valued_version = refl;
 }
 
 -- ---- the commands
@@ -282,11 +287,11 @@ named p w line o h u g =
     ∙ ap (of_command words o w) (no_command w.now u)
 
 pub commands_meant : CommandsMeant
-unfolding read_of request_of suited without_more run_of asked_of of_a_word bind_of compare_of find_of other_file sheet_of import_of export_of captures_of against_captures make_of room_of length_of options_from taken long short marked with_flag flag_of operands_of unsuited unsuited_to_room command_of task_of
+unfolding read_of request_of suited without_more run_of asked_of of_a_word bind_of compare_of find_of other_file sheet_of import_of export_of captures_of against_captures make_of room_of length_of options_from taken long short alone marked with_flag flag_of operands_of unsuited unsuited_to_room command_of task_of
 commands_meant = record { operands = refl; options = refl; unknown = named }
 
 pub requests_meant : RequestsMeant
-unfolding read_of request_of suited without_more run_of asked_of of_a_word bind_of compare_of find_of other_file sheet_of import_of export_of captures_of against_captures make_of room_of length_of options_from taken long short marked with_flag flag_of operands_of unsuited unsuited_to_room command_of task_of
+unfolding read_of request_of suited without_more run_of asked_of of_a_word bind_of compare_of find_of other_file sheet_of import_of export_of captures_of against_captures make_of room_of length_of options_from taken long short alone marked with_flag flag_of operands_of unsuited unsuited_to_room command_of task_of
 requests_meant = record {
   find = refl;
   attribute = refl;
@@ -313,6 +318,17 @@ requests_meant = record {
   help = refl;
   version = refl;
   dashes = refl;
+  find_given = refl;
+  show_given = refl;
+  why_given = refl;
+  branch_given = refl;
+  types_given = refl;
+  check_given = refl;
+  compare_given = refl;
+  salvage_given = refl;
+  bind_given = refl;
+  plain_given = refl;
+  zeros = refl;
   no_command = refl;
   lacks = refl;
   extra = refl;

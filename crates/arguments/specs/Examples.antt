@@ -1,5 +1,5 @@
 -- docs/FORMAT.md, "The command's text": what each command asks for, with every operand another text.
-use Rattle.std.specs.Prelude.{ℕ, ◌≡◌, true, false, List, [], ◌∷◌, Some, None, Result, Ok, Err, codes, map}
+use Rattle.std.specs.Prelude.{ℕ, ◌≡◌, true, false, List, [], ◌∷◌, ◌++◌, Some, None, Result, Ok, Err, codes, map}
 use Rattle.std.specs.Borrow.{Bor}
 use Rattle.upload.specs.declared.Form.TheVariants.{Binary, Hexadecimal}
 use Rattle.refusal.specs.declared.Mode.TheVariants.{Present, Checked}
@@ -29,6 +29,13 @@ of_file a = Ok (request.Run (record { file = lying (codes "a"); form = None; mod
 
 abbrev pub b : Word
 b = lying (codes "b")
+
+-- with a form and a mode
+abbrev pub given : List (List ℕ)
+given = codes "--hex" ∷ codes "--checked" ∷ []
+
+abbrev pub with_given : Asked → Result Request Misuse
+with_given a = Ok (request.Run (record { file = lying (codes "a"); form = Some Hexadecimal; mode = Checked; asked = a }))
 
 abbrev pub bound : List (List ℕ)
 bound = codes "bind" ∷ codes "a" ∷ codes "b" ∷ codes "c" ∷ codes "d" ∷ []
@@ -60,6 +67,17 @@ pub record RequestsMeant : Type 0 where
   pub help : read (codes "find" ∷ codes "-h" ∷ []) ≡ Ok request.Help
   pub version : read (codes "--version" ∷ []) ≡ Ok request.Version
   pub dashes : read (codes "show" ∷ codes "a" ∷ codes "--" ∷ codes "--help" ∷ []) ≡ of_file (asked.Show (lying (codes "--help")))
+  pub find_given : read (codes "find" ∷ codes "a" ∷ codes "b" ∷ given) ≡ with_given (asked.Find b None)
+  pub show_given : read (codes "show" ∷ codes "a" ∷ codes "b" ∷ given) ≡ with_given (asked.Show b)
+  pub why_given : read (codes "why" ∷ codes "a" ∷ codes "b" ∷ given) ≡ with_given (asked.Why b)
+  pub branch_given : read (codes "branch" ∷ codes "a" ∷ codes "b" ∷ codes "--json" ∷ given) ≡ with_given (asked.Branch b true)
+  pub types_given : read (codes "type" ∷ codes "a" ∷ given) ≡ with_given (asked.Types None false)
+  pub check_given : read (codes "check" ∷ codes "a" ∷ given) ≡ with_given asked.Check
+  pub compare_given : read (codes "compare" ∷ codes "a" ∷ codes "b" ∷ codes "--json" ∷ given) ≡ with_given (asked.Compare b true)
+  pub salvage_given : read (codes "salvage" ∷ codes "a" ∷ codes "b" ∷ given) ≡ with_given (asked.Salvage b)
+  pub bind_given : read (bound ++ (codes "--json" ∷ given)) ≡ with_given (asked.Bind b (record { line = line (bound ++ (codes "--json" ∷ given)); first = 3 }) true)
+  pub plain_given : read (codes "plain" ∷ codes "a" ∷ codes "--binary" ∷ []) ≡ Ok (request.Run (record { file = lying (codes "a"); form = Some Binary; mode = Present; asked = asked.Plain }))
+  pub zeros : read (codes "room" ∷ codes "007" ∷ []) ≡ Ok (request.Room 7)
   -- what is wrong
   pub no_command : read (codes "--json" ∷ []) ≡ Err (Against HasCommand)
   pub lacks : read (codes "find" ∷ codes "a" ∷ []) ≡ Err (Lacks (lying (codes "find")) Symbol)

@@ -6,7 +6,7 @@ use Rattle.upload.specs.declared.Form.TheVariants.{Binary, Hexadecimal}
 use Rattle.refusal.specs.declared.Mode.TheVariants.{Present, Checked}
 use Rattle.arguments.specs.declared.options.Options.{Options}
 use Rattle.arguments.specs.declared.options.Said.TheVariants.{Help, Version, Given}
-use Rattle.arguments.specs.declared.misuse.Misuse.TheVariants.{UnknownOption, UnknownLetter, Valued, Against, Unfit}
+use Rattle.arguments.specs.declared.misuse.Misuse.TheVariants.{UnknownOption, UnknownLetters, Valued, Against, Unfit}
 use Rattle.arguments.specs.declared.misuse.Rule.TheVariants.{OneForm}
 use Rattle.arguments.specs.declared.misuse.Expected.TheVariants.{Command}
 use Rattle.arguments.specs.Words.{Word, operands_of}
@@ -66,8 +66,12 @@ pub record OptionsMeant : Type 0 where
   pub version : options_of (lying (codes "--version") ∷ lying (codes "--what") ∷ []) ≡ Ok Version
   pub short_version : options_of (lying (codes "-V") ∷ []) ≡ Ok Version
   pub unknown : options_of (lying (codes "--hexa") ∷ lying (codes "--help") ∷ []) ≡ Err (UnknownOption (lying (codes "--hexa")))
-  pub letter : options_of (lying (codes "-x") ∷ []) ≡ Err (UnknownLetter (lying (codes "-x")))
+  pub letter : options_of (lying (codes "-x") ∷ []) ≡ Err (UnknownLetters (lying (codes "-x")))
+  pub letters : options_of (lying (codes "-hex") ∷ []) ≡ Err (UnknownLetters (lying (codes "-hex")))
+  pub more_letters : options_of (lying (codes "-Vx") ∷ []) ≡ Err (UnknownLetters (lying (codes "-Vx")))
   pub valued : options_of (lying (codes "--hex=yes") ∷ []) ≡ Err (Valued (lying (codes "--hex=yes")))
+  pub valued_help : options_of (lying (codes "--help=no") ∷ []) ≡ Err (Valued (lying (codes "--help=no")))
+  pub valued_version : options_of (lying (codes "--version=1") ∷ []) ≡ Err (Valued (lying (codes "--version=1")))
 
 -- a command: its word and what must stand behind that, the operands that it wants then, those that it can do without, and the options that are for it
 pub record Row : Type 0 where
@@ -107,23 +111,28 @@ commands =
     ∷ row (codes "room" ∷ []) 1 0 []
     ∷ []
 
--- whether something is asked for by a command with so many operands, each the text 7, and an option before or behind
--- one is said, and the other
+-- both hold, or neither does
 abbrev agree : Bool → Bool → Bool
 agree true b = b
 agree false b = not b
 
+-- whether a line asks for something
 abbrev asks : List Word → Bool
 asks line = is_ok (read_of (record { ref_ptr = (0, 0); now = line }))
 
+-- a command with so many operands, each the text 7
 abbrev with_operands : Row → ℕ → List Word
 with_operands r n = map lying (r.words ++ replicate n (codes "7"))
 
+-- of 0 to 7 operands it has those that the row tells, and no others
 abbrev pub counts : Row → Bool
 counts r = list_all (λ n. agree (asks (with_operands r n)) (nat_le r.wants n && nat_le n (r.wants + r.spares))) (0 ∷ 1 ∷ 2 ∷ 3 ∷ 4 ∷ 5 ∷ 6 ∷ 7 ∷ [])
 
+-- so of the options, before all and behind all
 abbrev pub suits : Row → Bool
-suits r = list_all (λ flag. agree (asks (lying flag ∷ with_operands r r.wants)) (list_any (bytes_eq flag) r.accepts)) flags
+suits r =
+    let given : List Word = with_operands r r.wants in
+    list_all (λ flag. let accepted = list_any (bytes_eq flag) r.accepts in agree (asks (lying flag ∷ given)) accepted && agree (asks (given ++ (lying flag ∷ []))) accepted) flags
 
 abbrev pub names : List (List ℕ)
 names =

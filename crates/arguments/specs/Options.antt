@@ -11,7 +11,7 @@ use Rattle.arguments.specs.declared.options.Options.{Options}
 use Rattle.arguments.specs.declared.options.Said.{Said}
 use Rattle.arguments.specs.declared.options.Said.TheVariants.{Help, Version, Given}
 use Rattle.arguments.specs.declared.misuse.Misuse.{Misuse}
-use Rattle.arguments.specs.declared.misuse.Misuse.TheVariants.{UnknownOption, UnknownLetter, Valued, Against}
+use Rattle.arguments.specs.declared.misuse.Misuse.TheVariants.{UnknownOption, UnknownLetters, Valued, Against}
 use Rattle.arguments.specs.declared.misuse.Rule.TheVariants.{OneForm}
 use Rattle.arguments.specs.Words.{Word, is_option, ends_options}
 
@@ -40,10 +40,13 @@ with_flag o flag.Checked = Some (record o { mode = Checked })
 with_flag o flag.Json = Some (record o { json = true })
 with_flag o flag.Sorted = Some (record o { sorted = true })
 
--- no flag has a value
+-- no option has a value
+unfoldable pub alone : Word → Said → Result Said Misuse
+alone w said = if list_any (λ b. b == 61) w.now then Err (Valued w) else Ok said
+
 abbrev pub without_value : Word → Option Options → Result Said Misuse
 without_value w None = Err (Against OneForm)
-without_value w (Some o) = if list_any (λ b. b == 61) w.now then Err (Valued w) else Ok (Given o)
+without_value w (Some o) = alone w (Given o)
 
 unfoldable pub marked : Options → Flag → Word → Result Said Misuse
 marked o f w = without_value w (with_flag o f)
@@ -56,16 +59,16 @@ by_flag o w (Some f) = marked o f w
 unfoldable pub long : Options → Word → Result Said Misuse
 long o w =
     let name : List ℕ = before_first (λ b. b == 61) w.now in
-    if bytes_eq name (codes "--help") then Ok Help
-    else if bytes_eq name (codes "--version") then Ok Version
+    if bytes_eq name (codes "--help") then alone w Help
+    else if bytes_eq name (codes "--version") then alone w Version
     else by_flag o w (flag_of name)
 
--- a dash and letters, of which the first tells
-unfoldable pub short : Word → ℕ → Result Said Misuse
-short w b = if b == 104 then Ok Help else if b == 86 then Ok Version else Err (UnknownLetter w)
+-- a dash and one letter
+unfoldable pub short : Word → Result Said Misuse
+short w = if bytes_eq w.now (codes "-h") then Ok Help else if bytes_eq w.now (codes "-V") then Ok Version else Err (UnknownLetters w)
 
 unfoldable pub taken : Options → Word → Result Said Misuse
-taken o w = if slice_index w.now 1 == 45 then long o w else short w (slice_index w.now 1)
+taken o w = if slice_index w.now 1 == 45 then long o w else short w
 
 -- help and the version end the reading
 abbrev pub and_then : (Options → Result Said Misuse) → Result Said Misuse → Result Said Misuse

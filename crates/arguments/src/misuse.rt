@@ -124,8 +124,8 @@ pub enum Misuse<'a> {
     Against(Rule),
     /// There is no such option.
     UnknownOption(&'a str),
-    /// There is no option of that letter.
-    UnknownLetter(&'a str),
+    /// There is no option of that letter, or of several.
+    UnknownLetters(&'a str),
     /// An option that has no value is given one.
     Valued(&'a str),
     /// An option is not for the command.
@@ -163,7 +163,7 @@ impl Display for Misuse<'_> {
         match self {
             Misuse::Against(rule) => f.write_str(rule.words()),
             Misuse::UnknownOption(word) => write_unknown(name_of(word), f),
-            Misuse::UnknownLetter(word) => write_letter(word, f),
+            Misuse::UnknownLetters(word) => write_unknown(word, f),
             Misuse::Valued(word) => write_valued(word, f),
             Misuse::NotFor { flag, command } => write_not_for(*flag, command, f),
             Misuse::Unfit { expected, word } => write_unfit(*expected, word, f),
@@ -175,13 +175,6 @@ impl Display for Misuse<'_> {
 
 fn write_unknown<W: Write>(name: &str, f: &mut Formatter<W>) -> fmt::Result {
     write!(f, "invalid option '{name}'")
-}
-
-fn write_letter<W: Write>(word: &str, f: &mut Formatter<W>) -> fmt::Result {
-    match word.chars().nth(1) {
-        Some(letter) => write!(f, "invalid option '-{letter}'"),
-        None => Ok(()),
-    }
 }
 
 fn write_valued<W: Write>(word: &str, f: &mut Formatter<W>) -> fmt::Result {

@@ -2,7 +2,7 @@
 
 ghost use Rattle.std.specs.Prelude.{◌≡◌, ◌==◌};
 ghost use Rattle.std.specs.List.{list_any, before_first};
-ghost use Rattle.arguments.specs.Options.{flag_of, with_flag, marked, long, short, taken, options_from, options_of, none_given};
+ghost use Rattle.arguments.specs.Options.{flag_of, with_flag, alone, marked, long, short, taken, options_from, options_of, none_given};
 
 use crate::misuse::{Misuse, Rule};
 use crate::operands::{ends_options, is_option};
@@ -139,15 +139,25 @@ fn with_flag(options: Options, flag: Flag) -> Option<Options>
     })
 }
 
-// With the flag of a word. No flag has a value.
+// What a word says that has no value, as no option has.
+#[tactic(auto, unfolding(crate::specs::Options::alone))]
+fn alone<'a>(word: &'a str, said: Said) -> Result<Said, Misuse<'a>>
+    ensures { result ≡ alone word.entry said }
+{
+    if has_value(word) {
+        return Err(Misuse::Valued(word));
+    }
+    Ok(said)
+}
+
+// With the flag of a word.
 #[tactic(auto, unfolding(crate::specs::Options::marked))]
 fn marked<'a>(options: Options, flag: Flag, word: &'a str) -> Result<Said, Misuse<'a>>
     ensures { result ≡ marked options flag word.entry }
 {
     match with_flag(options, flag) {
         None => Err(Misuse::Against(Rule::OneForm)),
-        Some(_) if has_value(word) => Err(Misuse::Valued(word)),
-        Some(more) => Ok(Said::Given(more)),
+        Some(more) => alone(word, Said::Given(more)),
     }
 }
 
@@ -158,10 +168,10 @@ fn long<'a>(options: Options, word: &'a str) -> Result<Said, Misuse<'a>>
 {
     let name = name_of(word);
     if name == "--help" {
-        return Ok(Said::Help);
+        return alone(word, Said::Help);
     }
     if name == "--version" {
-        return Ok(Said::Version);
+        return alone(word, Said::Version);
     }
     match flag_of(name) {
         Some(flag) => marked(options, flag, word),
@@ -169,15 +179,15 @@ fn long<'a>(options: Options, word: &'a str) -> Result<Said, Misuse<'a>>
     }
 }
 
-// A word with one dash, by the byte behind that.
+// A word with one dash.
 #[tactic(auto, unfolding(crate::specs::Options::short))]
-fn short<'a>(word: &'a str, letter: u8) -> Result<Said, Misuse<'a>>
-    ensures { result ≡ short word.entry letter }
+fn short<'a>(word: &'a str) -> Result<Said, Misuse<'a>>
+    ensures { result ≡ short word.entry }
 {
-    match letter {
-        b'h' => Ok(Said::Help),
-        b'V' => Ok(Said::Version),
-        _ => Err(Misuse::UnknownLetter(word)),
+    match word {
+        "-h" => Ok(Said::Help),
+        "-V" => Ok(Said::Version),
+        _ => Err(Misuse::UnknownLetters(word)),
     }
 }
 
@@ -188,8 +198,7 @@ fn taken<'a>(options: Options, word: &'a str) -> Result<Said, Misuse<'a>>
 {
     match word.as_bytes().get(1) {
         Some(b'-') => long(options, word),
-        Some(byte) => short(word, *byte),
-        None => short(word, 0),
+        _ => short(word),
     }
 }
 

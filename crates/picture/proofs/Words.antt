@@ -73,4 +73,10 @@ reasons_meant = record {
   whole = refl;
   refused = refl;
   owed = refl;
+  more_unflagged = refl;
+  more_no_flags = refl;
+  more_short = λ at left. refl;
+  more_whole = λ at count. refl;
+  more_refused = λ before at why. refl;
+  more_owed = λ announced owed. refl;
 }

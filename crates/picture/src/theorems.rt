@@ -33,7 +33,7 @@ pub fn labels_meant()
     ensures { LabelsMeant }
 {}
 
-/// Each reason, word for word, with every figure different.
+/// Each reason, word for word, with every figure different; and which of them are told behind attributes that are shown.
 pub fn reasons_meant()
     ensures { ReasonsMeant }
 {}

@@ -8,6 +8,7 @@ ghost use Rattle.le.specs.Put.{Wrote};
 ghost use Rattle.writing.specs.Writing.{Writes};
 ghost use Rattle.refusal_text.specs.Told.{refusal_of, refusal_from_10, unfound, writing_text};
 ghost use Rattle.refusal_text.specs.Meant.{TextsMeant};
+ghost use Rattle.refusal_text.specs.Words.{TextsTold};
 
 use itoa::Buffer;
 use refusal::{Refusal, Words};
@@ -201,4 +202,9 @@ pub fn write_text(
 /// bytes.
 pub fn texts_meant()
     ensures { TextsMeant }
+{}
+
+/// Every refusal is told in its own words, with its figures where they stand.
+pub fn texts_told()
+    ensures { TextsTold }
 {}
