@@ -1,12 +1,12 @@
 -- What is told of a symbol stands in its entry.
-use Rattle.std.proofs.Common.{ℕ, ◌+◌, ◌-◌, ◌≡◌, Bool, true, false, List, [], ◌∷◌, ◌++◌, codes, decimal, length, map, take, drop, refl, sym, ap, ap₂, ◌∙◌, append_assoc, append-nil}
-use Rattle.std.specs.Prelude.{Option, None, Some, replicate, if◌then◌else◌}
+use Rattle.std.proofs.Common.{ℕ, ◌+◌, ◌≡◌, Bool, true, false, List, [], ◌∷◌, ◌++◌, codes, decimal, length, map, take, drop, refl, sym, ap, ap₂, ◌∙◌, append_assoc, append-nil}
+use Rattle.std.specs.Prelude.{Option, None, Some, if◌then◌else◌}
 use Rattle.std.specs.Fmt.{digits}
 use Rattle.std.specs.List.{flat_map}
 use Rattle.std.specs.Borrow.{Bor}
 use Rattle.std.proofs.lemmas.List.Concat.{flat_map-append}
 use Rattle.std.proofs.lemmas.List.Folds.{flat_map-map}
-use Rattle.le.specs.Le.{le2, le4}
+use Rattle.le.specs.Le.{le2}
 use Rattle.part.specs.End.{IsString}
 use Rattle.flags.specs.declared.symbol_flags.AdsSymbol2Flags.{AdsSymbol2Flags}
 use Rattle.attribute.specs.Attribute as attribute
@@ -20,8 +20,8 @@ use Rattle.wording.specs.Wording.{bytes}
 use Rattle.values.specs.Names.{flags_text, former_text, four_digits, or_none}
 use Rattle.why.specs.declared.Reason.{Reason}
 use Rattle.why.specs.declared.Reasons.{Reasons}
-use Rattle.picture.specs.Facts.{because, falls_short, strings_text, place_text, address_text, numbers_text, optional_text, extended_or, guid_or, line, below, attribute_text, more_attributes, no_more, attributes_text, more_names, names_text, facts_text}
-use Rattle.picture.specs.Told.{fact, list, string_at, extended_told, guid_told, attribute_told, more_told, attributes_told, names_told, why_none, FactsMeant}
+use Rattle.picture.specs.Facts.{because, falls_short, strings_text, place_text, address_text, numbers_text, optional_text, extended_or, guid_or, below, more_attributes, no_more, attributes_text, more_names, names_text, facts_text}
+use Rattle.picture.specs.Told.{fact, list, extended_told, guid_told, attribute_told, more_told, attributes_told, names_told, why_none, FactsMeant}
 
 strings_are : (s : AdsSymbolInfo) → strings_text s ≡ fact (codes "name") (or_none s.name.now) ++ (fact (codes "type") (or_none s.type_name.now) ++ fact (codes "comment") (or_none s.comment.now))
 unfolding strings_text

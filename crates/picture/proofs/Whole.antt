@@ -1,5 +1,5 @@
 -- What is shown of a symbol that was found.
-use Rattle.std.proofs.Common.{ℕ, ◌≡◌, Bool, List, ◌++◌, codes, length, [], ap}
+use Rattle.std.proofs.Common.{◌++◌, codes, length, [], ap}
 use Rattle.std.specs.Prelude.{Result}
 use Rattle.part.specs.Outcome.{outcome}
 use Rattle.refusal.specs.declared.Refusal.{Refusal}
