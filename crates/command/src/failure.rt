@@ -2,6 +2,7 @@
 
 ghost use Rattle.std.specs.Prelude.{◌≡◌};
 ghost use Rattle.command.specs.Status.{is_unread, failure_status, status_of};
+ghost use Rattle.command.specs.StatusMeant.{StatusMeant};
 
 use std::alloc::{AllocError, Global};
 use std::io;
@@ -130,3 +131,11 @@ pub fn in_words(alloc: Global, why: &io::Error) -> Result<String, AllocError> {
     }
     Ok(small)
 }
+
+// The theorem, the contract of a function that does nothing.
+
+/// Each end has its status: 0 where all was done, or the reader of what is written has gone; 1 where something was refused or left
+/// out; 2 for the arguments, a file, output and memory.
+pub fn status_meant()
+    ensures { StatusMeant }
+{}
