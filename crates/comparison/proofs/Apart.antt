@@ -60,19 +60,19 @@ up_of all (x ∷ xs) (more l r) =
     up (λ v h. not_lt (R (slice_get all v) (slice_get all x)) (nat_cmp v x) (lowest_tally (λ i j. is_lt (number_order all i j)) (number_weak all) x v xs l h)) (up_of all xs r)
 
 -- the numbers of pieces without a partner, none twice
-record Ready (all : List Piece) (part : List (Option ℕ)) (xs : List ℕ) : Type 0 where
-  once : (v : ℕ) → tally v xs ≤ 1
-  free : (v : ℕ) → 0 < tally v xs → slice_get part v ≡ Some None
-  long : length part ≡ length all
+pub record Ready (all : List Piece) (part : List (Option ℕ)) (xs : List ℕ) : Type 0 where
+  pub once : (v : ℕ) → tally v xs ≤ 1
+  pub free : (v : ℕ) → 0 < tally v xs → slice_get part v ≡ Some None
+  pub long : length part ≡ length all
 
-ready_rest : (all : List Piece) (part : List (Option ℕ)) (x : ℕ) (xs : List ℕ) → Ready all part (x ∷ xs) → Ready all part xs
+pub ready_rest : (all : List Piece) (part : List (Option ℕ)) (x : ℕ) (xs : List ℕ) → Ready all part (x ∷ xs) → Ready all part xs
 ready_rest all part x xs r = record {
   once = λ v. omega (arith, r.once v, sum_by-cons (mark v) x xs);
   free = λ v h. r.free v (omega (arith, h, sum_by-cons (mark v) x xs));
   long = r.long;
 }
 
-ready_set : (all : List Piece) (part : List (Option ℕ)) (x : ℕ) (xs : List ℕ) (o : Option ℕ) → Ready all part (x ∷ xs) → Ready all (slice_set part x o) xs
+pub ready_set : (all : List Piece) (part : List (Option ℕ)) (x : ℕ) (xs : List ℕ) (o : Option ℕ) → Ready all part (x ∷ xs) → Ready all (slice_set part x o) xs
 ready_set all part x xs o r = record {
   once = (ready_rest all part x xs r).once;
   free = λ v h.
@@ -81,21 +81,21 @@ ready_set all part x xs o r = record {
   long = length-set part x o ∙ r.long;
 }
 
-ready_first : (all : List Piece) (part : List (Option ℕ)) (x : ℕ) (xs : List ℕ) → Ready all part (x ∷ xs) → slice_get part x ≡ Some None
+pub ready_first : (all : List Piece) (part : List (Option ℕ)) (x : ℕ) (xs : List ℕ) → Ready all part (x ∷ xs) → slice_get part x ≡ Some None
 ready_first all part x xs r = r.free x (omega (arith, sum_by-cons (mark x) x xs, marked x))
 
 -- which of the numbers it is
-among : (v x : ℕ) (xs : List ℕ) → 0 < tally v (x ∷ xs) → (v ≡ x) ⊎ (0 < tally v xs)
+pub among : (v x : ℕ) (xs : List ℕ) → 0 < tally v (x ∷ xs) → (v ≡ x) ⊎ (0 < tally v xs)
 among v x xs h = elim (mark_cases v x) [ inl e ↦ inr (omega (arith, h, e, sum_by-cons (mark v) x xs)) | inr e ↦ inl e ]
 
-inside_some : (all : List Piece) (k : ℕ) → k < length all → (slice_get all k ≡ None) → ⊥
+pub inside_some : (all : List Piece) (k : ℕ) → k < length all → (slice_get all k ≡ None) → ⊥
 inside_some [] k h e = omega arith
 inside_some (x ∷ xs) zero h e = cc
 inside_some (x ∷ xs) (suc k) h e = inside_some xs k (omega arith) e
 
 -- free afterwards is free before
 module _ (ps qs : List Piece) where
-  FreeIn : Partners → Partners → Type 0
+  unfoldable pub FreeIn : Partners → Partners → Type 0
   FreeIn q p = ((i : ℕ) → slice_get p.of_a i ≡ Some None → slice_get q.of_a i ≡ Some None) × ((j : ℕ) → slice_get p.of_b j ≡ Some None → slice_get q.of_b j ≡ Some None)
 
   free_more : (q : Partners) (i j : ℕ) (p : Partners) → Unit {0} → FreeIn q p → FreeIn q (joined i j p)
@@ -107,10 +107,10 @@ module _ (ps qs : List Piece) where
   unfolding FreeIn
   free_itself q = (λ i e. e, λ j e. e)
 
-  matched_free : (r : Rule) (n : ℕ) (xs ys : List ℕ) (q : Partners) → FreeIn q (matched r ps qs n xs ys q)
+  pub matched_free : (r : Rule) (n : ℕ) (xs ys : List ℕ) (q : Partners) → FreeIn q (matched r ps qs n xs ys q)
   matched_free r n xs ys q = matched_kept (FreeIn q) ps qs (λ i j. Unit {0}) (free_more q) (λ r i j e. tt) (λ x i j e f. tt) r n xs ys q (free_itself q)
 
-  rule_free : (r : Rule) (q : Partners) → FreeIn q (by_rule r ps qs q)
+  pub rule_free : (r : Rule) (q : Partners) → FreeIn q (by_rule r ps qs q)
   rule_free r q = rule_kept (FreeIn q) ps qs (λ i j. Unit {0}) (free_more q) (λ r i j e. tt) (λ x i j e f. tt) r q (free_itself q)
 
   near_free : (q : Partners) → FreeIn q (neighbours qs ps 0 (Some 0) q)
@@ -122,7 +122,7 @@ module _ (ps qs : List Piece) where
   fit (Some p) None a b = absurd (b refl)
   fit (Some p) (Some q) a b = refl
 
-  joins : (x y : ℕ) (p : Partners) → slice_get p.of_a x ≡ Some None → slice_get p.of_b y ≡ Some None → joined x y p ≡ partnered x y p
+  pub joins : (x y : ℕ) (p : Partners) → slice_get p.of_a x ≡ Some None → slice_get p.of_b y ≡ Some None → joined x y p ≡ partnered x y p
   unfolding joined
   joins x y p a b = λ i. (if are_free (a i) (b i) then partnered x y p else p)
 
@@ -178,15 +178,15 @@ module _ (ps qs : List Piece) where
 
 -- the numbers that are free
 module _ (all : List (Option ℕ)) where
-  abbrev left : ℕ → List (Option ℕ) → List ℕ
+  abbrev pub left : ℕ → List (Option ℕ) → List ℕ
   left k xs = flat_map (λ x. free_one x.0 x.1) (enumerate_from k xs)
 
-  record Free (k : ℕ) (xs : List ℕ) (v : ℕ) : Type 0 where
-    once : tally v xs ≤ 1
-    is : 0 < tally v xs → (k ≤ v) × (slice_get all v ≡ Some None)
-    all_of : k ≤ v → slice_get all v ≡ Some None → 0 < tally v xs
+  pub record Free (k : ℕ) (xs : List ℕ) (v : ℕ) : Type 0 where
+    pub once : tally v xs ≤ 1
+    pub is : 0 < tally v xs → (k ≤ v) × (slice_get all v ≡ Some None)
+    pub all_of : k ≤ v → slice_get all v ≡ Some None → 0 < tally v xs
 
-  free_left : (k : ℕ) (xs : List (Option ℕ)) (v : ℕ) → drop k all ≡ xs → Free k (left k xs) v
+  pub free_left : (k : ℕ) (xs : List (Option ℕ)) (v : ℕ) → drop k all ≡ xs → Free k (left k xs) v
   free_left k [] v e = record { once = omega arith; is = λ h. absurd (omega arith); all_of = λ h g. (let n = get_past k v all e h in cc) }
   free_left k (Some j ∷ xs) v e =
       let on = free_left (k + 1) xs v (drop_next k all e) in

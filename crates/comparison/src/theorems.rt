@@ -1,6 +1,7 @@
 //! The theorems (docs/FORMAT.md, "The command's text"). Each is the contract of a function that does nothing, so that none goes unnoticed if its proof does.
 #![tactic(auto)]
 
+ghost use Rattle.comparison.specs.Alike.{AlikeMeant};
 ghost use Rattle.comparison.specs.Told.{RowsMeant};
 ghost use Rattle.comparison.specs.Meant.{CountsMeant, TextsMeant};
 
@@ -17,4 +18,9 @@ pub fn counts_meant()
 /// The last line of the table, the lines of what moved and those of entries up to their parts, with every number another.
 pub fn texts_meant()
     ensures { TextsMeant }
+{}
+
+/// Two uploads that are read in one mode are alike exactly where they have the same bytes.
+pub fn alike_meant()
+    ensures { AlikeMeant }
 {}
