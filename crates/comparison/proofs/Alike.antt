@@ -1,15 +1,14 @@
 -- Two uploads are alike exactly where they have the same bytes.
-use Rattle.std.proofs.Common.{ℕ, zero, suc, ◌+◌, ◌-◌, ◌<◌, ◌≤◌, ◌≡◌, ◌⊎◌, inl, inr, refl, sym, ap, subst, ◌∙◌, Bool, true, false, ◌&&◌, nat_eq, eqb-true, List, [], ◌∷◌, ◌++◌, length, take, drop, map, min, arith, Bor}
+use Rattle.std.proofs.Common.{ℕ, zero, suc, ◌+◌, ◌-◌, ◌<◌, ◌≤◌, ◌≡◌, refl, sym, ap, subst, ◌∙◌, Bool, true, false, ◌&&◌, eqb-true, List, [], ◌∷◌, ◌++◌, length, take, drop, map, min, arith, Bor}
 use Rattle.std.specs.Prelude.{Option, Some, None, All, leb, nat_lt, if◌then◌else◌}
 use Rattle.std.specs.List.{filter_map, cons_option, list_all}
-use Rattle.std.specs.Cmp.Lexicographic.{pointwise, same_text}
+use Rattle.std.specs.Cmp.Lexicographic.{same_text}
 use Rattle.std.proofs.lemmas.Bool.{ltb-false}
 use Rattle.std.proofs.lemmas.List.{take_all, length-take, length-take-le, length-drop, drop_all, drop-drop, take-append-drop}
 use Rattle.std.proofs.Math.Seq.{take-add}
 use Rattle.std.proofs.lemmas.List.Elements.{All-nil, All-cons, All-head, All-tail}
 use Rattle.std.proofs.lemmas.List.Sorted.{All-permutation, IsPermutation-sym}
 use borrow.Author.Tests.{leb-true, leb-false}
-use Rattle.part.specs.Slice.{part}
 use Rattle.symbol.specs.Symbol.{symbol_of}
 use Rattle.symbol.specs.declared.AdsSymbolInfo.{AdsSymbolInfo}
 use Rattle.refusal.specs.declared.Mode.{Mode}
@@ -21,7 +20,7 @@ use Rattle.comparison.specs.declared.pieces.Piece.{Piece}
 use Rattle.comparison.specs.declared.pieces.Shift.TheVariants.{Later, Earlier}
 use Rattle.comparison.specs.declared.finding.Row.{Row}
 use Rattle.comparison.specs.Pieces.{piece_of, pieces_of, shift}
-use Rattle.comparison.specs.Rows.{rows_of, stays, are_alike, is_same_shift, is_unmoved, shift_in, is_alike}
+use Rattle.comparison.specs.Rows.{rows_of, stays, are_alike, is_same_shift}
 use Rattle.comparison.proofs.Once.{ours, theirs}
 
 both : (a b : Bool) → (a && b) ≡ true → (a ≡ true) × (b ≡ true)

@@ -20,13 +20,13 @@ use Rattle.name_order.proofs.Meaning.{order_is_total}
 use Rattle.name_order.proofs.Sorted.{mark, tally, marked, mark_cases, Rises, none, more, lowest_tally, order_moves, order_rises}
 use Rattle.comparison.specs.declared.pieces.Piece.{Piece}
 use Rattle.comparison.specs.declared.pairs.Rule.{Rule}
-use Rattle.comparison.specs.declared.pairs.Rule.TheVariants.{NameAndPlace, Name, Place}
+use Rattle.comparison.specs.declared.pairs.Rule.TheVariants.{NameAndPlace, Name}
 use Rattle.comparison.specs.Pieces.{known}
-use Rattle.comparison.specs.Pairs.{Partners, nobody, partnered, are_free, joined, joined_if, order_at, number_order, fits_at, behind_first, free_one, free, matched, by_rule, neighbours, partners_of}
+use Rattle.comparison.specs.Pairs.{Partners, nobody, partnered, are_free, joined, joined_if, order_at, number_order, fits_at, behind_first, free_one, free, matched, by_rule, neighbours}
 use Rattle.comparison.specs.Told.{IsNamedAlike, named, refused}
 use Rattle.comparison.proofs.Orders.{order_total, number_weak}
 use Rattle.comparison.proofs.Lists.{drop_step, drop_next, get_past, set_same, set_other, set_either}
-use Rattle.comparison.proofs.Kept.{matched_kept, rule_kept, near_kept, joined_kept, Mutual, mutual_more, mutual_none}
+use Rattle.comparison.proofs.Kept.{matched_kept, rule_kept, near_kept, joined_kept, rule_mutual, mutual_none}
 
 abbrev R : Option Piece → Option Piece → Ordering
 R = order_at Name
@@ -253,18 +253,16 @@ unfolding order_at
 same_key p q (named {own = own} {other = other} a b l) = (λ i. slice_cmp nat_cmp (known (a i) p.bytes.now) (known (b i) q.bytes.now)) ∙ letters own.now other.now l
 same_key p q (refused a b e) = (λ i. slice_cmp nat_cmp (known (a i) (e i)) (known (b i) q.bytes.now)) ∙ tied_itself nat_list_cmp_total q.bytes.now
 
-pub left_apart : (ps qs : List Piece) (i j : ℕ) (p q : Piece) → slice_get ps i ≡ Some p → slice_get qs j ≡ Some q → slice_get (partners_of ps qs).of_a i ≡ Some None → slice_get (partners_of ps qs).of_b j ≡ Some None → IsNamedAlike p q → ⊥
-unfolding partners_of by_rule Parted FreeIn
-left_apart ps qs i j p q a b f g alike =
+-- after the first two rules
+abbrev pub by_names : List Piece → List Piece → Partners
+by_names ps qs = by_rule Name ps qs (by_rule NameAndPlace ps qs (nobody ps qs))
+
+pub left_apart : (ps qs : List Piece) (i j : ℕ) (p q : Piece) → slice_get ps i ≡ Some p → slice_get qs j ≡ Some q → slice_get (by_names ps qs).of_a i ≡ Some None → slice_get (by_names ps qs).of_b j ≡ Some None → IsNamedAlike p q → ⊥
+unfolding by_rule Parted FreeIn
+left_apart ps qs i j p q a b f2 g2 alike =
     let one : Partners = by_rule NameAndPlace ps qs (nobody ps qs) in
-    let two : Partners = by_rule Name ps qs one in
-    let three : Partners = by_rule Place ps qs two in
-    let place = rule_free ps qs Place two in
-    let near = near_free ps qs three in
     let name = rule_free ps qs Name one in
-    let long = mutual_rule ps qs in
-    let f2 : slice_get two.of_a i ≡ Some None = place.0 i (near.0 i f) in
-    let g2 : slice_get two.of_b j ≡ Some None = place.1 j (near.1 j g) in
+    let long = rule_mutual ps qs NameAndPlace (nobody ps qs) (mutual_none ps qs) in
     let f1 : slice_get one.of_a i ≡ Some None = name.0 i f2 in
     let g1 : slice_get one.of_b j ≡ Some None = name.1 j g2 in
     let xs : List ℕ = sorted ps one.of_a long.long_a in
@@ -272,6 +270,3 @@ left_apart ps qs i j p q a b f g alike =
     parted ps qs i j (length xs + length ys) xs ys one (omega arith) (sorted_up ps one.of_a long.long_a) (sorted_up qs one.of_b long.long_b)
     (sorted_ready ps one.of_a long.long_a) (sorted_ready qs one.of_b long.long_b) (sorted_all ps one.of_a long.long_a i f1) (sorted_all qs one.of_b long.long_b j g1) f2 g2
     ((λ k. R (a k) (b k)) ∙ same_key p q alike)
-  where
-    mutual_rule : (ps qs : List Piece) → Mutual (length ps) (length qs) (by_rule NameAndPlace ps qs (nobody ps qs))
-    mutual_rule ps qs = rule_kept (Mutual (length ps) (length qs)) ps qs (λ i j. Unit {0}) (λ i j p o h. mutual_more _ _ i j p h) (λ r i j e. tt) (λ x i j e f. tt) NameAndPlace (nobody ps qs) (mutual_none ps qs)

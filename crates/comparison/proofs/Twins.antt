@@ -1,18 +1,15 @@
 -- Two uploads of the same bytes are alike: each piece is the same entry as the one of its number.
-use Rattle.std.proofs.Common.{ℕ, zero, suc, ◌+◌, ◌-◌, ◌<◌, ◌≤◌, ◌≡◌, ◌⊎◌, inl, inr, refl, sym, ap, subst, ◌∙◌, Bool, true, false, ◌&&◌, ◌||◌, nat_eq, List, [], ◌∷◌, ◌++◌, length, drop, map, arith, Bor, Result}
-use Rattle.std.specs.Prelude.{Option, Some, None, Ok, Err, leb, nat_lt, slice_get, slice_set, replicate, if◌then◌else◌}
+use Rattle.std.proofs.Common.{ℕ, zero, suc, ◌+◌, ◌-◌, ◌<◌, ◌≤◌, ◌≡◌, inl, inr, refl, sym, ap, subst, ◌∙◌, Bool, true, false, ◌&&◌, nat_eq, List, [], ◌∷◌, ◌++◌, length, drop, map, arith, Bor, Result}
+use Rattle.std.specs.Prelude.{Option, Some, None, Ok, Err, leb, slice_get, slice_set, replicate, if◌then◌else◌}
 use Rattle.std.specs.List.{flat_map, enumerate_from, list_all}
 use Rattle.std.specs.Ordering.{nat_cmp, is_le, is_ge, is_eq}
 use Rattle.std.specs.Cmp.Lexicographic.{slice_cmp, pointwise}
-use Rattle.std.specs.declared.cmp.Ordering.{Ordering}
-use Rattle.std.specs.declared.cmp.Ordering.TheVariants.{Less, Equal, Greater}
+use Rattle.std.specs.declared.cmp.Ordering.TheVariants.{Equal}
 use Rattle.std.proofs.lemmas.Cmp.{tied_itself, nat_list_cmp_total, nat_eq_equiv, nat_list_eq_equiv}
 use Rattle.std.proofs.lemmas.Bool.{le-ltb}
 use Rattle.std.proofs.Math.ListN.{length-replicate}
 use Rattle.std.proofs.lemmas.Option.{slice_get_within}
-use Rattle.std.proofs.lemmas.List.Folds.{list_all-append}
-use Rattle.std.proofs.lemmas.List.Sums.{sum_by-cons}
-use Rattle.name_order.proofs.Sorted.{tally, mark}
+use Rattle.name_order.proofs.Sorted.{tally}
 use Rattle.names.specs.Names.{folded}
 use Rattle.part.specs.Slice.{part}
 use Rattle.part.specs.Outcome.{and_then}
@@ -33,15 +30,14 @@ use Rattle.comparison.specs.declared.pieces.Piece.{Piece}
 use Rattle.comparison.specs.declared.pairs.Pair.{Pair}
 use Rattle.comparison.specs.declared.pairs.Rule.{Rule}
 use Rattle.comparison.specs.declared.pairs.Rule.TheVariants.{NameAndPlace, Name, Place}
-use Rattle.comparison.specs.declared.finding.Row.{Row}
 use Rattle.comparison.specs.declared.pieces.Shift.TheVariants.{Later, Earlier}
 use Rattle.comparison.specs.Pieces.{piece_of, pieces_of, known, known_by, by_name, shift}
-use Rattle.comparison.specs.Pairs.{Partners, nobody, partnered, joined, joined_if, order_at, fits_at, as_long, behind_first, free, matched, by_rule, neighbours, partners_of, alone, told_one, told, pairs_of}
-use Rattle.comparison.specs.Rows.{row_of, rows_of, stays, are_alike, is_same_shift}
+use Rattle.comparison.specs.Pairs.{Partners, nobody, partnered, joined, joined_if, order_at, fits_at, behind_first, free, matched, by_rule, neighbours, partners_of, alone, told_one, told, pairs_of}
+use Rattle.comparison.specs.Rows.{row_of, rows_of, stays, is_same_shift}
 use Rattle.comparison.specs.Alike.{AlikeMeant}
 use Rattle.comparison.proofs.Lists.{drop_step, drop_next, set_same, set_either}
 use Rattle.comparison.proofs.Kept.{joined_kept, rule_kept, near_kept, both_ways, nobody_there}
-use Rattle.comparison.proofs.Apart.{Ready, ready_rest, ready_set, ready_first, among, FreeIn, free_left, inside_some, matched_free, rule_free, joins}
+use Rattle.comparison.proofs.Apart.{Ready, ready_set, ready_first, among, FreeIn, free_left, matched_free, rule_free, joins}
 use Rattle.comparison.proofs.Alike.{same_bytes}
 
 -- pieces that lie elsewhere and are the same
@@ -198,11 +194,13 @@ module _ (ps qs : List Piece) where
         let step : Partners = partnered x x p in
         let rest = diagonal n xs step (omega (arith, l)) (ready_set ps p.of_a x xs (Some x) a) (ready_set qs p.of_b x xs (Some x) b) (diagonal_more x p d) in
         let was = matched_free ps qs NameAndPlace n xs xs step in
-        let done : Done (x ∷ xs) (matched NameAndPlace ps qs n xs xs step) =
-          (rest.0, λ v h g. elim (among v x xs h) [
+        let done : Done (x ∷ xs) (matched NameAndPlace ps qs n xs xs step) = (
+          rest.0,
+          λ v h g. elim (among v x xs h) [
             | inl is ↦ (let w = was.0 v g in let z : slice_get (slice_set p.of_a x (Some x)) v ≡ Some (Some x) = ap (slice_get (slice_set p.of_a x (Some x))) is ∙ set_same p.of_a x (Some x) ours in cc)
             | inr m ↦ rest.1 v m g
-          ]) in
+          ],
+        ) in
         let join : joined_if (is_eq (order_at NameAndPlace (slice_get ps x) (slice_get qs x)) && fits_at NameAndPlace (slice_get ps x) (slice_get qs x)) x x p ≡ step
         = (λ i. joined_if (is_eq (f.0 i) && f.1 i) x x p) ∙ joins ps qs x x p ours theirs in
         subst (Done (x ∷ xs)) (sym (λ i. matched NameAndPlace ps qs n (behind_first (is_le (f.0 i)) (x ∷ xs)) (behind_first (is_ge (f.0 i)) (x ∷ xs)) (join i))) done
@@ -303,6 +301,7 @@ module _ (ps qs : List Piece) (ts : Twins ps qs) where
           past [] k h e = omega arith
           past (x ∷ l) zero h e = cc
           past (x ∷ l) (suc k) h e = past l k (omega arith) e
+
       by : (o : Option (Option ℕ)) → slice_get p.of_a k ≡ o → (slice_get p.of_a k ≡ None → ⊥) → ⊥
       by None e n = n e
       by (Some None) e n = full k e
