@@ -20,13 +20,13 @@ use Rattle.name_order.proofs.Meaning.{order_is_total}
 use Rattle.name_order.proofs.Sorted.{mark, tally, marked, mark_cases, Rises, none, more, lowest_tally, order_moves, order_rises}
 use Rattle.comparison.specs.declared.pieces.Piece.{Piece}
 use Rattle.comparison.specs.declared.pairs.Rule.{Rule}
-use Rattle.comparison.specs.declared.pairs.Rule.TheVariants.{NameAndPlace, Name, Place}
+use Rattle.comparison.specs.declared.pairs.Rule.TheVariants.{NameAndPlace, Name}
 use Rattle.comparison.specs.Pieces.{known}
-use Rattle.comparison.specs.Pairs.{Partners, nobody, partnered, are_free, joined, joined_if, order_at, number_order, fits_at, behind_first, free_one, free, matched, by_rule, neighbours, partners_of}
+use Rattle.comparison.specs.Pairs.{Partners, nobody, partnered, are_free, joined, joined_if, order_at, number_order, fits_at, behind_first, free_one, free, matched, by_rule, neighbours}
 use Rattle.comparison.specs.Told.{IsNamedAlike, named, refused}
 use Rattle.comparison.proofs.Orders.{order_total, number_weak}
 use Rattle.comparison.proofs.Lists.{drop_step, drop_next, get_past, set_same, set_other, set_either}
-use Rattle.comparison.proofs.Kept.{matched_kept, rule_kept, near_kept, joined_kept, Mutual, mutual_more, mutual_none}
+use Rattle.comparison.proofs.Kept.{matched_kept, rule_kept, near_kept, joined_kept, rule_mutual, mutual_none}
 
 abbrev R : Option Piece → Option Piece → Ordering
 R = order_at Name
@@ -60,19 +60,19 @@ up_of all (x ∷ xs) (more l r) =
     up (λ v h. not_lt (R (slice_get all v) (slice_get all x)) (nat_cmp v x) (lowest_tally (λ i j. is_lt (number_order all i j)) (number_weak all) x v xs l h)) (up_of all xs r)
 
 -- the numbers of pieces without a partner, none twice
-record Ready (all : List Piece) (part : List (Option ℕ)) (xs : List ℕ) : Type 0 where
-  once : (v : ℕ) → tally v xs ≤ 1
-  free : (v : ℕ) → 0 < tally v xs → slice_get part v ≡ Some None
-  long : length part ≡ length all
+pub record Ready (all : List Piece) (part : List (Option ℕ)) (xs : List ℕ) : Type 0 where
+  pub once : (v : ℕ) → tally v xs ≤ 1
+  pub free : (v : ℕ) → 0 < tally v xs → slice_get part v ≡ Some None
+  pub long : length part ≡ length all
 
-ready_rest : (all : List Piece) (part : List (Option ℕ)) (x : ℕ) (xs : List ℕ) → Ready all part (x ∷ xs) → Ready all part xs
+pub ready_rest : (all : List Piece) (part : List (Option ℕ)) (x : ℕ) (xs : List ℕ) → Ready all part (x ∷ xs) → Ready all part xs
 ready_rest all part x xs r = record {
   once = λ v. omega (arith, r.once v, sum_by-cons (mark v) x xs);
   free = λ v h. r.free v (omega (arith, h, sum_by-cons (mark v) x xs));
   long = r.long;
 }
 
-ready_set : (all : List Piece) (part : List (Option ℕ)) (x : ℕ) (xs : List ℕ) (o : Option ℕ) → Ready all part (x ∷ xs) → Ready all (slice_set part x o) xs
+pub ready_set : (all : List Piece) (part : List (Option ℕ)) (x : ℕ) (xs : List ℕ) (o : Option ℕ) → Ready all part (x ∷ xs) → Ready all (slice_set part x o) xs
 ready_set all part x xs o r = record {
   once = (ready_rest all part x xs r).once;
   free = λ v h.
@@ -81,21 +81,21 @@ ready_set all part x xs o r = record {
   long = length-set part x o ∙ r.long;
 }
 
-ready_first : (all : List Piece) (part : List (Option ℕ)) (x : ℕ) (xs : List ℕ) → Ready all part (x ∷ xs) → slice_get part x ≡ Some None
+pub ready_first : (all : List Piece) (part : List (Option ℕ)) (x : ℕ) (xs : List ℕ) → Ready all part (x ∷ xs) → slice_get part x ≡ Some None
 ready_first all part x xs r = r.free x (omega (arith, sum_by-cons (mark x) x xs, marked x))
 
 -- which of the numbers it is
-among : (v x : ℕ) (xs : List ℕ) → 0 < tally v (x ∷ xs) → (v ≡ x) ⊎ (0 < tally v xs)
+pub among : (v x : ℕ) (xs : List ℕ) → 0 < tally v (x ∷ xs) → (v ≡ x) ⊎ (0 < tally v xs)
 among v x xs h = elim (mark_cases v x) [ inl e ↦ inr (omega (arith, h, e, sum_by-cons (mark v) x xs)) | inr e ↦ inl e ]
 
-inside_some : (all : List Piece) (k : ℕ) → k < length all → (slice_get all k ≡ None) → ⊥
+pub inside_some : (all : List Piece) (k : ℕ) → k < length all → (slice_get all k ≡ None) → ⊥
 inside_some [] k h e = omega arith
 inside_some (x ∷ xs) zero h e = cc
 inside_some (x ∷ xs) (suc k) h e = inside_some xs k (omega arith) e
 
 -- free afterwards is free before
 module _ (ps qs : List Piece) where
-  FreeIn : Partners → Partners → Type 0
+  unfoldable pub FreeIn : Partners → Partners → Type 0
   FreeIn q p = ((i : ℕ) → slice_get p.of_a i ≡ Some None → slice_get q.of_a i ≡ Some None) × ((j : ℕ) → slice_get p.of_b j ≡ Some None → slice_get q.of_b j ≡ Some None)
 
   free_more : (q : Partners) (i j : ℕ) (p : Partners) → Unit {0} → FreeIn q p → FreeIn q (joined i j p)
@@ -107,10 +107,10 @@ module _ (ps qs : List Piece) where
   unfolding FreeIn
   free_itself q = (λ i e. e, λ j e. e)
 
-  matched_free : (r : Rule) (n : ℕ) (xs ys : List ℕ) (q : Partners) → FreeIn q (matched r ps qs n xs ys q)
+  pub matched_free : (r : Rule) (n : ℕ) (xs ys : List ℕ) (q : Partners) → FreeIn q (matched r ps qs n xs ys q)
   matched_free r n xs ys q = matched_kept (FreeIn q) ps qs (λ i j. Unit {0}) (free_more q) (λ r i j e. tt) (λ x i j e f. tt) r n xs ys q (free_itself q)
 
-  rule_free : (r : Rule) (q : Partners) → FreeIn q (by_rule r ps qs q)
+  pub rule_free : (r : Rule) (q : Partners) → FreeIn q (by_rule r ps qs q)
   rule_free r q = rule_kept (FreeIn q) ps qs (λ i j. Unit {0}) (free_more q) (λ r i j e. tt) (λ x i j e f. tt) r q (free_itself q)
 
   near_free : (q : Partners) → FreeIn q (neighbours qs ps 0 (Some 0) q)
@@ -122,7 +122,7 @@ module _ (ps qs : List Piece) where
   fit (Some p) None a b = absurd (b refl)
   fit (Some p) (Some q) a b = refl
 
-  joins : (x y : ℕ) (p : Partners) → slice_get p.of_a x ≡ Some None → slice_get p.of_b y ≡ Some None → joined x y p ≡ partnered x y p
+  pub joins : (x y : ℕ) (p : Partners) → slice_get p.of_a x ≡ Some None → slice_get p.of_b y ≡ Some None → joined x y p ≡ partnered x y p
   unfolding joined
   joins x y p a b = λ i. (if are_free (a i) (b i) then partnered x y p else p)
 
@@ -178,15 +178,15 @@ module _ (ps qs : List Piece) where
 
 -- the numbers that are free
 module _ (all : List (Option ℕ)) where
-  abbrev left : ℕ → List (Option ℕ) → List ℕ
+  abbrev pub left : ℕ → List (Option ℕ) → List ℕ
   left k xs = flat_map (λ x. free_one x.0 x.1) (enumerate_from k xs)
 
-  record Free (k : ℕ) (xs : List ℕ) (v : ℕ) : Type 0 where
-    once : tally v xs ≤ 1
-    is : 0 < tally v xs → (k ≤ v) × (slice_get all v ≡ Some None)
-    all_of : k ≤ v → slice_get all v ≡ Some None → 0 < tally v xs
+  pub record Free (k : ℕ) (xs : List ℕ) (v : ℕ) : Type 0 where
+    pub once : tally v xs ≤ 1
+    pub is : 0 < tally v xs → (k ≤ v) × (slice_get all v ≡ Some None)
+    pub all_of : k ≤ v → slice_get all v ≡ Some None → 0 < tally v xs
 
-  free_left : (k : ℕ) (xs : List (Option ℕ)) (v : ℕ) → drop k all ≡ xs → Free k (left k xs) v
+  pub free_left : (k : ℕ) (xs : List (Option ℕ)) (v : ℕ) → drop k all ≡ xs → Free k (left k xs) v
   free_left k [] v e = record { once = omega arith; is = λ h. absurd (omega arith); all_of = λ h g. (let n = get_past k v all e h in cc) }
   free_left k (Some j ∷ xs) v e =
       let on = free_left (k + 1) xs v (drop_next k all e) in
@@ -253,18 +253,16 @@ unfolding order_at
 same_key p q (named {own = own} {other = other} a b l) = (λ i. slice_cmp nat_cmp (known (a i) p.bytes.now) (known (b i) q.bytes.now)) ∙ letters own.now other.now l
 same_key p q (refused a b e) = (λ i. slice_cmp nat_cmp (known (a i) (e i)) (known (b i) q.bytes.now)) ∙ tied_itself nat_list_cmp_total q.bytes.now
 
-pub left_apart : (ps qs : List Piece) (i j : ℕ) (p q : Piece) → slice_get ps i ≡ Some p → slice_get qs j ≡ Some q → slice_get (partners_of ps qs).of_a i ≡ Some None → slice_get (partners_of ps qs).of_b j ≡ Some None → IsNamedAlike p q → ⊥
-unfolding partners_of by_rule Parted FreeIn
-left_apart ps qs i j p q a b f g alike =
+-- after the first two rules
+abbrev pub by_names : List Piece → List Piece → Partners
+by_names ps qs = by_rule Name ps qs (by_rule NameAndPlace ps qs (nobody ps qs))
+
+pub left_apart : (ps qs : List Piece) (i j : ℕ) (p q : Piece) → slice_get ps i ≡ Some p → slice_get qs j ≡ Some q → slice_get (by_names ps qs).of_a i ≡ Some None → slice_get (by_names ps qs).of_b j ≡ Some None → IsNamedAlike p q → ⊥
+unfolding by_rule Parted FreeIn
+left_apart ps qs i j p q a b f2 g2 alike =
     let one : Partners = by_rule NameAndPlace ps qs (nobody ps qs) in
-    let two : Partners = by_rule Name ps qs one in
-    let three : Partners = by_rule Place ps qs two in
-    let place = rule_free ps qs Place two in
-    let near = near_free ps qs three in
     let name = rule_free ps qs Name one in
-    let long = mutual_rule ps qs in
-    let f2 : slice_get two.of_a i ≡ Some None = place.0 i (near.0 i f) in
-    let g2 : slice_get two.of_b j ≡ Some None = place.1 j (near.1 j g) in
+    let long = rule_mutual ps qs NameAndPlace (nobody ps qs) (mutual_none ps qs) in
     let f1 : slice_get one.of_a i ≡ Some None = name.0 i f2 in
     let g1 : slice_get one.of_b j ≡ Some None = name.1 j g2 in
     let xs : List ℕ = sorted ps one.of_a long.long_a in
@@ -272,6 +270,3 @@ left_apart ps qs i j p q a b f g alike =
     parted ps qs i j (length xs + length ys) xs ys one (omega arith) (sorted_up ps one.of_a long.long_a) (sorted_up qs one.of_b long.long_b)
     (sorted_ready ps one.of_a long.long_a) (sorted_ready qs one.of_b long.long_b) (sorted_all ps one.of_a long.long_a i f1) (sorted_all qs one.of_b long.long_b j g1) f2 g2
     ((λ k. R (a k) (b k)) ∙ same_key p q alike)
-  where
-    mutual_rule : (ps qs : List Piece) → Mutual (length ps) (length qs) (by_rule NameAndPlace ps qs (nobody ps qs))
-    mutual_rule ps qs = rule_kept (Mutual (length ps) (length qs)) ps qs (λ i j. Unit {0}) (λ i j p o h. mutual_more _ _ i j p h) (λ r i j e. tt) (λ x i j e f. tt) NameAndPlace (nobody ps qs) (mutual_none ps qs)

@@ -9,6 +9,25 @@ use Rattle.comparison.specs.declared.pairs.Rule.TheVariants.{NameAndPlace, Name,
 use Rattle.comparison.specs.Pairs.{Partners, nobody, partnered, are_free, joined, joined_if, order_at, fits_at, behind_first, matched, by_rule, as_long_at, beside, neighbours, partners_of}
 use Rattle.comparison.proofs.Lists.{drop_step, drop_next, set_same, set_other, set_either}
 
+module _ (P : Partners → Type 0) (ps qs : List Piece) (r : Rule)
+    (step : (i j : ℕ) (p : Partners) → (is_eq (order_at r (slice_get ps i) (slice_get qs j)) && fits_at r (slice_get ps i) (slice_get qs j)) ≡ true → P p → P (joined i j p)) where
+  one_kept : (b : Bool) (i j : ℕ) (p : Partners) → ((b ≡ true) → P p → P (joined i j p)) → P p → P (joined_if b i j p)
+  one_kept true i j p o h = o refl h
+  one_kept false i j p o h = h
+
+  pub matched_by : (n : ℕ) (xs ys : List ℕ) (p : Partners) → P p → P (matched r ps qs n xs ys p)
+  unfolding matched
+  matched_by zero xs ys p h = h
+  matched_by (suc n) [] ys p h = h
+  matched_by (suc n) (x ∷ xs) [] p h = h
+  matched_by (suc n) (x ∷ xs) (y ∷ ys) p h =
+      matched_by n (behind_first (is_le (order_at r (slice_get ps x) (slice_get qs y))) (x ∷ xs)) (behind_first (is_ge (order_at r (slice_get ps x) (slice_get qs y))) (y ∷ ys)) _
+      (one_kept (is_eq (order_at r (slice_get ps x) (slice_get qs y)) && fits_at r (slice_get ps x) (slice_get qs y)) x y p (step x y p) h)
+
+  pub rule_by : (p : Partners) → P p → P (by_rule r ps qs p)
+  unfolding by_rule
+  rule_by p h = matched_by _ _ _ p h
+
 module _ (P : Partners → Type 0) (ps qs : List Piece) (AreOne : ℕ → ℕ → Type 0)
     (step : (i j : ℕ) (p : Partners) → AreOne i j → P p → P (joined i j p))
     (ruled : (r : Rule) (i j : ℕ) → (is_eq (order_at r (slice_get ps i) (slice_get qs j)) && fits_at r (slice_get ps i) (slice_get qs j)) ≡ true → AreOne i j)
@@ -18,17 +37,10 @@ module _ (P : Partners → Type 0) (ps qs : List Piece) (AreOne : ℕ → ℕ �
   if_kept false i j p o h = h
 
   pub matched_kept : (r : Rule) (n : ℕ) (xs ys : List ℕ) (p : Partners) → P p → P (matched r ps qs n xs ys p)
-  unfolding matched
-  matched_kept r zero xs ys p h = h
-  matched_kept r (suc n) [] ys p h = h
-  matched_kept r (suc n) (x ∷ xs) [] p h = h
-  matched_kept r (suc n) (x ∷ xs) (y ∷ ys) p h =
-      matched_kept r n (behind_first (is_le (order_at r (slice_get ps x) (slice_get qs y))) (x ∷ xs)) (behind_first (is_ge (order_at r (slice_get ps x) (slice_get qs y))) (y ∷ ys)) _
-      (if_kept (is_eq (order_at r (slice_get ps x) (slice_get qs y)) && fits_at r (slice_get ps x) (slice_get qs y)) x y p (ruled r x y) h)
+  matched_kept r n xs ys p h = matched_by P ps qs r (λ i j q e k. step i j q (ruled r i j e) k) n xs ys p h
 
   pub rule_kept : (r : Rule) (p : Partners) → P p → P (by_rule r ps qs p)
-  unfolding by_rule
-  rule_kept r p h = matched_kept r _ _ _ p h
+  rule_kept r p h = rule_by P ps qs r (λ i j q e k. step i j q (ruled r i j e) k) p h
 
   beside_kept : (x : Piece) (i : ℕ) (next : Option ℕ) (p : Partners) → slice_get ps i ≡ Some x → P p → P (beside x qs i next p)
   unfolding beside
@@ -105,3 +117,22 @@ mutual_none ps qs = record {
 
 pub both_ways : (ps qs : List Piece) → Mutual (length ps) (length qs) (partners_of ps qs)
 both_ways ps qs = all_kept (Mutual (length ps) (length qs)) ps qs (λ i j. Unit {0}) (λ i j p o h. mutual_more _ _ i j p h) (λ r i j e. tt) (λ x i j e f. tt) (mutual_none ps qs)
+
+pub rule_mutual : (ps qs : List Piece) (r : Rule) (p : Partners) → Mutual (length ps) (length qs) p → Mutual (length ps) (length qs) (by_rule r ps qs p)
+rule_mutual ps qs r p h = rule_kept (Mutual (length ps) (length qs)) ps qs (λ i j. Unit {0}) (λ i j p o h. mutual_more _ _ i j p h) (λ r i j e. tt) (λ x i j e f. tt) r p h
+
+-- what has a partner keeps it
+module _ (ps qs : List Piece) where
+  unfoldable pub Keeps : Partners → Partners → Type 0
+  Keeps q p = (k l : ℕ) → slice_get q.of_a k ≡ Some (Some l) → slice_get p.of_a k ≡ Some (Some l)
+
+  keeps_more : (q : Partners) (i j : ℕ) (p : Partners) → Unit {0} → Keeps q p → Keeps q (joined i j p)
+  unfolding Keeps
+  keeps_more q i j p o h =
+      joined_kept (Keeps q) i j p (λ a b k l e. (let was = h k l e in let other : k ≢ i = λ s. (let x : slice_get p.of_a k ≡ slice_get p.of_a i = ap (slice_get p.of_a) s in cc) in set_other p.of_a i k (Some j) other ∙ was)) h
+
+  pub rule_keeps : (q : Partners) (r : Rule) (p : Partners) → Keeps q p → Keeps q (by_rule r ps qs p)
+  rule_keeps q r p h = rule_kept (Keeps q) ps qs (λ i j. Unit {0}) (keeps_more q) (λ r i j e. tt) (λ x i j e f. tt) r p h
+
+  pub near_keeps : (q : Partners) (p : Partners) → Keeps q p → Keeps q (neighbours qs ps 0 (Some 0) p)
+  near_keeps q p h = near_kept (Keeps q) ps qs (λ i j. Unit {0}) (keeps_more q) (λ r i j e. tt) (λ x i j e f. tt) ps 0 (Some 0) p refl h

@@ -7,3 +7,5 @@ pub mod Once
 pub mod Apart
 pub mod Told
 pub mod Meant
+pub mod Alike
+pub mod Twins

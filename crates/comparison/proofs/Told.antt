@@ -20,13 +20,13 @@ use Rattle.comparison.specs.declared.pairs.Rule.{Rule}
 use Rattle.comparison.specs.declared.pairs.Rule.TheVariants.{NameAndPlace, Name, Place}
 use Rattle.comparison.specs.declared.finding.Row.{Row}
 use Rattle.comparison.specs.Pieces.{known, by_name}
-use Rattle.comparison.specs.Pairs.{Partners, partners_of, joined, order_at, fits, fits_at, as_long, as_long_at, alone, behind, told_one, told, pairs_of}
+use Rattle.comparison.specs.Pairs.{Partners, nobody, partners_of, joined, order_at, fits, fits_at, as_long, as_long_at, alone, behind, told_one, told, pairs_of}
 use Rattle.comparison.specs.Rows.{piece_numbered, row_of, rows_of}
-use Rattle.comparison.specs.Told.{IsNamedAlike, named, refused, IsOneEntry, alike, placed, as_long as long_entry, IsRow, AreRows, AreApart, RowsMeant}
+use Rattle.comparison.specs.Told.{IsNamedAlike, named, refused, IsOneEntry, alike, placed, as_long as long_entry, IsRow, AreRows, AreNamed, AreApart, RowsMeant}
 use Rattle.comparison.proofs.Lists.{drop_step, drop_next, set_either}
-use Rattle.comparison.proofs.Kept.{all_kept, joined_kept, Mutual, both_ways, nobody_there}
+use Rattle.comparison.proofs.Kept.{all_kept, joined_kept, rule_by, Mutual, mutual_none, rule_mutual, Keeps, rule_keeps, near_keeps, both_ways, nobody_there}
 use Rattle.comparison.proofs.Once.{ours, theirs}
-use Rattle.comparison.proofs.Apart.{left_apart}
+use Rattle.comparison.proofs.Apart.{by_names, left_apart}
 
 equal_of : (r : Ordering) → is_eq r ≡ true → r ≡ Equal
 equal_of Less h = cc
@@ -166,7 +166,7 @@ module _ (ps qs : List Piece) where
   data IsPair (x : Pair) : Type 0 where
     in_a : (k : ℕ) → x.a ≡ Some k → x.b ≡ None → slice_get p.of_a k ≡ Some None → IsPair x
     in_b : (k : ℕ) → x.a ≡ None → x.b ≡ Some k → slice_get p.of_b k ≡ Some None → IsPair x
-    in_both : (k j : ℕ) (own other : Piece) → x.a ≡ Some k → x.b ≡ Some j → slice_get ps k ≡ Some own → slice_get qs j ≡ Some other → IsPair x
+    in_both : (k j : ℕ) → x.a ≡ Some k → x.b ≡ Some j → slice_get p.of_a k ≡ Some (Some j) → IsPair x
 
   ArePairs : List Pair → Type 0
   ArePairs xs = (m : ℕ) (x : Pair) → slice_get xs m ≡ Some x → IsPair x
@@ -197,12 +197,7 @@ module _ (ps qs : List Piece) where
 
   pair : (k : ℕ) (o : Option ℕ) → slice_get p.of_a k ≡ Some o → IsPair (record { a = Some k; b = o })
   pair k None e = in_a k refl refl e
-  pair k (Some j) e =
-      let other = slice_get_within p.of_b j (Some k) (m.there k j e) in
-      let u = there qs j (omega (arith, other, m.long_b)) in
-      let inside = slice_get_within p.of_a k (Some j) e in
-      let t = there ps k (omega (arith, inside, m.long_a)) in
-      in_both k j t.it u.it refl refl t.is u.is
+  pair k (Some j) e = in_both k j refl refl e
 
   told_pairs : (k : ℕ) (xs : List (Option ℕ)) → drop k p.of_a ≡ xs → ArePairs (flat_map (λ x. told_one p.of_b x.0 x.1) (enumerate_from k xs))
   told_pairs k [] e = no_pairs
@@ -223,30 +218,103 @@ module _ (ps qs : List Piece) where
   made (x ∷ xs) zero r e = record { of = x; at = refl; is = cc }
   made (x ∷ xs) (suc m) r e = let d = made xs m r e in record { of = d.of; at = d.at; is = d.is }
 
-  -- what one has alone has no partner
-  record Alone (part : List (Option ℕ)) (all : List Piece) (x : Piece) : Type 0 where
+  -- after the first two rules
+  abbrev two : Partners
+  two = by_names ps qs
+
+  Named : Partners → Type 0
+  Named q = (i j : ℕ) (x y : Piece) → slice_get q.of_a i ≡ Some (Some j) → slice_get ps i ≡ Some x → slice_get qs j ≡ Some y → IsNamedAlike x y
+
+  by_name_and_place : (x y : Piece) → (is_eq (order_at NameAndPlace (Some x) (Some y)) && fits NameAndPlace x y) ≡ true → IsNamedAlike x y
+  unfolding by_name
+  by_name_and_place x y h = named_alike x y (both (as_long x y) _ (both _ _ h).1).1
+
+  by_the_name : (x y : Piece) → (is_eq (order_at Name (Some x) (Some y)) && fits Name x y) ≡ true → IsNamedAlike x y
+  unfolding order_at by_name
+  by_the_name x y h = named_alike x y (both _ true h).0
+
+  named_step : (r : Rule) → ((x y : Piece) → (is_eq (order_at r (Some x) (Some y)) && fits r x y) ≡ true → IsNamedAlike x y)
+      → (i j : ℕ) (q : Partners) → (is_eq (order_at r (slice_get ps i) (slice_get qs j)) && fits_at r (slice_get ps i) (slice_get qs j)) ≡ true → Named q → Named (joined i j q)
+  unfolding Named
+  named_step r meant i j q e n =
+      joined_kept Named i j q (λ a b k l x y h c d.
+      elim (set_either q.of_a i k (Some j) (Some l) h) [
+        | inl s ↦
+            (let same : l ≡ j = let t = s.1 in cc in
+            let c' : slice_get ps i ≡ Some x = ap (slice_get ps) (sym s.0) ∙ c in
+            let d' : slice_get qs j ≡ Some y = ap (slice_get qs) (sym same) ∙ d in
+            meant x y (sym (λ z. is_eq (order_at r (c' z) (d' z)) && fits_at r (c' z) (d' z)) ∙ e))
+        | inr g ↦ n k l x y g c d
+      ]) n
+
+  two_named : Named two
+  unfolding Named
+  two_named =
+      rule_by Named ps qs Name (named_step Name by_the_name) _
+      (rule_by Named ps qs NameAndPlace (named_step NameAndPlace by_name_and_place) (nobody ps qs) (λ i j x y e c d. absurd (nobody_there _ i j e)))
+
+  two_kept : (k l : ℕ) → slice_get two.of_a k ≡ Some (Some l) → slice_get p.of_a k ≡ Some (Some l)
+  unfolding partners_of Keeps
+  two_kept = near_keeps ps qs two _ (rule_keeps ps qs two Place two (λ k l e. e))
+
+  two_mutual : Mutual (length ps) (length qs) two
+  two_mutual = rule_mutual ps qs Name _ (rule_mutual ps qs NameAndPlace (nobody ps qs) (mutual_none ps qs))
+
+  -- the pair in which a piece of A, or of B, stands
+  record At (part : List (Option ℕ)) (all : List Piece) (x : Piece) (other : Option ℕ) : Type 0 where
     by : ℕ
     is : slice_get all by ≡ Some x
-    free : slice_get part by ≡ Some None
+    with : slice_get part by ≡ Some other
 
-  alone_in_a : (x : Pair) (it : Piece) → IsPair x → piece_numbered ps x.a ≡ Some it → piece_numbered qs x.b ≡ None → Alone p.of_a ps it
-  alone_in_a x it (in_a k a b f) c d = record { by = k; is = ap (piece_numbered ps) (sym a) ∙ c; free = f }
-  alone_in_a x it (in_b k a b f) c d = let n : piece_numbered ps x.a ≡ None = ap (piece_numbered ps) a in cc
-  alone_in_a x it (in_both k j own other a b f g) c d = let n : piece_numbered qs x.b ≡ slice_get qs j = ap (piece_numbered qs) b in cc
+  at_in_a : (x : Pair) (it : Piece) → IsPair x → piece_numbered ps x.a ≡ Some it → At p.of_a ps it x.b
+  at_in_a x it (in_a k a b f) c = record { by = k; is = ap (piece_numbered ps) (sym a) ∙ c; with = f ∙ ap (λ (o : Option ℕ). Some o) (sym b) }
+  at_in_a x it (in_b k a b f) c = let n : piece_numbered ps x.a ≡ None = ap (piece_numbered ps) a in cc
+  at_in_a x it (in_both k j a b f) c = record { by = k; is = ap (piece_numbered ps) (sym a) ∙ c; with = f ∙ ap (λ (o : Option ℕ). Some o) (sym b) }
 
-  alone_in_b : (x : Pair) (it : Piece) → IsPair x → piece_numbered ps x.a ≡ None → piece_numbered qs x.b ≡ Some it → Alone p.of_b qs it
-  alone_in_b x it (in_b k a b f) c d = record { by = k; is = ap (piece_numbered qs) (sym b) ∙ d; free = f }
-  alone_in_b x it (in_a k a b f) c d = let n : piece_numbered qs x.b ≡ None = ap (piece_numbered qs) b in cc
-  alone_in_b x it (in_both k j own other a b f g) c d = let n : piece_numbered ps x.a ≡ slice_get ps k = ap (piece_numbered ps) a in cc
+  at_in_b : (x : Pair) (it : Piece) → IsPair x → piece_numbered qs x.b ≡ Some it → At p.of_b qs it x.a
+  at_in_b x it (in_b k a b f) c = record { by = k; is = ap (piece_numbered qs) (sym b) ∙ c; with = f ∙ ap (λ (o : Option ℕ). Some o) (sym a) }
+  at_in_b x it (in_a k a b f) c = let n : piece_numbered qs x.b ≡ None = ap (piece_numbered qs) b in cc
+  at_in_b x it (in_both k j a b f) c = record { by = j; is = ap (piece_numbered qs) (sym b) ∙ c; with = m.there k j f ∙ ap (λ (o : Option ℕ). Some o) (sym a) }
+
+  inside_has : {X : Type 0} (xs : List X) (k : ℕ) → k < length xs → slice_get xs k ≡ None → ⊥
+  inside_has xs k h e = let t = there xs k h in let s = t.is in cc
+
+  named_row : (i j : ℕ) → slice_get two.of_a i ≡ Some (Some j) → AreNamed (slice_get ps i) (slice_get qs j)
+  unfolding Named
+  named_row i j e =
+      let t = there ps i (omega (arith, slice_get_within two.of_a i (Some j) e, two_mutual.long_a)) in
+      let u = there qs j (omega (arith, slice_get_within two.of_b j (Some i) (two_mutual.there i j e), two_mutual.long_b)) in
+      subst (λ (a : Option Piece). AreNamed a (slice_get qs j)) (sym t.is) (subst (AreNamed (Some t.it)) (sym u.is) (two_named i j t.it u.it e t.is u.is))
+
+  one_named : (x y : Piece) (i j : ℕ) (o n : Option ℕ) → slice_get ps i ≡ Some x → slice_get qs j ≡ Some y → slice_get p.of_a i ≡ Some o → slice_get p.of_b j ≡ Some n → IsNamedAlike x y
+      → AreNamed (Some x) (piece_numbered qs o) ⊎ AreNamed (piece_numbered ps n) (Some y)
+  one_named x y i j o n c d f g one = by (slice_get two.of_a i) (slice_get two.of_b j) refl refl
+    where
+      by : (v w : Option (Option ℕ)) → slice_get two.of_a i ≡ v → slice_get two.of_b j ≡ w → AreNamed (Some x) (piece_numbered qs o) ⊎ AreNamed (piece_numbered ps n) (Some y)
+      by None w a b = absurd (inside_has two.of_a i (omega (arith, slice_get_within ps i x c, two_mutual.long_a)) a)
+      by (Some (Some l)) w a b =
+          let same : Some l ≡ o = (let z = two_kept i l a in cc) in
+          inl (subst (λ (q : Option ℕ). AreNamed (Some x) (piece_numbered qs q)) same (subst (λ (q : Option Piece). AreNamed q (slice_get qs l)) c (named_row i l a)))
+      by (Some None) None a b = absurd (inside_has two.of_b j (omega (arith, slice_get_within qs j y d, two_mutual.long_b)) b)
+      by (Some None) (Some (Some k)) a b =
+          let back = two_mutual.back j k b in
+          let same : Some k ≡ n = (let z = m.there k j (two_kept k j back) in cc) in
+          inr (subst (λ (q : Option ℕ). AreNamed (piece_numbered ps q) (Some y)) same (subst (λ (q : Option Piece). AreNamed (slice_get ps k) q) d (named_row k j back)))
+      by (Some None) (Some None) a b = absurd (left_apart ps qs i j x y c d a b one)
 
   apart : AreApart (rows_of ps qs)
   unfolding rows_of ArePairs
-  apart i j r s x y e f ra rb sa sb alike_named =
+  apart i j r s x y e f ra sb alike_named =
       let u = made (pairs_of p) i r e in
       let v = made (pairs_of p) j s f in
-      let one = alone_in_a u.of x (all_pairs i u.of u.at) (ap (λ (z : Row). z.a) u.is ∙ ra) (ap (λ (z : Row). z.b) u.is ∙ rb) in
-      let other = alone_in_b v.of y (all_pairs j v.of v.at) (ap (λ (z : Row). z.a) v.is ∙ sa) (ap (λ (z : Row). z.b) v.is ∙ sb) in
-      left_apart ps qs one.by other.by x y one.is other.is one.free other.free alike_named
+      let a_is : piece_numbered ps u.of.a ≡ r.a = ap (λ (z : Row). z.a) u.is in
+      let b_is : piece_numbered qs v.of.b ≡ s.b = ap (λ (z : Row). z.b) v.is in
+      let one = at_in_a u.of x (all_pairs i u.of u.at) (a_is ∙ ra) in
+      let other = at_in_b v.of y (all_pairs j v.of v.at) (b_is ∙ sb) in
+      elim (one_named x y one.by other.by u.of.b v.of.a one.is other.is one.with other.with alike_named) [
+        | inl n ↦ inl (subst (λ (o : Option Piece). AreNamed o r.b) (sym ra) (subst (AreNamed (Some x)) (ap (λ (z : Row). z.b) u.is) n))
+        | inr n ↦ inr (subst (AreNamed s.a) (sym sb) (subst (λ (o : Option Piece). AreNamed o (Some y)) (ap (λ (z : Row). z.a) v.is) n))
+      ]
 
 pub rows_meant : RowsMeant
 rows_meant = record { ours = ours; theirs = theirs; each = each; apart = apart }

@@ -5,3 +5,4 @@ pub mod Told
 pub mod Counts
 pub mod Json
 pub mod Meant
+pub mod Alike

@@ -31,10 +31,16 @@ abbrev pub AreRows : List Row → Type 0
 AreRows [] = Unit {0}
 AreRows (r ∷ rows) = IsRow r.a r.b × AreRows rows
 
--- no entry that A has alone is named like one that B has alone
+-- a row whose two are named alike
+abbrev pub AreNamed : Option Piece → Option Piece → Type 0
+AreNamed None q = ⊥
+AreNamed (Some p) None = ⊥
+AreNamed (Some p) (Some q) = IsNamedAlike p q
+
+-- names go before places: of an entry of A and one of B that are named alike, one at least is told with one named like it
 abbrev pub AreApart : List Row → Type 0
 AreApart rows = (m n : ℕ) (r s : Row) (p q : Piece) → slice_get rows m ≡ Some r → slice_get rows n ≡ Some s
-    → r.a ≡ Some p → r.b ≡ None → s.a ≡ None → s.b ≡ Some q → ¬ IsNamedAlike p q
+    → r.a ≡ Some p → s.b ≡ Some q → IsNamedAlike p q → AreNamed r.a r.b ⊎ AreNamed s.a s.b
 
 -- A's pieces in their order, each once; B's, each once; and nothing else
 pub record RowsMeant : Type 0 where
