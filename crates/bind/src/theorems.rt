@@ -11,7 +11,7 @@ pub fn rig_bound()
     ensures { RigBound }
 {}
 
-/// Of a second controller too: long paths, offsets and subscripts up to the last, sixteen data types one behind another and not seventeen, arrays of arrays, more than one flag.
+/// Of a second controller too: long paths, offsets and subscripts up to the last, sixteen data types one behind another and not seventeen, arrays of arrays, more than one flag, pointers.
 pub fn edges_bound()
     ensures { EdgesBound }
 {}
