@@ -9,6 +9,7 @@ by_kind : ErrorKind → ℕ
 by_kind k = if is_reader_gone k then 0 else 2
 
 pub status_meant : StatusMeant
+unfolding by_kind
 status_meant = record {
   done = refl;
   not_all = refl;
