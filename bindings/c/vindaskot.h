@@ -872,7 +872,8 @@ uint32_t vindaskot_type_branch_ordered_in(const uint8_t *bytes, size_t bytes_len
 /* ---- Binding ---- */
 
 /* What an address's slots hold. Places are in the upload that the entry stands in: 0 of symbols, 1 of data types. The
- * type's name is Windows-1252 and stands behind the entry's start by its place, as after a step. */
+ * type's name is Windows-1252 and stands behind the entry's start by its place, as after a step; of an element it is that
+ * of all of the array's elements, or that of the array, as the entry has it. */
 enum {
     VINDASKOT_ADDRESS_GROUP,
     VINDASKOT_ADDRESS_OFFSET,
