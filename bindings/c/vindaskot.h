@@ -1,4 +1,5 @@
-/* Vindaskot for C: reads, walks, writes, indexes, finds in and salvages TwinCAT symbol uploads.
+/* Vindaskot for C: reads, walks, writes, indexes, finds in and salvages TwinCAT symbol uploads, reads and finds data
+ * types, and binds the paths of variables to their addresses.
  *
  * Link libvindaskot.a, which `tools/archive` makes in target/staticlib and `tools/install` puts where C builds look.
  * It is for x86-64 processors of level 2 (x86-64-v2: SSE4.2 and POPCNT) and later and the System V calling
@@ -107,7 +108,7 @@ extern "C" {
 #define VINDASKOT_FINISHED 100u
 #define VINDASKOT_OUT_OF_STEPS 101u
 
-/* The refusals. Numbers from 20 to 99 may be added, and leave the number of the interface as it is. */
+/* The refusals. Numbers up to 99 may be added behind the last, and leave the number of the interface as it is. */
 #define VINDASKOT_REFUSED_UNEXPECTED_LENGTH 1u
 #define VINDASKOT_REFUSED_TOO_SHORT 2u
 #define VINDASKOT_REFUSED_ENTRY_LENGTH_MISMATCH 3u
@@ -524,7 +525,7 @@ uint32_t vindaskot_plain(const uint8_t *bytes, size_t bytes_length,
  * before it is read. answer[0]: one for every 33 bytes, rounded down, since an accepted symbol has at least 33.
  * Lent that many or more, vindaskot_index_build, vindaskot_index_build_in and vindaskot_name_index_build_in are
  * never refused with 6, in either mode and whatever the bytes are; 5 and 10 stay. No smaller number will do: some
- * upload of that length needs all of them. Refusal: 5. */
+ * upload of that length needs all of them. Those of data types need fewer. Refusal: 5. */
 uint32_t vindaskot_room(size_t length, uint64_t answer[VINDASKOT_AT_LEAST VINDASKOT_FIGURES]);
 
 /* The room of the largest upload, for starts set aside once for all uploads: 2 MB, more than many a stack has. */
