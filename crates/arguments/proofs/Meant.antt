@@ -14,7 +14,7 @@ use Rattle.arguments.specs.declared.options.Said.{Said}
 use Rattle.arguments.specs.declared.options.Said.TheVariants.{Help, Version, Given}
 use Rattle.arguments.specs.declared.misuse.Misuse.{Misuse}
 use Rattle.arguments.specs.Words.{Word, is_option, ends_options, operands_of}
-use Rattle.arguments.specs.Options.{taken, long, short, alone, marked, in_form, without_value, with_flag, flag_of, and_then, none_given, options_from, options_of}
+use Rattle.arguments.specs.Options.{taken, long, short, alone, marked, in_form, without_value, with_flag, word_of, flag_of, and_then, none_given, options_from, options_of}
 use Rattle.arguments.specs.Command.{unsuited, unsuited_to_room, command_of, task_of}
 use Rattle.arguments.specs.Request.{read_of, request_of, suited, without_more, run_of, asked_of, of_a_word, bind_of, compare_of, find_of, other_file, sheet_of, import_of, export_of, captures_of, against_captures, make_of, room_of, length_of, as_said, of_word, of_command}
 use Rattle.arguments.specs.declared.options.Flag.{Flag}
@@ -224,9 +224,18 @@ any_order o v w line f g =
     let a = does v.now f in let b = does w.now g in
     two o v w line a b ∙ ap (λ r. and_then (λ p. options_from p line) (said r)) (exchanged o a.which b.which) ∙ sym (two o w v line b a)
 
+told : (f : Flag) → flag_of (word_of f) ≡ Some f
+unfolding flag_of
+told flag.Binary = refl
+told flag.Hexadecimal = refl
+told flag.Checked = refl
+told flag.Json = refl
+told flag.Sorted = refl
+
 pub options_meant : OptionsMeant
 unfolding options_from taken long short alone marked with_flag flag_of
 options_meant = record {
+  told = told;
   any_order = any_order;
   no_word = refl;
   binary = refl;

@@ -4,13 +4,14 @@ use Rattle.std.specs.List.{list_all, list_any}
 use Rattle.std.specs.Str.{bytes_eq}
 use Rattle.upload.specs.declared.Form.TheVariants.{Binary, Hexadecimal}
 use Rattle.refusal.specs.declared.Mode.TheVariants.{Present, Checked}
+use Rattle.arguments.specs.declared.options.Flag.{Flag}
 use Rattle.arguments.specs.declared.options.Options.{Options}
 use Rattle.arguments.specs.declared.options.Said.TheVariants.{Help, Version, Given}
 use Rattle.arguments.specs.declared.misuse.Misuse.TheVariants.{UnknownOption, UnknownLetters, Valued, Against, Unfit}
 use Rattle.arguments.specs.declared.misuse.Rule.TheVariants.{OneForm}
 use Rattle.arguments.specs.declared.misuse.Expected.TheVariants.{Command}
 use Rattle.arguments.specs.Words.{Word, operands_of}
-use Rattle.arguments.specs.Options.{options_from, options_of}
+use Rattle.arguments.specs.Options.{word_of, flag_of, options_from, options_of}
 use Rattle.arguments.specs.Request.{read_of}
 
 -- standard input, no text, or what does not begin with a dash
@@ -52,6 +53,8 @@ none = record { form = None; mode = Present; json = false; sorted = false }
 
 -- which of two stands first is all one; what each says; and what is none
 pub record OptionsMeant : Type 0 where
+  -- the word that is told for an option is read as that option
+  pub told : (f : Flag) → flag_of (word_of f) ≡ Some f
   pub any_order : (o : Options) (v w : Word) (line : List Word) → IsFlag v.now → IsFlag w.now → options_from o (v ∷ w ∷ line) ≡ options_from o (w ∷ v ∷ line)
   pub no_word : options_of [] ≡ Ok (Given none)
   pub binary : options_of (lying (codes "--binary") ∷ []) ≡ Ok (Given (record none { form = Some Binary }))

@@ -18,6 +18,21 @@ use Rattle.arguments.specs.Words.{Word, is_option, ends_options}
 abbrev pub none_given : Options
 none_given = record { form = None; mode = Present; json = false; sorted = false }
 
+-- an option's word, and whom it is for
+abbrev pub word_of : Flag → List ℕ
+word_of flag.Binary = codes "--binary"
+word_of flag.Hexadecimal = codes "--hex"
+word_of flag.Checked = codes "--checked"
+word_of flag.Json = codes "--json"
+word_of flag.Sorted = codes "--sorted"
+
+abbrev pub users_of : Flag → List ℕ
+users_of flag.Binary = codes "a file"
+users_of flag.Hexadecimal = codes "a file"
+users_of flag.Checked = codes "a file"
+users_of flag.Json = codes "list, branch, type, compare and bind"
+users_of flag.Sorted = codes "list"
+
 unfoldable pub flag_of : List ℕ → Option Flag
 flag_of name =
     if bytes_eq name (codes "--binary") then Some flag.Binary

@@ -2,7 +2,7 @@
 
 ghost use Rattle.std.specs.Prelude.{◌≡◌, ◌==◌};
 ghost use Rattle.std.specs.List.{list_any, before_first};
-ghost use Rattle.arguments.specs.Options.{flag_of, with_flag, alone, marked, long, short, taken, options_from, options_of, none_given};
+ghost use Rattle.arguments.specs.Options.{word_of, users_of, flag_of, with_flag, alone, marked, long, short, taken, options_from, options_of, none_given};
 
 use crate::misuse::{Misuse, Rule};
 use crate::operands::{ends_options, is_option};
@@ -26,7 +26,9 @@ pub enum Flag {
 
 impl Flag {
     /// The word for it.
-    pub fn word(self) -> &'static str {
+    pub fn word(self) -> &'static str
+        ensures { result.now ≡ word_of self }
+    {
         match self {
             Flag::Binary => "--binary",
             Flag::Hexadecimal => "--hex",
@@ -37,7 +39,9 @@ impl Flag {
     }
 
     /// Whom it is for.
-    pub fn users(self) -> &'static str {
+    pub fn users(self) -> &'static str
+        ensures { result.now ≡ users_of self }
+    {
         match self {
             Flag::Binary | Flag::Hexadecimal | Flag::Checked => "a file",
             Flag::Json => "list, branch, type, compare and bind",
