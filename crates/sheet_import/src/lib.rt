@@ -131,9 +131,8 @@ fn put_upload(rows: Rows<'_>, upload: &mut [u8])
     }
 }
 
-/// Writes the upload of a sheet, and gives how many bytes it has. The sheet is gone through five times before a byte is
-/// written: for its rows and numbers, for its text, for how long its strings are, and where they have quotes; and in the end once
-/// more.
+/// Writes the upload of a sheet, and gives how many bytes it has. The rows are gone through three times, for their faults, for how
+/// long their strings are, and to write them, and the text once; nothing is written before all of it is known to be good.
 ///
 /// # Errors
 ///
