@@ -84,45 +84,38 @@ parts_meant = record {
   none = λ path why m. ap (part_at path) (placed why ∙ m);
 }
 
-else_alike : (why : Refusal) → (figures_of why).number ≢ 14 → (figures_of why).number ≢ 22 → reason_text why ≡ refusal_text why
+else_alike : (why : Refusal) → (figures_of why).number ≢ 14 → reason_text why ≡ refusal_text why
 unfolding reason_text
-else_alike (UnexpectedLength a b) h k = refl
-else_alike (TooShort a b) h k = refl
-else_alike (EntryLengthMismatch a b) h k = refl
-else_alike (ClaimBelowHeader a b) h k = refl
-else_alike (TooLarge a) h k = refl
-else_alike (OutputTooSmall a b) h k = refl
-else_alike (TooLong a b) h k = refl
-else_alike (SectionsDisagree a) h k = refl
-else_alike (BadBlock a b) h k = refl
-else_alike ZeroEntryLength h k = refl
-else_alike (BadText a b) h k = refl
-else_alike BadHexadecimal h k = refl
-else_alike NameNotFound h k = refl
-else_alike (NoSuchNumber a b) h k = absurd (h refl)
-else_alike TooDeep h k = refl
-else_alike (EndByte a b) h k = refl
-else_alike (NotInSheet a b) h k = refl
-else_alike (BadSheet a b) h k = refl
-else_alike (NotPlain a) h k = refl
-else_alike (BadPath a) h k = refl
-else_alike (NoSuchMember a) h k = refl
-else_alike (NoSuchType a) h k = refl
-else_alike (WrongDimensions a b) h k = refl
-else_alike (NoOffset a b) h k = absurd (k refl)
-else_alike (OffsetTooLarge a) h k = refl
-else_alike (TooManyAliases a) h k = refl
-
-unmarked : (place flag : ℕ) → flag ≢ 0x400 → flag ≢ 0x800000 → reason_text (NoOffset place flag) ≡ refusal_text (NoOffset place flag)
-unfolding reason_text
-unmarked place flag h k = rw (ne_eqb flag 0x400 h, ne_eqb flag 0x800000 k) refl
+else_alike (UnexpectedLength a b) h = refl
+else_alike (TooShort a b) h = refl
+else_alike (EntryLengthMismatch a b) h = refl
+else_alike (ClaimBelowHeader a b) h = refl
+else_alike (TooLarge a) h = refl
+else_alike (OutputTooSmall a b) h = refl
+else_alike (TooLong a b) h = refl
+else_alike (SectionsDisagree a) h = refl
+else_alike (BadBlock a b) h = refl
+else_alike ZeroEntryLength h = refl
+else_alike (BadText a b) h = refl
+else_alike BadHexadecimal h = refl
+else_alike NameNotFound h = refl
+else_alike (NoSuchNumber a b) h = absurd (h refl)
+else_alike TooDeep h = refl
+else_alike (EndByte a b) h = refl
+else_alike (NotInSheet a b) h = refl
+else_alike (BadSheet a b) h = refl
+else_alike (NotPlain a) h = refl
+else_alike (BadPath a) h = refl
+else_alike (NoSuchMember a) h = refl
+else_alike (NoSuchType a) h = refl
+else_alike (WrongDimensions a b) h = refl
+else_alike (NoOffset a b) h = refl
+else_alike (OffsetTooLarge a) h = refl
+else_alike (TooManyAliases a) h = refl
 
 pub reasons_meant : ReasonsMeant
 unfolding reason_text grouped grouped_by digits
 reasons_meant = record {
   subscript = refl;
-  interface = refl;
-  pointer = refl;
-  no_pointer = unmarked;
   all_else = else_alike;
 }

@@ -6,7 +6,7 @@ use Rattle.part.specs.Slice.{part}
 use Rattle.refusal.specs.Refusal.{figures_of}
 use Rattle.refusal.specs.declared.Figures.{Figures}
 use Rattle.refusal.specs.declared.Refusal.{Refusal}
-use Rattle.refusal.specs.declared.Refusal.TheVariants.{NoSuchNumber, NoOffset}
+use Rattle.refusal.specs.declared.Refusal.TheVariants.{NoSuchNumber}
 use Rattle.wording.specs.Text.{quoted}
 use Rattle.wording.specs.Wording.{refusal_text}
 use Rattle.report.specs.Meant.{member, object}
@@ -81,10 +81,7 @@ pub record PathLinesMeant : Type 0 where
       → json_line b ≡ object (refused_members b.path.now why (quoted p.now)) ++ codes "\n"
   pub none : (b : Bound) (why : Refusal) → b.answer ≡ Err why → refused_part b.path why ≡ None → json_line b ≡ object (refused_members b.path.now why (codes "null")) ++ codes "\n"
 
--- the words of a refusal are those that it has anywhere, but for 14, whose second figure is a place in the path, and for 22 below a pointer, which only a path meets
+-- the words of a refusal are those that it has anywhere, but for 14, whose second figure is a place in the path
 pub record ReasonsMeant : Type 0 where
   pub subscript : reason_text (NoSuchNumber 1234 5678) ≡ codes "refusal 14, no such number: 1,234 elements there, and none is the subscript at byte 5,678 of the path"
-  pub interface : reason_text (NoOffset 1234 0x400) ≡ codes "refusal 22, no offset: at byte 1,234 of the path, below a pointer"
-  pub pointer : reason_text (NoOffset 5678 0x800000) ≡ codes "refusal 22, no offset: at byte 5,678 of the path, below a pointer"
-  pub no_pointer : (place flag : ℕ) → flag ≢ 0x400 → flag ≢ 0x800000 → reason_text (NoOffset place flag) ≡ refusal_text (NoOffset place flag)
-  pub all_else : (why : Refusal) → (figures_of why).number ≢ 14 → (figures_of why).number ≢ 22 → reason_text why ≡ refusal_text why
+  pub all_else : (why : Refusal) → (figures_of why).number ≢ 14 → reason_text why ≡ refusal_text why

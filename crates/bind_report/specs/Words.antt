@@ -7,16 +7,10 @@ use Rattle.refusal.specs.declared.Refusal.{Refusal}
 use Rattle.refusal.specs.declared.Refusal.TheVariants.{NoSuchNumber, BadPath, NoSuchMember, NoSuchType, WrongDimensions, NoOffset, TooManyAliases}
 use Rattle.wording.specs.Wording.{grouped, refusal_text}
 
--- by the flag of what has no offset: below a pointer to an interface, or below another pointer
-abbrev pub is_pointer : ℕ → Bool
-is_pointer flag = flag == 0x400 || flag == 0x800000
-
--- the second figure of 14 is a place here, and not what was asked for; and below a pointer nothing has an offset
+-- the second figure of 14 is a place here, and not what was asked for
 unfoldable pub reason_text : Refusal → List ℕ
 reason_text (NoSuchNumber count place) =
     codes "refusal 14, no such number: " ++ (grouped count ++ (codes " elements there, and none is the subscript at byte " ++ (grouped place ++ codes " of the path")))
-reason_text (NoOffset place flag) =
-    if is_pointer flag then codes "refusal 22, no offset: at byte " ++ (grouped place ++ codes " of the path, below a pointer") else refusal_text (NoOffset place flag)
 reason_text why = refusal_text why
 
 -- where in the path the part begins that was refused, if it was one part

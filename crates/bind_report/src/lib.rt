@@ -6,7 +6,7 @@ ghost use Rattle.std.specs.List.{position_or_len};
 ghost use Rattle.bind_report.specs.Aligned.{AddressTablesMeant};
 ghost use Rattle.bind_report.specs.Meant.{PathLinesMeant, PartsMeant, ReasonsMeant};
 ghost use Rattle.bind_report.specs.Sample.{PathsSampled};
-ghost use Rattle.bind_report.specs.Words.{is_pointer, reason_text, place_of, ends_part, part_from, part_at, refused_part};
+ghost use Rattle.bind_report.specs.Words.{reason_text, place_of, ends_part, part_from, part_at, refused_part};
 
 pub mod json;
 pub mod table;
@@ -25,8 +25,7 @@ pub struct Bound<'a> {
     pub answer: Result<Address<'a>, Refusal>,
 }
 
-/// Why a path has no address, in words. The second figure of 14 is a place here, and not what was asked for; and 22 is told below a
-/// pointer too.
+/// Why a path has no address, in words. The second figure of 14 is a place here, and not what was asked for.
 #[derive(Clone, Copy)]
 pub struct Reason<'a>(pub &'a Refusal);
 
@@ -43,23 +42,9 @@ impl fmt::Display for Reason<'_> {
                     "refusal 14, no such number: {count} elements there, and none is the subscript at byte {asked} of the path"
                 )
             }
-            Refusal::NoOffset { place, flag } if is_pointer(*flag) => {
-                let place = Grouped(*place);
-                write!(
-                    f,
-                    "refusal 22, no offset: at byte {place} of the path, below a pointer"
-                )
-            }
             why => InWords(why).fmt(f),
         }
     }
-}
-
-// By the flag of what has no offset.
-fn is_pointer(flag: usize) -> bool
-    ensures { result ≡ is_pointer flag }
-{
-    flag == 0x400 || flag == 0x800000
 }
 
 // Where in the path the part begins that was refused, if it was one part.

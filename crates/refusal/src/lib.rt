@@ -85,7 +85,7 @@ pub enum Refusal {
     /// 21: subscripts of a path, by their place there, that are not as many as there are dimensions.
     WrongDimensions { place: usize, dimensions: usize },
     /// 22: a part of a path, by its place there, that has no offset: flag 0x2 below a symbol of a bit, 4 a reference, 0x40 a property,
-    /// 0x20000 a static member.
+    /// 0x20000 a static member, 0x400 and 0x800000 below a pointer.
     NoOffset { place: usize, flag: usize },
     /// 23: an index offset above 32 bits.
     OffsetTooLarge { offset: usize },

@@ -54,6 +54,8 @@ pub record RefusalsTold : Type 0 where
   pub below_bit : refusal_text (NoOffset 5 0x2) ≡ codes "refusal 22, no offset: at byte 5 of the path, below a symbol of a bit"
   pub reference : refusal_text (NoOffset 6 0x4) ≡ codes "refusal 22, no offset: at byte 6 of the path, a reference"
   pub property : refusal_text (NoOffset 7 0x40) ≡ codes "refusal 22, no offset: at byte 7 of the path, a property"
+  pub interface : refusal_text (NoOffset 1234 0x400) ≡ codes "refusal 22, no offset: at byte 1,234 of the path, below a pointer"
+  pub pointer : refusal_text (NoOffset 5678 0x800000) ≡ codes "refusal 22, no offset: at byte 5,678 of the path, below a pointer"
   pub static_member : refusal_text (NoOffset 8 0x20000) ≡ codes "refusal 22, no offset: at byte 8 of the path, a static member"
   pub offset : refusal_text (OffsetTooLarge 4294967296) ≡ codes "refusal 23, index offset too large: 4,294,967,295 at most, 4,294,967,296 here"
   pub aliases : refusal_text (TooManyAliases 9) ≡ codes "refusal 24, too many aliases: at byte 9 of the path, more than 16 in a row"
