@@ -7,8 +7,9 @@
  * which the C library has and a program without one has to bring along, and nothing else.
  *
  * Every function is proved to meet a contract: the status, the answer and every lent buffer afterwards are a function
- * of the inputs (crates/vindaskot/src). None allocates, keeps a pointer or anything else between calls, or prints:
- * any thread may call.
+ * of the inputs (crates/vindaskot/src); where halving goes through starts in another order than that of the names, it is
+ * proved that what is answered is true of some of them. None allocates, keeps a pointer or anything else between calls,
+ * or prints: any thread may call.
  *
  * How a call answers
  *   The result is a status:
@@ -69,9 +70,8 @@
  *   12  bad hexadecimal line                            0, 0
  *   13  name not found                                  0, 0; of a path the place of the part in it, and 1 where no
  *                                                       member has its name, 2 where no data type has its type's
- *   14  no such attribute, refactor, array or member,   how many there are, number asked; of a subscript of a path
- *       or a subscript outside its bounds               the elements of its dimension, its place in the path
- *       number
+ *   14  no attribute, refactor, array or member of that  how many there are, number asked; of a subscript of a path
+ *       number, or a subscript outside its bounds       the elements of its dimension, its place in the path
  *   15  data type entries nest too deep                 16, 17
  *   16  checked mode: an end byte is not 0              its place in the entry (in a record or a chain by itself, from
  *                                                       bytes[0] on), the byte
@@ -358,7 +358,7 @@ uint32_t vindaskot_field_attribute_named(const uint8_t *bytes, size_t bytes_leng
                                          uint64_t slots[VINDASKOT_AT_LEAST VINDASKOT_ATTRIBUTE_SLOTS],
                                          uint64_t answer[VINDASKOT_AT_LEAST VINDASKOT_FIGURES]);
 
-/* ---- The bounded walk, over symbols and over fields ---- */
+/* ---- The bounded walk, over symbols, fields and data types ---- */
 
 /* Makes at most `allowed` steps from *cursor on, reading no more of an entry than its length. *steps is how many
  * were made, *cursor where they led. Status: VINDASKOT_FINISHED at the end, else VINDASKOT_OUT_OF_STEPS; 10 (1, 0)
@@ -400,7 +400,8 @@ uint32_t vindaskot_type_flags_read(const uint8_t *bytes, size_t bytes_length,
                                    uint64_t answer[VINDASKOT_AT_LEAST VINDASKOT_FIGURES]);
 
 /* The flags, by the maker's names. Of a symbol's, TYPE_GUID, ATTRIBUTES and EXTENDED_FLAGS say which sections an
- * entry has, and nothing in this library depends on the others. */
+ * entry has. Binding (vindaskot_bind_in) asks for BIT_VALUE and REFERENCE_TO, and nothing in this library depends on
+ * the others. */
 #define VINDASKOT_SYMBOL_FLAG_PERSISTENT 0x0001u         /* the value outlives a restart */
 #define VINDASKOT_SYMBOL_FLAG_BIT_VALUE 0x0002u          /* bits: a single one, and slot SIZE is 0 */
 #define VINDASKOT_SYMBOL_FLAG_REFERENCE_TO 0x0004u       /* a reference to another variable */
@@ -422,8 +423,9 @@ uint32_t vindaskot_type_flags_read(const uint8_t *bytes, size_t bytes_length,
 #define VINDASKOT_SYMBOL2_FLAG_VARIANT_TYPE 0x00000010u
 
 /* A field's, a data type's and a member's. REFERENCE_TO, BIT_VALUES, PROP_ITEM and STATIC say what an offset is:
- * see the data types. TYPE_GUID, COPY_MASK, METHOD_INFOS and ATTRIBUTES say which sections an entry has. Nothing
- * in this library depends on the others. */
+ * see the data types. TYPE_GUID, COPY_MASK, METHOD_INFOS and ATTRIBUTES say which sections an entry has. Binding
+ * (vindaskot_bind_in) asks for the former four, TCOM_INTERFACE_PTR and PLC_POINTER_TYPE, and nothing in this library
+ * depends on the others. */
 #define VINDASKOT_TYPE_FLAG_DATA_TYPE 0x00000001u
 #define VINDASKOT_TYPE_FLAG_DATA_ITEM 0x00000002u
 #define VINDASKOT_TYPE_FLAG_REFERENCE_TO 0x00000004u /* a reference */
@@ -691,9 +693,9 @@ uint32_t vindaskot_salvage_in(const uint8_t *bytes, size_t bytes_length, bool ch
  * The first of them refuses the whole type, and its figures count in the entry that it is about, from that entry's own
  * start. Sections behind the attributes are not read, and what follows the root's claim is not looked at. */
 
-/* Offsets are told as sent, and no call depends on what the flags say of them. Offset and size are bytes, and the
- * offset is where the member's data lie in the data of what it is a member of, but for an entry, a field by itself too,
- * that has (VINDASKOT_TYPE_FLAG_..)
+/* Offsets are told as sent, and no call but vindaskot_bind_in depends on what the flags say of them. Offset and size
+ * are bytes, and the offset is where the member's data lie in the data of what it is a member of, but for an entry, a
+ * field by itself too, that has (VINDASKOT_TYPE_FLAG_..)
  *   BIT_VALUES     its own offset and size are bits
  *   STATIC         its data do not lie there: its offset is not to be used
  *   PROP_ITEM      a property: code reads and writes it, and it has no data there
@@ -757,9 +759,10 @@ enum {
 
 #define VINDASKOT_TYPE_STACK 24576u
 
-/* A tree is read by calls within calls, one or more a level. Of the stack none of the seven takes more than
- * VINDASKOT_TYPE_STACK bytes, whatever the tree, from the call's return address down to the end of all that it calls;
- * this is measured on the compiled archive (docs/BOUNDARY.md) and not proved. */
+/* A tree is read by calls within calls, one or more a level. Of the stack none of the seven calls from here to
+ * vindaskot_type_members_in takes more than VINDASKOT_TYPE_STACK bytes, whatever the tree, from the call's return
+ * address down to the end of all that it calls; this is measured on the compiled archive (docs/BOUNDARY.md) and not
+ * proved. */
 
 /* The data type at the start of bytes: the root's record. Refusals: the reading refusals. */
 uint32_t vindaskot_type_read_in(const uint8_t *bytes, size_t bytes_length, bool checked,

@@ -22,8 +22,9 @@ pub const DEPTH_MOST: usize = sys::DEPTH_MOST;
 /// Slots that each member takes in what is lent to [`DataType::members`].
 pub const MEMBER_SLOTS: usize = sys::MEMBER_SLOTS;
 
-/// Bytes of stack that a call of the archive over a data type takes at most, whatever stands in it: for callers that have
-/// little. It is measured and not proved, and what Rust puts around the call comes on top.
+/// Bytes of stack that a call of the archive that reads a data type, its attributes or its members takes at most,
+/// whatever stands in it: for callers that have little. It is measured and not proved, and what Rust puts around the call
+/// comes on top.
 pub const STACK: usize = sys::TYPE_STACK;
 
 /// The places that a path can have: the root, at depth 1, has none.

@@ -49,10 +49,10 @@ pub enum RefusalKind {
     ZeroEntryLength = sys::REFUSED_ZERO_ENTRY_LENGTH,
     /// Text that can't be converted: byte place, 1 not UTF-8 or 2 no Windows-1252 byte.
     BadText = sys::REFUSED_BAD_TEXT,
-    /// A bad hexadecimal line, which only the listing program refuses: 0, 0.
+    /// A bad hexadecimal line, of a capture or of what the listing program reads: 0, 0.
     BadHexadecimal = sys::REFUSED_BAD_HEXADECIMAL,
-    /// No accepted symbol, or no attribute of the entry, has that name: 0, 0. Of a path, no member has the name of the part
-    /// at that place, or no data type that of its type: the place, 1 for a member, 2 for a type.
+    /// No accepted symbol or data type, or no attribute of the entry, has that name: 0, 0. Of a path, no member has the
+    /// name of the part at that place, or no data type that of its type: the place, 1 for a member, 2 for a type.
     NameNotFound = sys::REFUSED_NAME_NOT_FOUND,
     /// No attribute, refactor record, array record or member has that number: how many there are, number asked. Of a path,
     /// a subscript is outside its bounds: the elements of its dimension, the place of the subscript.
