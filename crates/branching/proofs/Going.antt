@@ -43,9 +43,6 @@ module _ (u : Upload) (xs : List ℕ) (i : ℕ) (inside : i < length xs) where
   turn : drop i xs ≡ get_or xs i 0 ∷ drop (i + 1) xs
   turn = rw add-one (drop-cons xs i 0 inside)
 
-  pub nothing_here : None ≡ here → left ≡ rest
-  nothing_here e = ap (entries_at u) turn ∙ simp (sym e)
-
   pub something_here : (p : Piece AdsSymbolInfo) → Some p ≡ here → left ≡ p ∷ rest
   something_here p e = ap (entries_at u) turn ∙ simp (sym e)
 

@@ -14,10 +14,6 @@ abbrev pub with_before : ℕ → Result SubItemsRead Refusal → Result SubItems
 with_before n (Ok items) = Ok (record { rest = items.rest; members = n + items.members })
 with_before n (Err why) = Err why
 
-pub before_none : (r : Result SubItemsRead Refusal) → with_before 0 r ≡ r
-before_none (Ok items) = let z : 0 + items.members ≡ items.members = omega arith in ap (λ (n : ℕ). Ok (record { rest = items.rest; members = n })) z
-before_none (Err why) = refl
-
 module _ (item : ItemReader) (n : ℕ) (s : Bor (List ℕ)) where
   pub items_none : (left : ℕ) → left ≤ 0 → with_before n (items_from item s left) ≡ Ok (record { rest = s; members = n })
   unfolding items_from

@@ -25,9 +25,6 @@ pub few_starts : {R : Type 0} (ps : List (Piece R)) → length (starts ps) ≤ l
 unfolding starts
 few_starts ps = simp (length-map, length-filter) (count_by-le-length accepts ps)
 
-pub starts_fit : {R : Type 0} (read : Bor (List ℕ) → Result R Refusal) (s : Bor (List ℕ)) → length (starts (pieces read s)) ≤ length s.now
-starts_fit read s = omega (arith, few_starts (pieces read s), few_pieces read s (length s.now) 0)
-
 pub all_small : {R : Type 0} (read : Bor (List ℕ) → Result R Refusal) (s : Bor (List ℕ)) → length s.now ≤ limit → All (λ p. p.start ≤ limit) (pieces read s)
 all_small read s h = All-weaker (λ p. p.start < length s.now) (λ p. p.start ≤ limit) (λ p q. omega arith) (pieces read s) (all_inside read s (length s.now) 0)
 
@@ -73,9 +70,6 @@ module _ {R : Type 0} {old slots all : List ℕ} {count : ℕ} {left rest : List
 
   pub room_ok : is_ok p.answer ≡ true → count < length slots
   room_ok e = omega (arith, k.room, ap length (starts_ok left rest p turn e))
-
-  pub first_small : p.start ≤ limit
-  first_small = All-head (λ p. p.start ≤ limit) p rest (simp turn at k.small)
 
 pub kept_end : {R : Type 0} {old slots all : List ℕ} {count : ℕ} {left : List (Piece R)} → left ≡ [] → Kept old slots count all left → slots ≡ put old 0 all
 kept_end {R} {old} {slots} {all} {count} {left} e k = sym (ap (put slots count) (starts_none left e) ∙ put_none slots count) ∙ k.written

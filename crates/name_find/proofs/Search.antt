@@ -35,9 +35,6 @@ module _ (test : ℕ → Bool) (slots : List ℕ) where
     pub looked_at : test (get_or slots i 0) ≡ true → first_of test (drop i slots) ≡ Some (get_or slots i 0)
     looked_at e = rw (drop-cons slots i 0 h) (simp e refl)
 
-  pub looked_end : (i : ℕ) → length slots ≤ i → first_of test (drop i slots) ≡ None
-  looked_end i h = ap (first_of test) (drop_of_length-le slots {i = i} h)
-
 -- of a kind of entry, in a mode
 module _ {R : Type 0} (name_of : R → List ℕ) (read : Bor (List ℕ) → Result R Refusal) where
   -- an entry's own bytes give a record of that name
