@@ -1,0 +1,5 @@
+pub mod Pieces
+pub mod Pairs
+pub mod Rows
+pub mod Told
+pub mod Alike
