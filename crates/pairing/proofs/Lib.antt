@@ -8,3 +8,7 @@ pub mod Apart
 pub mod Told
 pub mod Alike
 pub mod Twins
+pub mod Laid
+pub mod Places
+pub mod Near
+pub mod Rules

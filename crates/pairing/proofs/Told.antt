@@ -75,6 +75,14 @@ one_of Place p q h =
     placed (one_place p.place q.place (both _ _ h).0)
     (elim (either (as_long p q) (is_err p.name) (is_err q.name) (both _ _ h).1) [ inl e ↦ inl (eqb-true _ _ e) | inr e ↦ inr e ])
 
+-- the number of a piece, and what its row has of the other upload
+pub record Stands (part : List (Option ℕ)) (all others : List Piece) (x : Piece) (beside : Option Piece) : Type 0 where
+  pub by : ℕ
+  pub is : slice_get all by ≡ Some x
+  pub other : Option ℕ
+  pub with : slice_get part by ≡ Some other
+  pub shown : piece_numbered others other ≡ beside
+
 module _ (ps qs : List Piece) where
   AreOne : ℕ → ℕ → Type 0
   AreOne i j = (p q : Piece) → slice_get ps i ≡ Some p → slice_get qs j ≡ Some q → IsOneEntry p q
@@ -266,14 +274,6 @@ module _ (ps qs : List Piece) where
   at_in_b x it (in_b k a b f) c = record { by = k; is = ap (piece_numbered qs) (sym b) ∙ c; with = f ∙ ap (λ (o : Option ℕ). Some o) (sym a) }
   at_in_b x it (in_a k a b f) c = let n : piece_numbered qs x.b ≡ None = ap (piece_numbered qs) b in cc
   at_in_b x it (in_both k j a b f) c = record { by = j; is = ap (piece_numbered qs) (sym b) ∙ c; with = m.there k j f ∙ ap (λ (o : Option ℕ). Some o) (sym a) }
-
-  -- the number of a piece, and what its row has of the other upload
-  pub record Stands (part : List (Option ℕ)) (all others : List Piece) (x : Piece) (beside : Option Piece) : Type 0 where
-    pub by : ℕ
-    pub is : slice_get all by ≡ Some x
-    pub other : Option ℕ
-    pub with : slice_get part by ≡ Some other
-    pub shown : piece_numbered others other ≡ beside
 
   pub stands_a : (k : ℕ) (r : Row) (x : Piece) → slice_get (rows_of ps qs) k ≡ Some r → r.a ≡ Some x → Stands p.of_a ps qs x r.b
   unfolding rows_of ArePairs
