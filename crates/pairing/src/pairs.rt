@@ -3,7 +3,7 @@ ghost use Rattle.std.specs.Prelude.{◌≡◌, ◌&&◌, ◌++◌, ◌+◌, ◌<
 ghost use Rattle.std.specs.Ordering.{is_eq};
 ghost use Rattle.pairing.specs.Pairs.{seen, partnered, joined, joined_if, behind_first, order_at, number_order, free_one, free, in_name_order, ascending, fits, fits_at, matched, by_rule, next_to, are_free, as_long_at, beside, neighbours, partners_of, alone, behind, told_one, told, pairs_of};
 
-use crate::pieces::Piece;
+use crate::pieces::{Piece, piece_at};
 use std::alloc::{AllocError, Global};
 use std::cmp::Ordering;
 
@@ -115,12 +115,6 @@ impl Rule {
             Rule::Place => as_long || one.is_refused() || other.is_refused(),
         }
     }
-}
-
-fn piece_at<'a>(pieces: &[Piece<'a>], number: usize) -> Option<Piece<'a>>
-    ensures { result ≡ slice_get pieces.now number }
-{
-    pieces.get(number).copied()
 }
 
 // An order of numbers: by the pieces' places, or by what they are known by.

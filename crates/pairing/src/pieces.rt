@@ -1,5 +1,5 @@
 //! The pieces of an upload: what one step of the walk takes, or all that is left at its last.
-ghost use Rattle.std.specs.Prelude.{◌≡◌, ◌==◌, IfOk, length, nat_eq, is_err};
+ghost use Rattle.std.specs.Prelude.{◌≡◌, ◌==◌, IfOk, length, nat_eq, slice_get, is_err};
 ghost use Rattle.std.specs.Cmp.Lexicographic.{pointwise};
 ghost use Rattle.walk.specs.Mapped.{map_ok};
 ghost use Rattle.pairing.specs.Pieces.{piece_of, pieces_of, by_name, shift};
@@ -62,6 +62,13 @@ pub fn pieces<'a>(alloc: Global, upload: &Upload<'a>) -> Result<Vec<Piece<'a>>, 
         all.push(piece_of(upload.bytes, &step))?;
     }
     Ok(all)
+}
+
+/// The piece of a number, if there are so many.
+pub(crate) fn piece_at<'a>(pieces: &[Piece<'a>], number: usize) -> Option<Piece<'a>>
+    ensures { result ≡ slice_get pieces.now number }
+{
+    pieces.get(number).copied()
 }
 
 impl Piece<'_> {

@@ -4,7 +4,7 @@ ghost use Rattle.std.specs.List.{list_all};
 ghost use Rattle.pairing.specs.Rows.{row_of, piece_numbered, is_same_shift, shift_in, is_alike, is_unmoved, stays, rows_in, name_in};
 
 use crate::pairs::Pair;
-use crate::pieces::{Piece, Shift};
+use crate::pieces::{Piece, Shift, piece_at};
 use refusal::Mode;
 
 /// What two uploads have, in rows.
@@ -41,7 +41,7 @@ fn piece_numbered<'a>(pieces: &[Piece<'a>], number: Option<usize>) -> Option<Pie
     ensures { result ≡ piece_numbered pieces.now number }
 {
     match number {
-        Some(number) => pieces.get(number).copied(),
+        Some(number) => piece_at(pieces, number),
         None => None,
     }
 }
