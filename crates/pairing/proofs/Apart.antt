@@ -28,11 +28,11 @@ use Rattle.pairing.proofs.Orders.{order_total, number_weak}
 use Rattle.pairing.proofs.Lists.{drop_step, drop_next, get_past, got_none, set_same, set_other, set_either}
 use Rattle.pairing.proofs.Kept.{matched_kept, rule_kept, near_kept, joined_kept, rule_mutual, mutual_none}
 
-abbrev R : Option Piece → Option Piece → Ordering
+abbrev pub R : Option Piece → Option Piece → Ordering
 R = order_at Name
 
 -- between three
-below : (a b c : Option Piece) → R a b ≡ Less → is_lt (R c b) ≡ false → R a c ≡ Less
+pub below : (a b c : Option Piece) → R a b ≡ Less → is_lt (R c b) ≡ false → R a c ≡ Less
 below a b c h k = by (R c b) refl k
   where
     by : (r : Ordering) → R c b ≡ r → is_lt r ≡ false → R a c ≡ Less
@@ -40,7 +40,7 @@ below a b c h k = by (R c b) refl k
     by Equal e k = sym (alike_right (order_total Name) b c a (tied_back (order_total Name) c b e)) ∙ h
     by Greater e k = (order_total Name).trans a b c h ((order_total Name).antisymm b c ∙ ap ordering_reverse e)
 
-above : (a b c : Option Piece) → R a b ≡ Greater → is_lt (R c a) ≡ false → R c b ≡ Greater
+pub above : (a b c : Option Piece) → R a b ≡ Greater → is_lt (R c a) ≡ false → R c b ≡ Greater
 above a b c h k = (order_total Name).antisymm c b ∙ ap ordering_reverse (below b a c ((order_total Name).antisymm b a ∙ ap ordering_reverse h) k)
 
 -- numbers in the order of the names at them
@@ -117,6 +117,9 @@ module _ (ps qs : List Piece) where
   fit (Some p) None a b = absurd (b refl)
   fit (Some p) (Some q) a b = refl
 
+  pub fit_there : (x y : ℕ) → x < length ps → y < length qs → fits_at Name (slice_get ps x) (slice_get qs y) ≡ true
+  fit_there x y h k = fit (slice_get ps x) (slice_get qs y) (got_none ps x h) (got_none qs y k)
+
   pub joins : (x y : ℕ) (p : Partners) → slice_get p.of_a x ≡ Some None → slice_get p.of_b y ≡ Some None → joined x y p ≡ partnered x y p
   unfolding joined
   joins x y p a b = λ i. (if are_free (a i) (b i) then partnered x y p else p)
@@ -157,7 +160,7 @@ module _ (ps qs : List Piece) where
             let ours = ready_first ps p.of_a x xs a in
             let theirs = ready_first qs p.of_b y ys b in
             let fits : fits_at Name (slice_get ps x) (slice_get qs y) ≡ true
-            = fit (slice_get ps x) (slice_get qs y) (got_none ps x (omega (arith, slice_get_within p.of_a x None ours, a.long))) (got_none qs y (omega (arith, slice_get_within p.of_b y None theirs, b.long))) in
+            = fit_there x y (omega (arith, slice_get_within p.of_a x None ours, a.long)) (omega (arith, slice_get_within p.of_b y None theirs, b.long)) in
             let join : joined_if (fits_at Name (slice_get ps x) (slice_get qs y)) x y p ≡ partnered x y p = ap (λ (c : Bool). joined_if c x y p) fits ∙ joins x y p ours theirs in
             let f' : slice_get (matched Name ps qs n xs ys (partnered x y p)).of_a i ≡ Some None = ap (λ (q : Partners). slice_get (matched Name ps qs n xs ys q).of_a i) (sym join) ∙ f in
             let g' : slice_get (matched Name ps qs n xs ys (partnered x y p)).of_b j ≡ Some None = ap (λ (q : Partners). slice_get (matched Name ps qs n xs ys q).of_b j) (sym join) ∙ g in
@@ -217,16 +220,19 @@ module _ (all : List (Option ℕ)) where
 
 -- in the order of their names
 module _ (all : List Piece) (part : List (Option ℕ)) (long : length part ≡ length all) where
-  abbrev sorted : List ℕ
+  abbrev pub sorted : List ℕ
   sorted = in_order (λ i j. is_lt (number_order all i j)) (free part)
 
   same_tally : (v : ℕ) → tally v sorted ≡ tally v (free part)
   same_tally v = sum_by-IsPermutation (mark v) (free part) sorted (order_moves (λ i j. is_lt (number_order all i j)) (free part))
 
-  sorted_up : Up all sorted
-  sorted_up = up_of all sorted (order_rises (λ i j. is_lt (number_order all i j)) (number_weak all) (free part))
+  pub sorted_order : Rises (λ i j. is_lt (number_order all i j)) sorted
+  sorted_order = order_rises (λ i j. is_lt (number_order all i j)) (number_weak all) (free part)
 
-  sorted_ready : Ready all part sorted
+  sorted_up : Up all sorted
+  sorted_up = up_of all sorted sorted_order
+
+  pub sorted_ready : Ready all part sorted
   unfolding free
   sorted_ready = record {
     once = λ v. omega (arith, same_tally v, (free_left part 0 part v refl).once);
@@ -234,7 +240,7 @@ module _ (all : List Piece) (part : List (Option ℕ)) (long : length part ≡ l
     long = long;
   }
 
-  sorted_all : (v : ℕ) → slice_get part v ≡ Some None → 0 < tally v sorted
+  pub sorted_all : (v : ℕ) → slice_get part v ≡ Some None → 0 < tally v sorted
   unfolding free
   sorted_all v h = let w = (free_left part 0 part v refl).all_of (omega arith) h in omega (arith, w, same_tally v)
 

@@ -11,4 +11,5 @@ pub mod Twins
 pub mod Laid
 pub mod Places
 pub mod Near
+pub mod First
 pub mod Rules

@@ -2,8 +2,10 @@
 use Rattle.std.proofs.Common.{ℕ, zero, suc, ◌+◌, ◌<◌, ◌≡◌, ◌⊎◌, inl, inr, refl, sym, ap, subst, ◌∙◌, Bool, true, false, ◌&&◌, ◌||◌, eqb-true, nat_eq, List, length, arith, add-one}
 use Rattle.std.specs.Prelude.{Option, Some, None, slice_get, replicate, is_err}
 use Rattle.std.specs.Ordering.{is_eq}
+use Rattle.std.specs.declared.cmp.Ordering.TheVariants.{Equal}
 use Rattle.std.proofs.Math.ListN.{length-replicate}
-use Rattle.std.proofs.lemmas.Cmp.{nat_eq_equiv}
+use Rattle.std.proofs.lemmas.Bool.{cases_lt}
+use Rattle.std.proofs.lemmas.Cmp.{nat_eq_equiv, tied_back}
 use Rattle.std.proofs.lemmas.Option.{slice_get_within}
 use Rattle.report.specs.declared.Upload.{Upload}
 use Rattle.pairing.specs.declared.pieces.Piece.{Piece}
@@ -13,14 +15,16 @@ use Rattle.pairing.specs.Pieces.{pieces_of, by_name}
 use Rattle.pairing.specs.Pairs.{Partners, nobody, joined, order_at, fits, fits_at, as_long, by_rule, partners_of}
 use Rattle.pairing.specs.Rows.{piece_numbered, rows_of}
 use Rattle.pairing.specs.Told.{IsNamedAlike, AreNamed}
-use Rattle.pairing.specs.Rules.{OfA, OfB, AreAsLong, IsPlacedAlike, ArePlaced, IsNext, AreBehind, RulesMeant}
-use Rattle.pairing.proofs.Lists.{set_either, got, contained, contains, from}
-use Rattle.pairing.proofs.Kept.{joined_kept, rule_by, Mutual, mutual_none, rule_mutual, Keeps, rule_keeps, near_keeps, both_ways}
+use Rattle.pairing.specs.Rules.{OfA, OfB, AreAsLong, IsThere, GoesBefore, GoesBeforeInB, IsPlacedAlike, ArePlaced, IsNext, AreBehind, RulesMeant}
+use Rattle.pairing.proofs.Orders.{order_total}
+use Rattle.pairing.proofs.Lists.{set_either, got, got_none, contained, contains, from}
+use Rattle.pairing.proofs.Kept.{joined_kept, rule_by, Mutual, mutual_none, rule_mutual, Keeps, rule_keeps, near_keeps, both_ways, nobody_there}
 use Rattle.pairing.proofs.Once.{ours}
-use Rattle.pairing.proofs.Apart.{by_names, same_key}
-use Rattle.pairing.proofs.Told.{both, either, one_place, Stands, stands_a, stands_b, two_mutual, two_kept, named_row, named_or_free, joined_or_free}
-use Rattle.pairing.proofs.Laid.{Laid, laid, one_number, next_begins, begins_first, after_is}
+use Rattle.pairing.proofs.Apart.{R, by_names, same_key, left_apart}
+use Rattle.pairing.proofs.Told.{named_alike, both, either, one_place, Stands, stands_a, stands_b, two_mutual, two_kept, named_row, named_or_free, joined_or_free}
+use Rattle.pairing.proofs.Laid.{Laid, laid, stands_before, one_number, next_begins, begins_first, after_is}
 use Rattle.pairing.proofs.Places.{exact_met, placed_met}
+use Rattle.pairing.proofs.First.{equal_through, one, one_mutual, Found, FoundB, first_of_a, first_of_b}
 use Rattle.pairing.proofs.Near.{Next, first, behind, Since, AreAsLong as SameLength, near_since, near_met}
 
 nobody_free : (n k : ℕ) → k < n → slice_get {X = Option ℕ} (replicate n None) k ≡ Some None
@@ -53,6 +57,14 @@ placed_of (Some p) None h = let f = (both (is_eq (order_at Place (Some p) None))
 placed_of (Some p) (Some q) h =
     let w = both (is_eq (order_at Place (Some p) (Some q))) (fits Place p q) h in
     (one_place p.place q.place w.0, elim (either (as_long p q) (is_err p.name) (is_err q.name) w.1) [ inl e ↦ inl (eqb-true _ _ e) | inr e ↦ inr e ])
+
+-- what the first rule joins
+exact_of : (p q : Piece) → (is_eq (order_at NameAndPlace (Some p) (Some q)) && fits NameAndPlace p q) ≡ true → IsNamedAlike p q × IsThere p q
+unfolding order_at
+exact_of p q h =
+    let w = both (is_eq (order_at NameAndPlace (Some p) (Some q))) (fits NameAndPlace p q) h in
+    let f = both (as_long p q) (is_eq (by_name p q)) w.1 in
+    (named_alike p q f.1, (one_place p.place q.place w.0, eqb-true _ _ f.0))
 
 module _ (ps qs : List Piece) where
   abbrev two : Partners
@@ -100,6 +112,26 @@ module _ (ps qs : List Piece) where
   unfolding AllBetter Better
   three_better = rule_by AllBetter ps qs Place better_step two (λ i j e. inl (named_row ps qs i j e))
 
+  AllExact : Partners → Type 0
+  AllExact t = (i j : ℕ) → slice_get t.of_a i ≡ Some (Some j) → (x y : Piece) → slice_get ps i ≡ Some x → slice_get qs j ≡ Some y → IsNamedAlike x y × IsThere x y
+
+  exact_step : (i j : ℕ) (t : Partners) → (is_eq (order_at NameAndPlace (slice_get ps i) (slice_get qs j)) && fits_at NameAndPlace (slice_get ps i) (slice_get qs j)) ≡ true → AllExact t → AllExact (joined i j t)
+  unfolding AllExact
+  exact_step i j t e all =
+      joined_kept AllExact i j t (λ a b k l h x y c d.
+      elim (set_either t.of_a i k (Some j) (Some l) h) [
+        | inl s ↦
+            (let same : l ≡ j = let t = s.1 in cc in
+            let c' : slice_get ps i ≡ Some x = ap (slice_get ps) (sym s.0) ∙ c in
+            let d' : slice_get qs j ≡ Some y = ap (slice_get qs) (sym same) ∙ d in
+            exact_of x y (sym (λ z. is_eq (order_at NameAndPlace (c' z) (d' z)) && fits_at NameAndPlace (c' z) (d' z)) ∙ e))
+        | inr g ↦ all k l g x y c d
+      ]) all
+
+  one_exact : AllExact (one ps qs)
+  unfolding AllExact
+  one_exact = rule_by AllExact ps qs NameAndPlace exact_step (nobody ps qs) (λ i j e. absurd (nobody_there _ i j e))
+
   -- what stands beside a piece in its row
   record Pair (x : Piece) (beside : Piece) : Type 0 where
     by : ℕ
@@ -142,12 +174,12 @@ module _ (u v : Upload) where
       let b : r.b ≡ s.b = rb ∙ sym sb in
       λ k. record { a = a k; b = b k }
 
-  same : (x y : Piece) (r s : Row) → OfA u v x r → OfB u v y s → IsNamedAlike x y → x.place ≡ y.place → AreAsLong x y → r ≡ s
-  same x y r s o q alike level long =
+  same : (x y : Piece) (r s : Row) → OfA u v x r → OfB u v y s → IsNamedAlike x y → IsThere x y → r ≡ s
+  same x y r s o q alike there =
       let one = at_a x r o in
       let other = at_b y s q in
       let met =
-      exact_met us vs (laid u) (laid v) one.by other.by x y one.is other.is level (exact_fits x y alike long) (nobody us vs) (length-replicate _ _) (length-replicate _ _)
+      exact_met us vs (laid u) (laid v) one.by other.by x y one.is other.is there.0 (exact_fits x y alike there.1) (nobody us vs) (length-replicate _ _) (length-replicate _ _)
       (nobody_free (length us) one.by (slice_get_within us one.by x one.is)) (nobody_free (length vs) other.by (slice_get_within vs other.by y other.is)) in
       one_row x y r s one other o.has q.has (one_kept us vs one.by other.by met)
 
@@ -212,5 +244,117 @@ module _ (u v : Upload) where
             inl (one_row x y r s one other o.has q.has (ap (slice_get all.of_a) i ∙ met ∙ ap (λ (n : ℕ). Some (Some n)) (sym j))))
       ]
 
+  -- what goes together by the second rule, and what by the first
+  named_then : (i j : ℕ) (x y : Piece) → slice_get us i ≡ Some x → slice_get vs j ≡ Some y → slice_get all.of_a i ≡ Some (Some j) → IsNamedAlike x y → slice_get (two us vs).of_a i ≡ Some (Some j)
+  named_then i j x y a b e alike = by (slice_get (two us vs).of_a i) (slice_get (two us vs).of_b j) refl refl
+    where
+      by : (o n : Option (Option ℕ)) → slice_get (two us vs).of_a i ≡ o → slice_get (two us vs).of_b j ≡ n → slice_get (two us vs).of_a i ≡ Some (Some j)
+      by None n f g = absurd (got_none (two us vs).of_a i (omega (arith, slice_get_within us i x a, (two_mutual us vs).long_a)) f)
+      by (Some (Some l)) n f g = let k = two_kept us vs i l f in let same : l ≡ j = cc in f ∙ ap (λ (n : ℕ). Some (Some n)) same
+      by (Some None) None f g = absurd (got_none (two us vs).of_b j (omega (arith, slice_get_within vs j y b, (two_mutual us vs).long_b)) g)
+      by (Some None) (Some None) f g = absurd (left_apart us vs i j x y a b f g alike)
+      by (Some None) (Some (Some k)) f g =
+          let back = (two_mutual us vs).back j k g in
+          let there = (m us vs).there k j (two_kept us vs k j back) in
+          let here = (m us vs).there i j e in
+          let same : k ≡ i = cc in
+          ap (slice_get (two us vs).of_a) (sym same) ∙ back
+
+  -- a piece of A whose partner it is told with, and one of B
+  beside_a : (x : Piece) (b : Option Piece) (w : Stands all.of_a us vs x b) (j : ℕ) → slice_get all.of_a w.by ≡ Some (Some j) → b ≡ slice_get vs j
+  beside_a x b w j e = let same : w.other ≡ Some j = (let z = w.with in cc) in sym w.shown ∙ ap (piece_numbered vs) same
+
+  beside_b : (y : Piece) (a : Option Piece) (w : Stands all.of_b vs us y a) (i : ℕ) → slice_get all.of_a i ≡ Some (Some w.by) → a ≡ slice_get us i
+  beside_b y a w i e = let same : w.other ≡ Some i = (let z = w.with in let t = (m us vs).there i w.by e in cc) in sym w.shown ∙ ap (piece_numbered us) same
+
+  number_before : (l : List Piece) → Laid 0 l → (i j : ℕ) {x y : Piece} → slice_get l i ≡ Some x → slice_get l j ≡ Some y → x.place < y.place → i < j
+  number_before l h i j {x} {y} a b less =
+      elim (cases_lt i j) [
+        | inl k ↦ k
+        | inr k ↦ elim (cases_lt j i) [
+            | inl k' ↦ absurd (omega (arith, less, stands_before l h j i k' b a))
+            | inr k' ↦ (let same : i ≡ j = omega (arith, k, k') in let z : slice_get l i ≡ slice_get l j = ap (slice_get l) same in let one : x ≡ y = cc in let level : x.place ≡ y.place = ap (λ (p : Piece). p.place) one in absurd (omega (arith, less, level)))
+          ]
+      ]
+
+  alike_names : (x y z : Piece) → IsNamedAlike x z → IsNamedAlike y z → R (Some x) (Some y) ≡ Equal
+  alike_names x y z a b = equal_through (Some x) (Some z) (Some y) (same_key x z a) (tied_back (order_total Name) (Some y) (Some z) (same_key y z b))
+
+  first_row : (x y before : Piece) (r s : Row) → OfA u v x r → r.b ≡ Some y → OfA u v before s → IsNamedAlike x y → IsNamedAlike before y → before.place < x.place → IsThere x y ⊎ GoesBefore before s.b y
+  unfolding AllExact
+  first_row x y before r s o rb q named_xy named_by less =
+      let w = pair us vs x y r.b (at_a x r o) rb in
+      let z = at_a before s q in
+      by w z (slice_get (one us vs).of_a w.by) (slice_get (one us vs).of_a z.by) refl refl
+    where
+      exact_before : (z : Stands all.of_a us vs before s.b) (l : ℕ) → slice_get (one us vs).of_a z.by ≡ Some (Some l) → GoesBefore before s.b y
+      exact_before z l f =
+          let kept = one_kept us vs z.by l f in
+          let t = got vs l (omega (arith, slice_get_within all.of_b l (Some z.by) ((m us vs).there z.by l kept), (m us vs).long_b)) in
+          let exact = one_exact us vs z.by l f before t.it z.is t.is in
+          subst (λ (b : Option Piece). GoesBefore before b y) (sym (beside_a before s.b z l kept ∙ t.is)) (exact.0, inl exact.1)
+
+      found_before : (w : Pair us vs x y) (z : Stands all.of_a us vs before s.b) → Found z.by w.other (two us vs) → GoesBefore before s.b y
+      found_before w z f =
+          let kept = two_kept us vs z.by f.it f.is in
+          let t = got vs f.it (omega (arith, slice_get_within all.of_b f.it (Some z.by) ((m us vs).there z.by f.it kept), (m us vs).long_b)) in
+          let alike : IsNamedAlike before t.it = subst (λ (b : Option Piece). AreNamed (Some before) b) t.is (subst (λ (a : Option Piece). AreNamed a (slice_get vs f.it)) z.is (named_row us vs z.by f.it f.is)) in
+          subst (λ (b : Option Piece). GoesBefore before b y) (sym (beside_a before s.b z f.it kept ∙ t.is)) (alike, inr (stands_before vs (laid v) f.it w.other f.before t.is w.shown))
+
+      by : (w : Pair us vs x y) (z : Stands all.of_a us vs before s.b) (o n : Option (Option ℕ)) → slice_get (one us vs).of_a w.by ≡ o → slice_get (one us vs).of_a z.by ≡ n → IsThere x y ⊎ GoesBefore before s.b y
+      by w z None n f g = absurd (got_none (one us vs).of_a w.by (omega (arith, slice_get_within us w.by x w.is, (one_mutual us vs).long_a)) f)
+      by w z (Some (Some l)) n f g =
+          let kept = one_kept us vs w.by l f in
+          let same : l ≡ w.other = (let e = w.with in cc) in
+          inl (one_exact us vs w.by l f x y w.is (ap (slice_get vs) same ∙ w.shown)).1
+      by w z (Some None) None f g = absurd (got_none (one us vs).of_a z.by (omega (arith, slice_get_within us z.by before z.is, (one_mutual us vs).long_a)) g)
+      by w z (Some None) (Some (Some l)) f g = inr (exact_before z l g)
+      by w z (Some None) (Some None) f g =
+          inr (found_before w z (first_of_a us vs z.by w.by w.other (number_before us (laid u) z.by w.by z.is w.is less) ((λ k. R (z.is k) (w.is k)) ∙ alike_names before x y named_by named_xy) g f
+          (named_then w.by w.other x y w.is w.shown w.with named_xy)))
+
+  first_row_in_b : (x y before : Piece) (r s : Row) → OfA u v x r → r.b ≡ Some y → OfB u v before s → IsNamedAlike x y → IsNamedAlike x before → before.place < y.place → IsThere x y ⊎ GoesBeforeInB before s.a x
+  unfolding AllExact
+  first_row_in_b x y before r s o rb q named_xy named_xb less =
+      let w = pair us vs x y r.b (at_a x r o) rb in
+      let z = at_b before s q in
+      by w z (slice_get (one us vs).of_a w.by) (slice_get (one us vs).of_b z.by) (slice_get (one us vs).of_b w.other) refl refl refl
+    where
+      exact_before : (z : Stands all.of_b vs us before s.a) (k : ℕ) → slice_get (one us vs).of_b z.by ≡ Some (Some k) → GoesBeforeInB before s.a x
+      exact_before z k f =
+          let f' = (one_mutual us vs).back z.by k f in
+          let kept = one_kept us vs k z.by f' in
+          let t = got us k (omega (arith, slice_get_within all.of_a k (Some z.by) kept, (m us vs).long_a)) in
+          let exact = one_exact us vs k z.by f' t.it before t.is z.is in
+          subst (λ (a : Option Piece). GoesBeforeInB before a x) (sym (beside_b before s.a z k kept ∙ t.is)) (exact.0, inl exact.1)
+
+      found_before : (w : Pair us vs x y) (z : Stands all.of_b vs us before s.a) → FoundB z.by w.by (two us vs) → GoesBeforeInB before s.a x
+      found_before w z f =
+          let kept = two_kept us vs f.it z.by f.is in
+          let t = got us f.it (omega (arith, slice_get_within all.of_a f.it (Some z.by) kept, (m us vs).long_a)) in
+          let alike : IsNamedAlike t.it before = subst (λ (b : Option Piece). AreNamed (Some t.it) b) z.is (subst (λ (a : Option Piece). AreNamed a (slice_get vs z.by)) t.is (named_row us vs f.it z.by f.is)) in
+          subst (λ (a : Option Piece). GoesBeforeInB before a x) (sym (beside_b before s.a z f.it kept ∙ t.is)) (alike, inr (stands_before us (laid u) f.it w.by f.before t.is w.is))
+
+      by : (w : Pair us vs x y) (z : Stands all.of_b vs us before s.a) (o n q : Option (Option ℕ)) → slice_get (one us vs).of_a w.by ≡ o → slice_get (one us vs).of_b z.by ≡ n → slice_get (one us vs).of_b w.other ≡ q → IsThere x y ⊎ GoesBeforeInB before s.a x
+      by w z None n q f g h = absurd (got_none (one us vs).of_a w.by (omega (arith, slice_get_within us w.by x w.is, (one_mutual us vs).long_a)) f)
+      by w z (Some (Some l)) n q f g h =
+          let kept = one_kept us vs w.by l f in
+          let same : l ≡ w.other = (let e = w.with in cc) in
+          inl (one_exact us vs w.by l f x y w.is (ap (slice_get vs) same ∙ w.shown)).1
+      by w z (Some None) None q f g h = absurd (got_none (one us vs).of_b z.by (omega (arith, slice_get_within vs z.by before z.is, (one_mutual us vs).long_b)) g)
+      by w z (Some None) (Some (Some k)) q f g h = inr (exact_before z k g)
+      by w z (Some None) (Some None) None f g h = absurd (got_none (one us vs).of_b w.other (omega (arith, slice_get_within vs w.other y w.shown, (one_mutual us vs).long_b)) h)
+      by w z (Some None) (Some None) (Some (Some k)) f g h =
+          let back = (one_mutual us vs).back w.other k h in
+          let kept = (m us vs).there k w.other (one_kept us vs k w.other back) in
+          let here = (m us vs).there w.by w.other w.with in
+          let same : k ≡ w.by = cc in
+          let z : slice_get (one us vs).of_a k ≡ slice_get (one us vs).of_a w.by = ap (slice_get (one us vs).of_a) same in
+          absurd (let e = f in cc)
+      by w z (Some None) (Some None) (Some None) f g h =
+          inr (found_before w z (first_of_b us vs z.by w.by w.other (number_before vs (laid v) z.by w.other z.is w.shown less)
+          ((λ k. R (z.is k) (w.shown k)) ∙ equal_through (Some before) (Some x) (Some y) (tied_back (order_total Name) (Some x) (Some before) (same_key x before named_xb)) (same_key x y named_xy)) g h
+          (named_then w.by w.other x y w.is w.shown w.with named_xy)))
+
 pub rules_meant : RulesMeant
-rules_meant = record { same = same; placed = placed; behind = behind_row; next = next_row }
+rules_meant = record { same = same; first = first_row; first_in_b = first_row_in_b; placed = placed; behind = behind_row; next = next_row }

@@ -49,7 +49,7 @@ letters own other h = (same_by_letters own other).0 ((order_is_total.same own ot
 same_bytes : (xs ys : List ℕ) → is_eq (slice_cmp nat_cmp xs ys) ≡ true → xs ≡ ys
 same_bytes xs ys h = same_text xs ys (sym (texts_ties xs ys ∙ h))
 
-named_alike : (p q : Piece) → is_eq (by_name p q) ≡ true → IsNamedAlike p q
+pub named_alike : (p q : Piece) → is_eq (by_name p q) ≡ true → IsNamedAlike p q
 unfolding by_name
 named_alike p q h = by p.name q.name refl refl h
   where
