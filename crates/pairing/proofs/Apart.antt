@@ -22,11 +22,11 @@ use Rattle.pairing.specs.declared.pieces.Piece.{Piece}
 use Rattle.pairing.specs.declared.pairs.Rule.{Rule}
 use Rattle.pairing.specs.declared.pairs.Rule.TheVariants.{NameAndPlace, Name}
 use Rattle.pairing.specs.Pieces.{known}
-use Rattle.pairing.specs.Pairs.{Partners, nobody, partnered, are_free, joined, joined_if, order_at, number_order, fits_at, behind_first, free_one, free, matched, by_rule, neighbours}
+use Rattle.pairing.specs.Pairs.{Partners, nobody, partnered, are_free, joined, joined_if, order_at, number_order, fits_at, behind_first, free_one, free, matched, by_rule}
 use Rattle.pairing.specs.Told.{IsNamedAlike, named, refused}
 use Rattle.pairing.proofs.Orders.{order_total, number_weak}
 use Rattle.pairing.proofs.Lists.{drop_step, drop_next, get_past, got_none, set_same, set_other, set_either}
-use Rattle.pairing.proofs.Kept.{matched_kept, rule_kept, near_kept, joined_kept, rule_mutual, mutual_none}
+use Rattle.pairing.proofs.Kept.{matched_kept, rule_kept, joined_kept, rule_mutual, mutual_none}
 
 abbrev pub R : Option Piece → Option Piece → Ordering
 R = order_at Name
@@ -107,9 +107,6 @@ module _ (ps qs : List Piece) where
 
   pub rule_free : (r : Rule) (q : Partners) → FreeIn q (by_rule r ps qs q)
   rule_free r q = rule_kept (FreeIn q) ps qs (λ i j. Unit {0}) (free_more q) (λ r i j e. tt) (λ x i j e f. tt) r q (free_itself q)
-
-  near_free : (q : Partners) → FreeIn q (neighbours qs ps 0 (Some 0) q)
-  near_free q = near_kept (FreeIn q) ps qs (λ i j. Unit {0}) (free_more q) (λ r i j e. tt) (λ x i j e f. tt) ps 0 (Some 0) q refl (free_itself q)
 
   -- two that stand alike are joined
   fit : (o m : Option Piece) → (o ≡ None → ⊥) → (m ≡ None → ⊥) → fits_at Name o m ≡ true

@@ -1,18 +1,18 @@
 -- By name: of several of one name the first goes with the first, and the second with the second.
 use Rattle.std.proofs.Common.{ℕ, zero, suc, ◌+◌, ◌<◌, ◌≤◌, ◌≡◌, ◌≢◌, ◌⊎◌, inl, inr, refl, sym, ap, subst, ◌∙◌, Bool, true, false, ◌&&◌, List, [], ◌∷◌, length, arith}
 use Rattle.std.specs.Prelude.{Option, Some, None, slice_get}
-use Rattle.std.specs.Ordering.{nat_cmp, ordering_then, ordering_reverse, is_lt, is_le, is_ge, is_eq}
+use Rattle.std.specs.Ordering.{nat_cmp, ordering_then, is_lt, is_le, is_ge, is_eq}
 use Rattle.std.specs.declared.cmp.Ordering.{Ordering}
 use Rattle.std.specs.declared.cmp.Ordering.TheVariants.{Less, Equal, Greater}
 use Rattle.std.proofs.lemmas.Cmp.{ranked, alike_right, tied_back}
 use Rattle.std.proofs.lemmas.List.Sums.{sum_by-cons}
 use Rattle.std.proofs.lemmas.Option.{slice_get_within}
-use Rattle.name_order.proofs.Sorted.{mark, tally, marked, Rises, none, more, Lowest, lowest_tally}
+use Rattle.name_order.proofs.Sorted.{mark, tally, marked, Rises, more, Lowest, lowest_tally}
 use Rattle.pairing.specs.declared.pieces.Piece.{Piece}
 use Rattle.pairing.specs.declared.pairs.Rule.TheVariants.{NameAndPlace, Name}
-use Rattle.pairing.specs.Pairs.{Partners, partnered, joined, joined_if, order_at, number_order, fits_at, behind_first, matched, nobody, by_rule}
+use Rattle.pairing.specs.Pairs.{Partners, partnered, joined, joined_if, number_order, fits_at, behind_first, matched, nobody, by_rule}
 use Rattle.pairing.proofs.Orders.{order_total, number_weak}
-use Rattle.pairing.proofs.Lists.{set_same, set_other, set_either, got_none}
+use Rattle.pairing.proofs.Lists.{set_same, set_either}
 use Rattle.pairing.proofs.Kept.{joined_kept, Mutual, mutual_more, mutual_none, rule_mutual, Keeps, matched_keeps}
 use Rattle.pairing.proofs.Apart.{R, below, above, Ready, ready_rest, ready_set, ready_first, among, joins, fit_there, sorted, sorted_order, sorted_ready, sorted_all, by_names}
 
@@ -112,9 +112,6 @@ module _ (ps qs : List Piece) where
     ready_a : Ready ps p.of_a xs
     ready_b : Ready qs p.of_b ys
     two_ways : Mutual (length ps) (length qs) p
-
-  Lows : ℕ → List ℕ → Type 0
-  Lows x xs = Lowest (λ i j. is_lt (number_order ps i j)) x xs
 
   low_of : {first : ℕ → ℕ → Bool} {x : ℕ} {xs : List ℕ} → Rises first (x ∷ xs) → Lowest first x xs
   low_of (more l r) = l
@@ -241,7 +238,7 @@ module _ (ps qs : List Piece) where
           let g = comes_b i j n xs ys (partnered x y p) next.two_ways (next.ready_b.free j b) e' in
           let one : R (slice_get qs y) (slice_get qs j) ≡ Equal = ap (λ (m : ℕ). R (slice_get qs m) (slice_get qs j)) (sym a) ∙ alike in
           let two : R (slice_get ps i) (slice_get ps x) ≡ Equal =
-              equal_through (slice_get ps i) (slice_get qs y) (slice_get ps x) (equal_through (slice_get ps i) (slice_get qs j) (slice_get qs y) g.alike (tied_back (order_total Name) (slice_get qs y) (slice_get qs j) one)) (tied_back (order_total Name) (slice_get ps x) (slice_get qs y) o) in
+          equal_through (slice_get ps i) (slice_get qs y) (slice_get ps x) (equal_through (slice_get ps i) (slice_get qs j) (slice_get qs y) g.alike (tied_back (order_total Name) (slice_get qs y) (slice_get qs j) one)) (tied_back (order_total Name) (slice_get ps x) (slice_get qs y) o) in
           let below_it = first_number ps x i xs (low_of t.order_a) g.ours two in
           let other : i ≢ x = gone ps p.of_a x i xs t.ready_a g.ours in
           subst (λ (q : Partners). FoundB l i (after n xs ys q)) (sym join) (record {

@@ -54,7 +54,7 @@ module _ (P : Partners → Type 0) (ps qs : List Piece) (AreOne : ℕ → ℕ �
 
   pub all_kept : P (nobody ps qs) → P (partners_of ps qs)
   unfolding partners_of
-  all_kept h = near_kept ps 0 (Some 0) _ refl (rule_kept Place _ (rule_kept Name _ (rule_kept NameAndPlace _ h)))
+  all_kept h = near_kept ps 0 None _ refl (rule_kept Place _ (rule_kept Name _ (rule_kept NameAndPlace _ h)))
 
 -- two of which neither has a partner
 pub both_free : (o q : Option (Option ℕ)) → are_free o q ≡ true → (o ≡ Some None) × (q ≡ Some None)
@@ -137,5 +137,5 @@ module _ (ps qs : List Piece) where
   pub rule_keeps : (q : Partners) (r : Rule) (p : Partners) → Keeps q p → Keeps q (by_rule r ps qs p)
   rule_keeps q r p h = rule_kept (Keeps q) ps qs (λ i j. Unit {0}) (keeps_more q) (λ r i j e. tt) (λ x i j e f. tt) r p h
 
-  pub near_keeps : (q : Partners) (p : Partners) → Keeps q p → Keeps q (neighbours qs ps 0 (Some 0) p)
-  near_keeps q p h = near_kept (Keeps q) ps qs (λ i j. Unit {0}) (keeps_more q) (λ r i j e. tt) (λ x i j e f. tt) ps 0 (Some 0) p refl h
+  pub near_keeps : (q : Partners) (p : Partners) → Keeps q p → Keeps q (neighbours qs ps 0 None p)
+  near_keeps q p h = near_kept (Keeps q) ps qs (λ i j. Unit {0}) (keeps_more q) (λ r i j e. tt) (λ x i j e f. tt) ps 0 None p refl h

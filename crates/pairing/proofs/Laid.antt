@@ -1,6 +1,6 @@
 -- The pieces of an upload lie one behind another, each at least a byte long, so that their places tell them apart.
-use Rattle.std.proofs.Common.{ℕ, zero, suc, ◌+◌, ◌-◌, ◌<◌, ◌≤◌, ◌≡◌, ◌⊎◌, inl, inr, refl, sym, ap, subst, ◌∙◌, Bool, true, false, List, [], ◌∷◌, length, take, drop, map, min, arith, add-one, Bor}
-use Rattle.std.specs.Prelude.{Option, Some, None, leb, slice_get, if◌then◌else◌}
+use Rattle.std.proofs.Common.{ℕ, zero, suc, ◌+◌, ◌-◌, ◌<◌, ◌≤◌, ◌≡◌, inl, inr, refl, sym, ap, subst, ◌∙◌, Bool, true, false, List, [], ◌∷◌, length, take, drop, map, min, arith, Bor}
+use Rattle.std.specs.Prelude.{Some, leb, slice_get, if◌then◌else◌}
 use Rattle.std.proofs.lemmas.Bool.{cases_lt}
 use Rattle.std.proofs.lemmas.List.{length-take-le, length-drop}
 use Rattle.std.proofs.lemmas.Option.{slice_get_within}
@@ -88,10 +88,6 @@ next_begins at (x ∷ (y ∷ ps)) zero {p} {q} (more a b (more c d l)) e f =
     let other : y ≡ q = cc in
     (λ k. (sym same k).place + length (sym same k).bytes.now) ∙ ap (λ (n : ℕ). n + length x.bytes.now) a ∙ sym c ∙ ap (λ (z : Piece). z.place) other
 next_begins at (x ∷ ps) (suc i) (more a b l) e f = next_begins (at + length x.bytes.now) ps i l e f
-
-pub begins_first : (at : ℕ) (ps : List Piece) {p : Piece} → Laid at ps → slice_get ps 0 ≡ Some p → p.place ≡ at
-begins_first at [] l e = cc
-begins_first at (x ∷ ps) {p} (more a b l) e = let same : x ≡ p = cc in ap (λ (z : Piece). z.place) (sym same) ∙ a
 
 -- what begins where one ends is the next
 module _ (ps : List Piece) (laid : Laid 0 ps) where

@@ -1,7 +1,7 @@
 -- The last rule: what it joins stands right behind two that are partners, and it leaves over no two that do and are as long.
-use Rattle.std.proofs.Common.{ℕ, zero, suc, ◌+◌, ◌<◌, ◌≤◌, ◌≡◌, ◌≢◌, ◌⊎◌, inl, inr, refl, sym, ap, subst, ◌∙◌, Bool, true, false, eqb-true, List, [], ◌∷◌, length, drop, arith}
-use Rattle.std.specs.Prelude.{Option, Some, None, slice_get, slice_set, nat_lt, if◌then◌else◌}
-use Rattle.std.proofs.lemmas.Bool.{cases_lt, le-ltb, lt-ltb}
+use Rattle.std.proofs.Common.{ℕ, ◌+◌, ◌<◌, ◌≤◌, ◌≡◌, ◌≢◌, ◌⊎◌, inl, inr, refl, sym, ap, subst, ◌∙◌, Bool, true, false, eqb-true, List, [], ◌∷◌, length, drop, arith}
+use Rattle.std.specs.Prelude.{Option, Some, None, slice_get, nat_lt, if◌then◌else◌}
+use Rattle.std.proofs.lemmas.Bool.{cases_lt, lt-ltb}
 use Rattle.std.proofs.lemmas.List.{length-drop}
 use Rattle.std.proofs.lemmas.Option.{slice_get_within}
 use Rattle.pairing.specs.declared.pieces.Piece.{Piece}
@@ -10,16 +10,18 @@ use Rattle.pairing.proofs.Lists.{drop_step, drop_next, set_same, set_other, set_
 use Rattle.pairing.proofs.Kept.{joined_kept, Mutual, mutual_more, Keeps, keeps_more}
 use Rattle.pairing.proofs.Apart.{joins}
 
--- two that stand right behind two that are partners, or both first
-pub data Next (p : Partners) (k l : ℕ) : Type 0 where
-  first : k ≡ 0 → l ≡ 0 → Next p k l
-  behind : (i j : ℕ) → k ≡ i + 1 → l ≡ j + 1 → slice_get p.of_a i ≡ Some (Some j) → Next p k l
+-- two that stand right behind two that are partners
+pub record Next (p : Partners) (k l : ℕ) : Type 0 where
+  pub i : ℕ
+  pub j : ℕ
+  pub ours : k ≡ i + 1
+  pub theirs : l ≡ j + 1
+  pub are : slice_get p.of_a i ≡ Some (Some j)
 
 module _ (ps qs : List Piece) where
   next_kept : (p q : Partners) (k l : ℕ) → Keeps ps qs p q → Next p k l → Next q k l
   unfolding Keeps
-  next_kept p q k l h (first a b) = first a b
-  next_kept p q k l h (behind i j a b e) = behind i j a b (h i j e)
+  next_kept p q k l h n = record { i = n.i; j = n.j; ours = n.ours; theirs = n.theirs; are = h n.i n.j n.are }
 
   unfoldable pub AreAsLong : ℕ → ℕ → Type 0
   AreAsLong k l = (x y : Piece) → slice_get ps k ≡ Some x → slice_get qs l ≡ Some y → length x.bytes.now ≡ length y.bytes.now
@@ -70,7 +72,7 @@ module _ (ps qs : List Piece) where
   leads_on i p j e = by (slice_get p.of_a i) refl e
     where
       by_less : (l : ℕ) (c : Bool) → slice_get p.of_a i ≡ Some (Some l) → (if c then Some (l + 1) else None) ≡ Some j → Next p (i + 1) j
-      by_less l true g e = let same : l + 1 ≡ j = cc in behind i l refl (sym same) g
+      by_less l true g e = let same : l + 1 ≡ j = cc in record { i = i; j = l; ours = refl; theirs = sym same; are = g }
       by_less l false g e = cc
 
       by : (o : Option (Option ℕ)) → slice_get p.of_a i ≡ o → next_to o (length p.of_b) ≡ Some j → Next p (i + 1) j
@@ -85,13 +87,13 @@ module _ (ps qs : List Piece) where
       let mid : Partners = beside x qs i next p in
       since q xs (i + 1) (next_to (slice_get mid.of_a i) (length mid.of_b)) mid (drop_next i ps e) (leads_on i mid) (since_beside q x i next p (drop_step i ps e).0 n s)
 
-  first_leads : (p : Partners) → Leads (Some 0) 0 p
+  none_leads : (p : Partners) → Leads None 0 p
   unfolding Leads
-  first_leads p j e = let same : 0 ≡ j = cc in first refl (sym same)
+  none_leads p j e = cc
 
-  pub near_since : (q : Partners) → Since q (neighbours qs ps 0 (Some 0) q)
+  pub near_since : (q : Partners) → Since q (neighbours qs ps 0 None q)
   unfolding Since
-  near_since q = since q ps 0 (Some 0) q refl (first_leads q) (λ k l e. inl e)
+  near_since q = since q ps 0 None q refl (none_leads q) (λ k l e. inl e)
 
   -- a turn changes nothing but at its own number
   joined_other : (k i j : ℕ) (p : Partners) → (k ≢ i) → slice_get (joined i j p).of_a k ≡ slice_get p.of_a k
@@ -131,14 +133,13 @@ module _ (ps qs : List Piece) where
       where
         taken : (z : ℕ) → slice_get p.of_b (j + 1) ≡ Some (Some z) → (slice_get q.of_a z ≡ Some (Some (j + 1))) ⊎ (Next p z (j + 1) × AreAsLong z (j + 1)) → ⊥
         taken z g (inl o) = let t = mutual_q.there z (j + 1) o in cc
-        taken z g (inr (first a b, l)) = omega (arith, b)
-        taken z g (inr (behind k o a b e, l)) =
-            let same : j ≡ o = omega (arith, b) in
-            let one : slice_get p.of_b o ≡ Some (Some k) = m.there k o e in
+        taken z g (inr n) =
+            let same : j ≡ n.0.j = omega (arith, n.0.theirs) in
+            let one : slice_get p.of_b n.0.j ≡ Some (Some n.0.i) = m.there n.0.i n.0.j n.0.are in
             let other : slice_get p.of_b j ≡ Some (Some i) = m.there i j with_j in
-            let eq : slice_get p.of_b j ≡ slice_get p.of_b o = ap (slice_get p.of_b) same in
-            let is : i ≡ k = cc in
-            let at : z ≡ i + 1 = omega (arith, a, is) in
+            let eq : slice_get p.of_b j ≡ slice_get p.of_b n.0.j = ap (slice_get p.of_b) same in
+            let is : i ≡ n.0.i = cc in
+            let at : z ≡ i + 1 = omega (arith, n.0.ours, is) in
             let t : slice_get p.of_a z ≡ Some (Some (j + 1)) = m.back (j + 1) z g in
             let u : slice_get p.of_a z ≡ slice_get p.of_a (i + 1) = ap (slice_get p.of_a) at in
             cc
@@ -182,6 +183,6 @@ module _ (ps qs : List Piece) where
               ∙ turn xs mid (ap (λ (z : ℕ). drop (z + 1) ps) (sym is) ∙ drop_next k ps e) m' s' now free')
         ]
 
-    pub near_met : slice_get q.of_a (i + 1) ≡ Some None → slice_get (neighbours qs ps 0 (Some 0) q).of_a i ≡ Some (Some j) → slice_get (neighbours qs ps 0 (Some 0) q).of_a (i + 1) ≡ Some (Some (j + 1))
+    pub near_met : slice_get q.of_a (i + 1) ≡ Some None → slice_get (neighbours qs ps 0 None q).of_a i ≡ Some (Some j) → slice_get (neighbours qs ps 0 None q).of_a (i + 1) ≡ Some (Some (j + 1))
     unfolding Since
-    near_met free_a with_j = meets ps 0 (Some 0) q refl (omega arith) mutual_q (first_leads q) (λ k l e. inl e) free_a with_j
+    near_met free_a with_j = meets ps 0 None q refl (omega arith) mutual_q (none_leads q) (λ k l e. inl e) free_a with_j

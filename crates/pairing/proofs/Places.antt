@@ -1,6 +1,6 @@
 -- Two lists of numbers in the order of their places, side by side: two that stand at one place and fit are joined.
-use Rattle.std.proofs.Common.{ℕ, zero, suc, ◌+◌, ◌<◌, ◌≤◌, ◌≡◌, ◌≢◌, ◌⊎◌, inl, inr, refl, sym, ap, subst, ◌∙◌, Bool, true, false, ◌&&◌, List, [], ◌∷◌, length, drop, arith}
-use Rattle.std.specs.Prelude.{Option, Some, None, slice_get, slice_set}
+use Rattle.std.proofs.Common.{ℕ, zero, suc, ◌+◌, ◌<◌, ◌≤◌, ◌≡◌, ◌⊎◌, inl, inr, refl, sym, ap, subst, ◌∙◌, Bool, true, false, ◌&&◌, List, [], ◌∷◌, length, drop, arith}
+use Rattle.std.specs.Prelude.{Option, Some, None, slice_get}
 use Rattle.std.specs.Ordering.{nat_cmp, ordering_then, is_le, is_ge, is_eq}
 use Rattle.std.specs.Cmp.Lexicographic.{slice_cmp}
 use Rattle.std.specs.declared.cmp.Ordering.{Ordering}
@@ -12,7 +12,7 @@ use Rattle.pairing.specs.declared.pieces.Piece.{Piece}
 use Rattle.pairing.specs.declared.pairs.Rule.{Rule}
 use Rattle.pairing.specs.declared.pairs.Rule.TheVariants.{NameAndPlace, Place}
 use Rattle.pairing.specs.Pairs.{Partners, partnered, joined, joined_if, order_at, fits, fits_at, behind_first, free, matched, by_rule}
-use Rattle.pairing.proofs.Lists.{drop_step, drop_next, set_same, Got, got}
+use Rattle.pairing.proofs.Lists.{drop_next, set_same, got}
 use Rattle.pairing.proofs.Kept.{Keeps, matched_keeps}
 use Rattle.pairing.proofs.Apart.{Ready, ready_rest, ready_set, ready_first, among, left, free_left, joins}
 use Rattle.pairing.proofs.Laid.{Laid, stands_before, one_number}

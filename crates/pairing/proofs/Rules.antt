@@ -14,18 +14,18 @@ use Rattle.pairing.specs.declared.rows.Row.{Row}
 use Rattle.pairing.specs.Pieces.{pieces_of, by_name}
 use Rattle.pairing.specs.Pairs.{Partners, nobody, joined, order_at, fits, fits_at, as_long, by_rule, partners_of}
 use Rattle.pairing.specs.Rows.{piece_numbered, rows_of}
-use Rattle.pairing.specs.Told.{IsNamedAlike, AreNamed}
-use Rattle.pairing.specs.Rules.{OfA, OfB, AreAsLong, IsThere, GoesBefore, GoesBeforeInB, IsPlacedAlike, ArePlaced, IsNext, AreBehind, RulesMeant}
+use Rattle.pairing.specs.Told.{IsNamedAlike, AreNamed, AreAsLong, IsPlacedAlike}
+use Rattle.pairing.specs.Rules.{OfA, OfB, IsThere, GoesBefore, GoesBeforeInB, ArePlaced, AreBehind, RulesMeant}
 use Rattle.pairing.proofs.Orders.{order_total}
 use Rattle.pairing.proofs.Lists.{set_either, got, got_none, contained, contains, from}
-use Rattle.pairing.proofs.Kept.{joined_kept, rule_by, Mutual, mutual_none, rule_mutual, Keeps, rule_keeps, near_keeps, both_ways, nobody_there}
+use Rattle.pairing.proofs.Kept.{joined_kept, rule_by, Mutual, rule_mutual, Keeps, rule_keeps, near_keeps, both_ways, nobody_there}
 use Rattle.pairing.proofs.Once.{ours}
 use Rattle.pairing.proofs.Apart.{R, by_names, same_key, left_apart}
-use Rattle.pairing.proofs.Told.{named_alike, both, either, one_place, Stands, stands_a, stands_b, two_mutual, two_kept, named_row, named_or_free, joined_or_free}
-use Rattle.pairing.proofs.Laid.{Laid, laid, stands_before, one_number, next_begins, begins_first, after_is}
+use Rattle.pairing.proofs.Told.{named_alike, placed_alike, both, one_place, Stands, stands_a, stands_b, two_mutual, two_kept, named_row, named_or_free, joined_or_free}
+use Rattle.pairing.proofs.Laid.{Laid, laid, stands_before, one_number, next_begins, after_is}
 use Rattle.pairing.proofs.Places.{exact_met, placed_met}
 use Rattle.pairing.proofs.First.{equal_through, one, one_mutual, Found, FoundB, first_of_a, first_of_b}
-use Rattle.pairing.proofs.Near.{Next, first, behind, Since, AreAsLong as SameLength, near_since, near_met}
+use Rattle.pairing.proofs.Near.{Next, Since, AreAsLong as SameLength, near_since, near_met}
 
 nobody_free : (n k : ℕ) → k < n → slice_get {X = Option ℕ} (replicate n None) k ≡ Some None
 nobody_free zero k h = absurd (omega arith)
@@ -51,12 +51,9 @@ placed_fits p q h = by (as_long p q) (is_err p.name) (is_err q.name) (elim h.1 [
 
 -- what the third rule joins
 placed_of : (a b : Option Piece) → (is_eq (order_at Place a b) && fits_at Place a b) ≡ true → ArePlaced a b
-unfolding order_at
 placed_of None b h = let f = (both (is_eq (order_at Place None b)) false h).1 in cc
 placed_of (Some p) None h = let f = (both (is_eq (order_at Place (Some p) None)) false h).1 in cc
-placed_of (Some p) (Some q) h =
-    let w = both (is_eq (order_at Place (Some p) (Some q))) (fits Place p q) h in
-    (one_place p.place q.place w.0, elim (either (as_long p q) (is_err p.name) (is_err q.name) w.1) [ inl e ↦ inl (eqb-true _ _ e) | inr e ↦ inr e ])
+placed_of (Some p) (Some q) h = placed_alike p q h
 
 -- what the first rule joins
 exact_of : (p q : Piece) → (is_eq (order_at NameAndPlace (Some p) (Some q)) && fits NameAndPlace p q) ≡ true → IsNamedAlike p q × IsThere p q
@@ -211,21 +208,17 @@ module _ (u v : Upload) where
         | inl e ↦ (
             let b : Better us vs (Some x) (Some y) = subst (λ (z : Option Piece). Better us vs z (Some y)) w.is (subst (Better us vs (slice_get us w.by)) w.shown (three_better us vs w.by w.other e)) in
             elim b [ inl n ↦ inl n | inr n ↦ inr (inl n) ])
-        | inr n ↦ inr (next_to w.by w.other w.is w.shown n.0 (n.1 x y w.is w.shown))
+        | inr n ↦ inr (inr (next_to w.by w.other w.is w.shown n.0 (n.1 x y w.is w.shown)))
       ]
     where
-      next_to : (i j : ℕ) → slice_get us i ≡ Some x → slice_get vs j ≡ Some y → Next all i j → AreAsLong x y → IsPlacedAlike x y ⊎ (AreAsLong x y × AreBehind u v x y)
-      next_to i j a b (first e f) long =
-          let c : x.place ≡ 0 = begins_first 0 us (laid u) (ap (slice_get us) (sym e) ∙ a) in
-          let d : y.place ≡ 0 = begins_first 0 vs (laid v) (ap (slice_get vs) (sym f) ∙ b) in
-          inl (c ∙ sym d, inl long)
-      next_to i j a b (behind k l e f g) long =
-          let c : slice_get us (suc k) ≡ Some x = ap (slice_get us) (sym (e ∙ add-one k)) ∙ a in
-          let d : slice_get vs (suc l) ≡ Some y = ap (slice_get vs) (sym (f ∙ add-one l)) ∙ b in
-          let x' = got us k (omega (arith, slice_get_within us (suc k) x c)) in
-          let y' = got vs l (omega (arith, slice_get_within vs (suc l) y d)) in
-          let t = row_of_two k l x'.it y'.it x'.is y'.is g in
-          inr (long, record { row = t.0; ours = x'.it; theirs = y'.it; before = t.1; other = t.2; next = next_begins 0 us k (laid u) x'.is c; next_in_b = next_begins 0 vs l (laid v) y'.is d })
+      next_to : (i j : ℕ) → slice_get us i ≡ Some x → slice_get vs j ≡ Some y → Next all i j → AreAsLong x y → AreAsLong x y × AreBehind u v x y
+      next_to i j a b n long =
+          let c : slice_get us (suc n.i) ≡ Some x = ap (slice_get us) (sym (n.ours ∙ add-one n.i)) ∙ a in
+          let d : slice_get vs (suc n.j) ≡ Some y = ap (slice_get vs) (sym (n.theirs ∙ add-one n.j)) ∙ b in
+          let x' = got us n.i (omega (arith, slice_get_within us (suc n.i) x c)) in
+          let y' = got vs n.j (omega (arith, slice_get_within vs (suc n.j) y d)) in
+          let t = row_of_two n.i n.j x'.it y'.it x'.is y'.is n.are in
+          (long, record { row = t.0; ours = x'.it; theirs = y'.it; before = t.1; other = t.2; next = next_begins 0 us n.i (laid u) x'.is c; next_in_b = next_begins 0 vs n.j (laid v) y'.is d })
 
   next_row : (x y : Piece) (r s : Row) → OfA u v x r → OfB u v y s → AreAsLong x y → AreBehind u v x y → (r ≡ s) ⊎ ((AreNamed r.a r.b ⊎ ArePlaced r.a r.b) ⊎ (AreNamed s.a s.b ⊎ ArePlaced s.a s.b))
   unfolding Better AllBetter partners_of
@@ -272,9 +265,9 @@ module _ (u v : Upload) where
       elim (cases_lt i j) [
         | inl k ↦ k
         | inr k ↦ elim (cases_lt j i) [
-            | inl k' ↦ absurd (omega (arith, less, stands_before l h j i k' b a))
-            | inr k' ↦ (let same : i ≡ j = omega (arith, k, k') in let z : slice_get l i ≡ slice_get l j = ap (slice_get l) same in let one : x ≡ y = cc in let level : x.place ≡ y.place = ap (λ (p : Piece). p.place) one in absurd (omega (arith, less, level)))
-          ]
+          | inl k' ↦ absurd (omega (arith, less, stands_before l h j i k' b a))
+          | inr k' ↦ (let same : i ≡ j = omega (arith, k, k') in let z : slice_get l i ≡ slice_get l j = ap (slice_get l) same in let one : x ≡ y = cc in let level : x.place ≡ y.place = ap (λ (p : Piece). p.place) one in absurd (omega (arith, less, level)))
+        ]
       ]
 
   alike_names : (x y z : Piece) → IsNamedAlike x z → IsNamedAlike y z → R (Some x) (Some y) ≡ Equal

@@ -1,5 +1,5 @@
 -- What is told together is one entry, and no row is empty.
-use Rattle.std.proofs.Common.{ℕ, zero, suc, ◌+◌, ◌<◌, ◌≡◌, ◌⊎◌, inl, inr, refl, sym, ap, subst, ◌∙◌, Bool, true, false, ◌&&◌, ◌||◌, eqb-true, List, [], ◌∷◌, ◌++◌, length, drop, map, arith, Bor, Result}
+use Rattle.std.proofs.Common.{ℕ, zero, suc, ◌+◌, ◌≡◌, ◌⊎◌, inl, inr, refl, sym, ap, subst, ◌∙◌, Bool, true, false, ◌&&◌, ◌||◌, eqb-true, List, [], ◌∷◌, ◌++◌, length, drop, map, arith, Bor, Result}
 use Rattle.std.specs.Prelude.{Option, Some, None, Ok, Err, slice_get, is_err}
 use Rattle.std.specs.List.{flat_map, enumerate_from}
 use Rattle.std.specs.Ordering.{nat_cmp, is_eq, ordering_then}
@@ -22,7 +22,7 @@ use Rattle.pairing.specs.declared.rows.Row.{Row}
 use Rattle.pairing.specs.Pieces.{known, by_name}
 use Rattle.pairing.specs.Pairs.{Partners, nobody, partners_of, joined, order_at, fits, fits_at, as_long, as_long_at, alone, behind, told_one, told, pairs_of}
 use Rattle.pairing.specs.Rows.{piece_numbered, row_of, rows_of}
-use Rattle.pairing.specs.Told.{IsNamedAlike, named, refused, IsOneEntry, alike, placed, as_long as long_entry, IsRow, AreRows, AreNamed, AreApart, RowsMeant}
+use Rattle.pairing.specs.Told.{IsNamedAlike, named, refused, IsOneEntry, alike, placed, as_long as long_entry, IsRow, AreRows, AreNamed, AreApart, RowsMeant, IsPlacedAlike}
 use Rattle.pairing.proofs.Lists.{drop_step, drop_next, set_either, got, got_none}
 use Rattle.pairing.proofs.Kept.{all_kept, joined_kept, rule_by, Mutual, mutual_none, rule_mutual, Keeps, rule_keeps, near_keeps, both_ways, nobody_there}
 use Rattle.pairing.proofs.Once.{ours, theirs}
@@ -37,7 +37,7 @@ pub both : (a b : Bool) → (a && b) ≡ true → (a ≡ true) × (b ≡ true)
 both true b h = (refl, h)
 both false b h = cc
 
-pub either : (a b c : Bool) → (a || b || c) ≡ true → (a ≡ true) ⊎ ((b ≡ true) ⊎ (c ≡ true))
+either : (a b c : Bool) → (a || b || c) ≡ true → (a ≡ true) ⊎ ((b ≡ true) ⊎ (c ≡ true))
 either true b c h = inl refl
 either false true c h = inr (inl refl)
 either false false c h = inr (inr h)
@@ -67,13 +67,17 @@ one_place m n h = by (nat_cmp m n) refl h
     by Equal e h = ranked m n Equal e
     by Greater e h = cc
 
+pub placed_alike : (p q : Piece) → (is_eq (order_at Place (Some p) (Some q)) && fits Place p q) ≡ true → IsPlacedAlike p q
+unfolding order_at
+placed_alike p q h =
+    let w = both (is_eq (order_at Place (Some p) (Some q))) (fits Place p q) h in
+    (one_place p.place q.place w.0, elim (either (as_long p q) (is_err p.name) (is_err q.name) w.1) [ inl e ↦ inl (eqb-true _ _ e) | inr e ↦ inr e ])
+
 one_of : (r : Rule) (p q : Piece) → (is_eq (order_at r (Some p) (Some q)) && fits r p q) ≡ true → IsOneEntry p q
 unfolding order_at by_name
 one_of NameAndPlace p q h = alike (named_alike p q (both (as_long p q) _ (both _ _ h).1).1)
 one_of Name p q h = alike (named_alike p q (both _ true h).0)
-one_of Place p q h =
-    placed (one_place p.place q.place (both _ _ h).0)
-    (elim (either (as_long p q) (is_err p.name) (is_err q.name) (both _ _ h).1) [ inl e ↦ inl (eqb-true _ _ e) | inr e ↦ inr e ])
+one_of Place p q h = placed (placed_alike p q h)
 
 -- the number of a piece, and what its row has of the other upload
 pub record Stands (part : List (Option ℕ)) (all others : List Piece) (x : Piece) (beside : Option Piece) : Type 0 where

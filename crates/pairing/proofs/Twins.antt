@@ -216,8 +216,8 @@ module _ (ps qs : List Piece) (p : Partners) (full : (k : ℕ) → slice_get p.o
   no_rule : (r : Rule) (q : Partners) → IsIt q → IsIt (by_rule r ps qs q)
   no_rule r q h = rule_kept IsIt ps qs (λ i j. Unit {0}) no_step (λ r i j e. tt) (λ x i j e f. tt) r q h
 
-  no_near : (q : Partners) → IsIt q → IsIt (neighbours qs ps 0 (Some 0) q)
-  no_near q h = near_kept IsIt ps qs (λ i j. Unit {0}) no_step (λ r i j e. tt) (λ x i j e f. tt) ps 0 (Some 0) q refl h
+  no_near : (q : Partners) → IsIt q → IsIt (neighbours qs ps 0 None q)
+  no_near q h = near_kept IsIt ps qs (λ i j. Unit {0}) no_step (λ r i j e. tt) (λ x i j e f. tt) ps 0 None q refl h
 
 -- the rows are those of one number each
 record There (ps qs : List Piece) (k : ℕ) : Type 0 where

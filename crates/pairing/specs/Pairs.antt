@@ -130,7 +130,7 @@ neighbours qs (x ∷ ps) i next p =
 
 -- the first rule that finds a partner: one name, place and length; one name; one place, and as long or one refused; as long, and right behind the same entry
 unfoldable pub partners_of : List Piece → List Piece → Partners
-partners_of ps qs = neighbours qs ps 0 (Some 0) (by_rule Place ps qs (by_rule Name ps qs (by_rule NameAndPlace ps qs (nobody ps qs))))
+partners_of ps qs = neighbours qs ps 0 None (by_rule Place ps qs (by_rule Name ps qs (by_rule NameAndPlace ps qs (nobody ps qs))))
 
 -- what B has alone from a number on, up to the next that A has too
 unfoldable pub alone : ℕ → List (Option ℕ) → List Pair

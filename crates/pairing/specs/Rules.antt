@@ -1,12 +1,12 @@
 -- docs/FORMAT.md, "The command's text", of `compare`: by which rule two are the same entry, and which rule goes before which.
-use Rattle.std.specs.Prelude.{◌≡◌, ◌+◌, ◌<◌, ◌⊎◌, true, List, Option, Some, None, length, is_err}
+use Rattle.std.specs.Prelude.{◌≡◌, ◌+◌, ◌<◌, ◌⊎◌, Option, Some, None, length}
 use Rattle.std.specs.List.{Contains}
 use Rattle.report.specs.declared.Upload.{Upload}
 use Rattle.pairing.specs.declared.pieces.Piece.{Piece}
 use Rattle.pairing.specs.declared.rows.Row.{Row}
 use Rattle.pairing.specs.Pieces.{pieces_of}
 use Rattle.pairing.specs.Rows.{rows_of}
-use Rattle.pairing.specs.Told.{IsNamedAlike, AreNamed}
+use Rattle.pairing.specs.Told.{IsNamedAlike, AreNamed, AreAsLong, IsPlacedAlike}
 
 -- the row in which a piece of A is told, and that of a piece of B
 pub record OfA (u v : Upload) (p : Piece) (r : Row) : Type 0 where
@@ -17,14 +17,7 @@ pub record OfB (u v : Upload) (q : Piece) (r : Row) : Type 0 where
   pub is_row : Contains (rows_of (pieces_of u) (pieces_of v)) r
   pub has : r.b ≡ Some q
 
-abbrev pub AreAsLong : Piece → Piece → Type 0
-AreAsLong p q = length p.bytes.now ≡ length q.bytes.now
-
--- at one place, and as long or one of them refused
-abbrev pub IsPlacedAlike : Piece → Piece → Type 0
-IsPlacedAlike p q = (p.place ≡ q.place) × (AreAsLong p q ⊎ ((is_err p.name ≡ true) ⊎ (is_err q.name ≡ true)))
-
--- a row whose two are so
+-- a row whose two are at one place, and as long or one of them refused
 abbrev pub ArePlaced : Option Piece → Option Piece → Type 0
 ArePlaced None q = ⊥
 ArePlaced (Some p) None = ⊥

@@ -14,11 +14,18 @@ pub data IsNamedAlike (p q : Piece) : Type 0 where
   named : {own other : Bor (List ℕ)} → p.name ≡ Ok own → q.name ≡ Ok other → SameLetters own.now other.now → IsNamedAlike p q
   refused : {why other : Refusal} → p.name ≡ Err why → q.name ≡ Err other → p.bytes.now ≡ q.bytes.now → IsNamedAlike p q
 
+abbrev pub AreAsLong : Piece → Piece → Type 0
+AreAsLong p q = length p.bytes.now ≡ length q.bytes.now
+
+-- at one place, and as long or one of them refused
+abbrev pub IsPlacedAlike : Piece → Piece → Type 0
+IsPlacedAlike p q = (p.place ≡ q.place) × (AreAsLong p q ⊎ ((is_err p.name ≡ true) ⊎ (is_err q.name ≡ true)))
+
 -- a piece of A and one of B are the same entry: named alike; at one place, and as long or one of them refused; or as long
 pub data IsOneEntry (p q : Piece) : Type 0 where
   alike : IsNamedAlike p q → IsOneEntry p q
-  placed : p.place ≡ q.place → (length p.bytes.now ≡ length q.bytes.now) ⊎ ((is_err p.name ≡ true) ⊎ (is_err q.name ≡ true)) → IsOneEntry p q
-  as_long : length p.bytes.now ≡ length q.bytes.now → IsOneEntry p q
+  placed : IsPlacedAlike p q → IsOneEntry p q
+  as_long : AreAsLong p q → IsOneEntry p q
 
 -- something stands in a row, and where both have it, it is one entry
 abbrev pub IsRow : Option Piece → Option Piece → Type 0

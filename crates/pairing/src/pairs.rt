@@ -316,11 +316,11 @@ impl Pairing {
         }
     }
 
-    // Those that are as long and stand right behind the same entry, or first.
+    // Those that are as long and stand right behind the same entry.
     fn by_neighbour(&mut self, a: &[Piece<'_>], b: &[Piece<'_>])
-        ensures { seen self.new ≡ neighbours b.now a.now 0 (Some 0) (seen self.old) }
+        ensures { seen self.new ≡ neighbours b.now a.now 0 None (seen self.old) }
     {
-        let mut next = Some(0);
+        let mut next = None;
         for (one, piece) in a.iter().enumerate() {
             self.join_next(piece, b, one, next);
             next = self.next_to(one);

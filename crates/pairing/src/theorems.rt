@@ -10,7 +10,7 @@ pub fn rows_meant()
     ensures { RowsMeant }
 {}
 
-/// A piece of A and one of B that are named alike, at one place and as long are told in one row; and so are two at one place, as long or one of them refused, unless one of them is told with one named like it. What is told in one row and is neither named alike nor at one place is as long, and stands right behind two that are told in one row; and of two that stand so each is told with the other, unless one of them is told with one named like it or at its place. So names go before places, places before neighbours, and none leaves over two that it would pair.
+/// A piece of A and one of B that are named alike, at one place and as long are told in one row; and so are two at one place, as long or one of them refused, unless one of them is told with one named like it. Of several of one name the first goes with the first, in either upload: where two go together by their name alone, an earlier one of that name goes with an earlier one, or with the one at its place that is as long. What is told in one row and is neither named alike nor at one place is as long, and stands right behind two that are told in one row; and two that stand so are told in one row, unless one of them is told with one named like it or at its place. So names go before places, places before neighbours, and none leaves over two that it would pair.
 pub fn rules_meant()
     ensures { RulesMeant }
 {}
