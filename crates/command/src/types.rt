@@ -8,8 +8,10 @@ use refusal::{Mode, Refusal};
 use report::Upload;
 use std::alloc::Global;
 use std::io::Write;
-use type_report::node::Node;
-use type_report::{Counts, list, table};
+use type_report::list;
+use type_table::table;
+use type_tree::Counts;
+use type_tree::node::Node;
 use wording::{Grouped, InWords};
 
 /// All data types, or the first of a name.
