@@ -1,10 +1,10 @@
 //! `bind`: the addresses of variables, by their paths.
 
-use crate::failure::Failure;
-use crate::find::{refused, windows_1252};
 use bind_report::table::Columns;
 use bind_report::{Bound, json};
 use data_type::AdsDataTypeInfo;
+use host::failure::Failure;
+use lookup::{refused, windows_1252};
 use named::Named;
 use report::Upload;
 use std::alloc::{AllocError, Global};

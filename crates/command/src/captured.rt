@@ -1,8 +1,8 @@
 //! `captures`: lines of an upload, and an upload of lines.
 
-use crate::failure::{Failure, in_words};
-use crate::source;
 use arguments::Captures;
+use host::failure::{Failure, in_words};
+use host::source;
 use refusal::{Mode, Refusal};
 use report::Upload;
 use std::alloc::{AllocError, Global};

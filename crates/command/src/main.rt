@@ -6,20 +6,17 @@ mod branch;
 mod captured;
 mod compare;
 mod explain;
-mod failure;
-mod find;
 mod help;
 mod plain_form;
 mod salvaged;
 mod sheets;
 mod show;
 mod slots;
-mod source;
-mod types;
-mod written;
 
 use arguments::{Asked, Operands, Request, Run};
-use failure::Failure;
+use host::failure::Failure;
+use host::{failure, source, written};
+use lookup::types;
 use report::{Tally, Upload};
 use std::alloc::{AllocError, Global};
 use std::env;
@@ -121,7 +118,7 @@ fn answer_of_an_upload<W: Write>(
 ) -> Result<bool, Failure> {
     let alloc = rt.alloc();
     match &run.asked {
-        Asked::Find { name, attribute } => done(find::find(alloc, upload, name, *attribute, out)),
+        Asked::Find { name, attribute } => done(lookup::find(alloc, upload, name, *attribute, out)),
         Asked::Show { name } => done(show::show(alloc, upload, name, is_coloured(rt), out)),
         Asked::Why { name } => done(explain::explain(alloc, upload, name, out)),
         Asked::Branch { text, json } => done(branch::branch(alloc, upload, text, *json, out)),

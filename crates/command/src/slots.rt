@@ -1,6 +1,6 @@
 //! `room`: how many slots the index of an upload of so many bytes can need.
 
-use crate::failure::Failure;
+use host::failure::Failure;
 use std::alloc::Global;
 use std::io::Write;
 use wording::InWords;

@@ -44,8 +44,10 @@ impl fmt::Display for Facts<'_, '_> {
         let attributes = AttributeLines(self.symbol.attributes, &self.reasons.attributes);
         let names = NameLines(self.symbol.refactor_infos, &self.reasons.refactor_infos);
         let unread = Bytes(self.symbol.unread.len());
-        write!(f, "{strings}{place}{address}{numbers}{optional}")?;
-        write!(f, "{attributes}{names}unread        {unread}\n")
+        write!(
+            f,
+            "{strings}{place}{address}{numbers}{optional}{attributes}{names}unread        {unread}\n"
+        )
     }
 }
 

@@ -17,8 +17,8 @@ impl fmt::Display for Because<'_> {
     #[tactic(auto, unfolding(crate::specs::Facts::because))]
     fn fmt<W: fmt::Write>(&self, f: &mut fmt::Formatter<W>) -> fmt::Result {
         match self.0 {
-            Reason::NotFlagged => write!(f, "not flagged"),
-            Reason::NoExtendedFlags => write!(f, "there are no extended flags"),
+            Reason::NotFlagged => f.write_str("not flagged"),
+            Reason::NoExtendedFlags => f.write_str("there are no extended flags"),
             Reason::NoRoom { place, left } => {
                 let place = *place;
                 let are = if *left == 1 { "is" } else { "are" };
@@ -39,7 +39,7 @@ impl fmt::Display for Because<'_> {
                     announced: *announced,
                     owed: *owed,
                 };
-                write!(f, "{missing}")
+                missing.fmt(f)
             }
         }
     }

@@ -5,12 +5,12 @@ ghost use Rattle.data_type.specs.Array as array;
 ghost use Rattle.type_tree.specs.Joined.{joined, more};
 ghost use Rattle.type_report.specs.Json.{own_text, strings_text, numbers_text, shape_text, maker_text, array_text};
 
-use type_tree::marks::{Marked, Style};
-use type_tree::node::{Dimensions, Node};
 use data_type::array::AdsArrayInfo;
 use field::AdsFieldInfo;
 use report::json::{AttributeObjects, GuidOrNull};
 use std::fmt;
+use type_tree::marks::{Marked, Style};
+use type_tree::node::{Dimensions, Node};
 use wording::strings::Quoted;
 
 /// What an entry tells of itself.
@@ -106,13 +106,12 @@ impl fmt::Display for Maker<'_> {
         let version = field.version;
         let hash = field.hash_value;
         let type_hash = field.type_hash_value;
-        write!(
-            f,
-            "\"version\":{version},\"hash\":{hash},\"type_hash\":{type_hash}"
-        )?;
         let type_id = field.type_id;
         let flags = field.flags.0;
-        write!(f, ",\"type_id\":{type_id},\"flags\":{flags}")
+        write!(
+            f,
+            "\"version\":{version},\"hash\":{hash},\"type_hash\":{type_hash},\"type_id\":{type_id},\"flags\":{flags}"
+        )
     }
 }
 

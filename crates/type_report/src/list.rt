@@ -10,15 +10,15 @@ ghost use Rattle.type_tree.specs.Joined.{joined, more};
 ghost use Rattle.type_report.specs.Json.{own_text, node_text, type_line, entry_line};
 ghost use Rattle.type_tree.specs.Node.{members_left};
 
-use type_tree::Counts;
 use crate::json::Own;
-use type_tree::node::{Members, Node};
 use data_type::{AdsDataTypeInfo, DataTypes};
 use refusal::{DEEPEST, Mode};
 use report::Upload;
 use report::json::RefusedEntry;
 use std::io;
 use std::io::Write;
+use type_tree::Counts;
+use type_tree::node::{Members, Node};
 use walk::Piece;
 
 /// Writes a line for each entry of an upload.

@@ -8,13 +8,13 @@ ghost use Rattle.type_table.specs.Cells.{is_none, highest, array_cell, array_cel
 ghost use Rattle.type_tree.specs.Joined.{joined, more};
 ghost use Rattle.type_tree.specs.Marks.{marks_text, words_of};
 
-use type_tree::marks::{Marks, Style};
-use type_tree::node::Dimensions;
 use attribute::{AdsAttribute, Attributes};
 use data_type::array::{AdsArrayInfo, ArrayInfos};
 use flags::type_flags::AdsTypeFlags;
 use report::cells::digits;
 use std::fmt;
+use type_tree::marks::{Marks, Style};
+use type_tree::node::Dimensions;
 use wording::strings::Shown;
 
 /// How marks are told in a cell.

@@ -9,16 +9,16 @@ ghost use Rattle.report.specs.Cells.{refused_row};
 ghost use Rattle.type_tree.specs.Counts.{counts_of};
 ghost use Rattle.type_table.specs.Table.{rows_of, headings, widths_of, widest, fitted, fitted_on, columns_of, headings_text, names_text, numbers_text, tail_text, row_text, row_line, piece_lines, head_text, type_table, table_text};
 
-use type_tree::Counts;
 use crate::cells::{ArrayCell, AttributeCell, IN_CELLS, arrays_width, marks_width};
-use type_tree::marks::Marked;
-use type_tree::node::Node;
 use data_type::{AdsDataTypeInfo, DataTypes};
 use refusal::{DEEPEST, Mode, Refusal};
 use report::Upload;
 use report::cells::{AtLeft, AtRight, Name, Number, RefusedRow, digits};
 use std::io::Write;
 use std::{fmt, io};
+use type_tree::Counts;
+use type_tree::marks::Marked;
+use type_tree::node::Node;
 use walk::Piece;
 use wording::strings::{Spaces, shown_width};
 
@@ -26,7 +26,7 @@ use wording::strings::{Spaces, shown_width};
 const STEP: usize = 2;
 
 // How wide the columns are but the last: as the widest of their headings and of the cells that are to stand in them.
-#[derive(Clone, Copy, Debug)]
+#[derive(Clone, Copy)]
 struct Columns {
     place: usize,
     name: usize,
@@ -152,11 +152,13 @@ impl fmt::Display for Headings {
         let place = AtRight("place", columns.place);
         let name = AtLeft("name", columns.name);
         let type_name = AtLeft("type", columns.type_name);
-        write!(f, "{place}  {name}  {type_name}")?;
         let offset = AtRight("offset", columns.offset);
         let from_start = AtRight("from start", columns.from_start);
         let size = AtRight("size", columns.size);
-        write!(f, "  {offset}  {from_start}  {size}")?;
+        write!(
+            f,
+            "{place}  {name}  {type_name}  {offset}  {from_start}  {size}"
+        )?;
         let marks = AtLeft("mark", columns.marks);
         let arrays = AtLeft("array", columns.arrays);
         write!(f, "  {marks}  {arrays}  attributes")

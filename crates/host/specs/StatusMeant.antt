@@ -4,8 +4,8 @@ use Rattle.std.specs.declared.alloc.Global.{Global}
 use Rattle.std.specs.IoError.{error_kind}
 use Rattle.std.specs.declared.io.Error.{Error}
 use Rattle.std.specs.declared.io.ErrorKind.TheVariants.{BrokenPipe, ConnectionReset, StorageFull}
-use Rattle.command.specs.declared.failure.Failure.TheVariants.{Refused, Dropped, Usage, File, Output, Memory}
-use Rattle.command.specs.Status.{status_of}
+use Rattle.host.specs.declared.failure.Failure.TheVariants.{Refused, Dropped, Usage, File, Output, Memory}
+use Rattle.host.specs.Status.{status_of}
 
 pub record StatusMeant : Type 0 where
   pub done : status_of (Ok true) ≡ 0

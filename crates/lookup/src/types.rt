@@ -1,9 +1,9 @@
 //! `type`: data types with their members.
 
-use crate::failure::Failure;
-use crate::find::{NotFound, Unfound, is_alike, refused, small, windows_1252};
+use crate::{NotFound, Unfound, is_alike, refused, small, windows_1252};
 use data_type::{AdsDataTypeInfo, DataTypes};
 use field::AdsFieldInfo;
+use host::failure::Failure;
 use refusal::{Mode, Refusal};
 use report::Upload;
 use std::alloc::Global;

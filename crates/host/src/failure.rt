@@ -1,8 +1,8 @@
 //! How the program ends where it does not do what was asked.
 
 ghost use Rattle.std.specs.Prelude.{◌≡◌};
-ghost use Rattle.command.specs.Status.{is_unread, failure_status, status_of};
-ghost use Rattle.command.specs.StatusMeant.{StatusMeant};
+ghost use Rattle.host.specs.Status.{is_unread, failure_status, status_of};
+ghost use Rattle.host.specs.StatusMeant.{StatusMeant};
 
 use std::alloc::{AllocError, Global};
 use std::io;

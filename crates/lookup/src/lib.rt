@@ -1,7 +1,10 @@
-//! `find`: a symbol by its name, an attribute by its name.
+//! What the command finds by its name: a symbol, an attribute of one (`find`), a data type (`type`); and what is said where nothing is found.
+#![tactic(auto)]
 
-use crate::failure::Failure;
+pub mod types;
+
 use finding::Found;
+use host::failure::Failure;
 use refusal::{Mode, Refusal};
 use report::Upload;
 use std::alloc::Global;

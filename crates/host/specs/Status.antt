@@ -3,8 +3,8 @@ use Rattle.std.specs.Prelude.{ℕ, Bool, true, false, Result, Ok, Err, if◌then
 use Rattle.std.specs.IoError.{error_kind}
 use Rattle.std.specs.declared.io.ErrorKind.{ErrorKind}
 use Rattle.std.specs.declared.io.ErrorKind.TheVariants.{BrokenPipe, ConnectionReset}
-use Rattle.command.specs.declared.failure.Failure.{Failure}
-use Rattle.command.specs.declared.failure.Failure.TheVariants.{Refused, Dropped, Usage, File, Output, Memory}
+use Rattle.host.specs.declared.failure.Failure.{Failure}
+use Rattle.host.specs.declared.failure.Failure.TheVariants.{Refused, Dropped, Usage, File, Output, Memory}
 
 -- the reader of a pipe is gone, or that of a socket, which left something unread
 abbrev pub is_reader_gone : ErrorKind → Bool

@@ -2,8 +2,8 @@
 use Rattle.std.proofs.Common.{◌≡◌, refl, ap, ℕ}
 use Rattle.std.specs.Prelude.{if◌then◌else◌}
 use Rattle.std.specs.declared.io.ErrorKind.{ErrorKind}
-use Rattle.command.specs.Status.{is_reader_gone}
-use Rattle.command.specs.StatusMeant.{StatusMeant}
+use Rattle.host.specs.Status.{is_reader_gone}
+use Rattle.host.specs.StatusMeant.{StatusMeant}
 
 by_kind : ErrorKind → ℕ
 by_kind k = if is_reader_gone k then 0 else 2
