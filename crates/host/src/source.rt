@@ -3,8 +3,8 @@
 use crate::failure::{Failure, in_words};
 use refusal::Mode;
 use report::Upload;
-use std::alloc::{AllocError, Global};
-use std::fs;
+use std::fmt::{Display, Formatter};
+use std::{fmt, fs};
 use upload::{Fault, Form, ReadError, Taken};
 use wording::{Bytes, Grouped};
 
@@ -56,32 +56,54 @@ pub fn read<'a>(
             let why = in_words(alloc, &why)?;
             Err(Failure::File(format!(in alloc; "{path} can't be read: {why}")?))
         }
-        Err(ReadError::Refused(fault)) => Err(Failure::Refused(refused(alloc, path, fault)?)),
+        Err(ReadError::Refused(fault)) => {
+            let why = Why(fault);
+            Err(Failure::Refused(format!(in alloc; "{path}: {why}")?))
+        }
     }
 }
 
-fn refused(alloc: Global, path: &str, fault: Fault) -> Result<String, AllocError> {
-    match fault {
-        Fault::TooLarge => format!(in alloc;
-            "{path}: refusal 5, too large: an upload has at most 16,777,216 bytes, and this one has more"
-        ),
-        Fault::OddDigits { whole } => {
-            let whole = Bytes(whole);
-            format!(in alloc;
-                "{path}: refusal 12, bad hexadecimal text: an odd number of digits, so after {whole} one digit is left alone"
-            )
-        }
-        Fault::NoDigit { byte, line, column } => {
-            let (line, column) = (Grouped(line), Grouped(column));
-            if byte.is_ascii_graphic() {
-                let what = char::from(byte);
-                return format!(in alloc;
-                    "{path}: refusal 12, bad hexadecimal text: {what:?} in line {line}, column {column} is no hexadecimal digit"
-                );
+// Why bytes are no upload, with the number of the refusal.
+#[derive(Clone, Copy)]
+struct Why(Fault);
+
+impl Display for Why {
+    fn fmt<W: fmt::Write>(&self, f: &mut Formatter<W>) -> fmt::Result {
+        match self.0 {
+            Fault::TooLarge => f.write_str(
+                "refusal 5, too large: an upload has at most 16,777,216 bytes, and this one has more",
+            ),
+            Fault::OddDigits { whole } => {
+                let whole = Bytes(whole);
+                write!(
+                    f,
+                    "refusal 12, bad hexadecimal text: an odd number of digits, so after {whole} one digit is left alone"
+                )
             }
-            format!(in alloc;
-                "{path}: refusal 12, bad hexadecimal text: the byte {byte:02X} in line {line}, column {column} is no hexadecimal digit"
-            )
+            Fault::NoDigit { byte, line, column } => {
+                let what = NoDigit(byte);
+                let (line, column) = (Grouped(line), Grouped(column));
+                write!(
+                    f,
+                    "refusal 12, bad hexadecimal text: {what} in line {line}, column {column} is no hexadecimal digit"
+                )
+            }
+        }
+    }
+}
+
+// What stands where a digit should: a character that can be seen, or a byte.
+#[derive(Clone, Copy)]
+struct NoDigit(u8);
+
+impl Display for NoDigit {
+    fn fmt<W: fmt::Write>(&self, f: &mut Formatter<W>) -> fmt::Result {
+        let byte = self.0;
+        if byte.is_ascii_graphic() {
+            let what = char::from(byte);
+            write!(f, "{what:?}")
+        } else {
+            write!(f, "the byte {byte:02X}")
         }
     }
 }
