@@ -14,7 +14,7 @@ pub fn room<W: Write>(alloc: Global, length: usize, out: &mut W) -> Result<(), F
         }
         Err(why) => {
             let why = InWords(&why);
-            Err(Failure::Refused(format!(in alloc; "{why}")?))
+            Err(Failure::of_refusal(format!(in alloc; "{why}")))
         }
     }
 }

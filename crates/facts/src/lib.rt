@@ -4,7 +4,7 @@
 ghost use Rattle.std.specs.Prelude.{Some};
 ghost use Rattle.attribute.specs.Attribute as attribute;
 ghost use Rattle.refactor.specs.Refactor as refactor;
-ghost use Rattle.facts.specs.Facts.{address_text, attributes_text, below, because, extended_or, facts_text, guid_or, more_attributes, more_names, names_text, no_more, numbers_text, optional_text, place_text, strings_text};
+ghost use Rattle.facts.specs.Facts.{address_text, attributes_text, because, extended_or, facts_text, guid_or, more_attributes, more_names, names_text, no_more, numbers_text, optional_text, place_text, strings_text};
 
 mod reasons;
 pub mod theorems;

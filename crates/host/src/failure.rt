@@ -42,6 +42,38 @@ impl From<io::Error> for Failure {
 }
 
 impl Failure {
+    /// What was refused or not found, in words, unless there was no memory for them.
+    pub fn of_refusal(words: Result<String, AllocError>) -> Self {
+        match words {
+            Ok(words) => Failure::Refused(words),
+            Err(_) => Failure::Memory,
+        }
+    }
+
+    /// What is wrong with a file, likewise.
+    pub fn of_file(words: Result<String, AllocError>) -> Self {
+        match words {
+            Ok(words) => Failure::File(words),
+            Err(_) => Failure::Memory,
+        }
+    }
+
+    /// What is wrong with the arguments, likewise.
+    pub fn of_usage(words: Result<String, AllocError>) -> Self {
+        match words {
+            Ok(words) => Failure::Usage(words),
+            Err(_) => Failure::Memory,
+        }
+    }
+
+    /// That a file can't be read, and why.
+    pub fn unreadable(alloc: Global, path: &str, why: &io::Error) -> Self {
+        match in_words(alloc, why) {
+            Ok(why) => Failure::of_file(format!(in alloc; "{path} can't be read: {why}")),
+            Err(_) => Failure::Memory,
+        }
+    }
+
     /// Whether the reader of standard output has gone: of a pipe, or of a socket in which it left something unread.
     pub fn is_unread(&self) -> bool
         ensures { result ≡ is_unread self.now }

@@ -1,6 +1,6 @@
 //! The file that is read, or standard input.
 
-use crate::failure::{Failure, in_words};
+use crate::failure::Failure;
 use refusal::Mode;
 use report::Upload;
 use std::fmt::{Display, Formatter};
@@ -52,13 +52,10 @@ pub fn read<'a>(
     let path = shown(path);
     match read {
         Ok(taken) => Ok(Source { path, mode, taken }),
-        Err(ReadError::Failed(why)) => {
-            let why = in_words(alloc, &why)?;
-            Err(Failure::File(format!(in alloc; "{path} can't be read: {why}")?))
-        }
+        Err(ReadError::Failed(why)) => Err(Failure::unreadable(alloc, path, &why)),
         Err(ReadError::Refused(fault)) => {
             let why = Why(fault);
-            Err(Failure::Refused(format!(in alloc; "{path}: {why}")?))
+            Err(Failure::of_refusal(format!(in alloc; "{path}: {why}")))
         }
     }
 }

@@ -1,7 +1,6 @@
 //! A file that is written whole or not at all, and never over another.
 
 use crate::failure::{Failure, in_words};
-use std::alloc::AllocError;
 use std::fs::File;
 use std::io::{ErrorKind, Write};
 use std::os::unix::fs::MetadataExt;
@@ -12,19 +11,19 @@ use std::{fs, io, process};
 /// looks again, by the system's own rule.
 pub fn check_free(rt: &HostRuntime, word: &str, path: &str, input: &str) -> Result<(), Failure> {
     if path == "-" {
-        return Err(Failure::Usage(format!(in rt.alloc();
+        return Err(Failure::of_usage(format!(in rt.alloc();
             "{word} writes to a path, and - is none"
-        )?));
+        )));
     }
     // A link that leads nowhere is something too.
     match fs::symlink_metadata(rt, path) {
         Err(why) if why.kind() == ErrorKind::NotFound => Ok(()),
-        Err(why) => Err(unwritable(rt, path, &why)?),
+        Err(why) => Err(unwritable(rt, path, &why)),
         Ok(_) => {
             if is_same(rt, path, input) {
-                return Err(taken(rt, path, "it is the file that is read")?);
+                return Err(taken(rt, path, "it is the file that is read"));
             }
-            Err(taken(rt, path, THERE)?)
+            Err(taken(rt, path, THERE))
         }
     }
 }
@@ -42,34 +41,47 @@ fn is_same(rt: &HostRuntime, path: &str, other: &str) -> bool {
     }
 }
 
-fn taken(rt: &HostRuntime, path: &str, why: &str) -> Result<Failure, AllocError> {
-    Ok(Failure::File(format!(in rt.alloc();
+fn taken(rt: &HostRuntime, path: &str, why: &str) -> Failure {
+    Failure::of_file(format!(in rt.alloc();
         "{path} is not written: {why}, and nothing is written over"
-    )?))
+    ))
 }
 
-fn unwritable(rt: &HostRuntime, path: &str, why: &io::Error) -> Result<Failure, AllocError> {
-    let told = match why.kind() {
-        ErrorKind::NotFound | ErrorKind::NotADirectory => "there is no such folder",
-        ErrorKind::PermissionDenied => "there is no permission to write there",
-        ErrorKind::FileTooLarge => "no file may be so long there",
+fn unwritable(rt: &HostRuntime, path: &str, why: &io::Error) -> Failure {
+    match known(why.kind()) {
+        Some(told) => unwritable_since(rt, path, told),
+        None => match in_words(rt.alloc(), why) {
+            Ok(told) => unwritable_since(rt, path, told.as_str()),
+            Err(_) => Failure::Memory,
+        },
+    }
+}
+
+fn unwritable_since(rt: &HostRuntime, path: &str, told: &str) -> Failure {
+    Failure::of_file(format!(in rt.alloc(); "{path} can't be written: {told}"))
+}
+
+// What an error of the system means for a file that is to be written.
+fn known(kind: ErrorKind) -> Option<&'static str> {
+    match kind {
+        ErrorKind::NotFound | ErrorKind::NotADirectory => Some("there is no such folder"),
+        ErrorKind::PermissionDenied => Some("there is no permission to write there"),
+        ErrorKind::FileTooLarge => Some("no file may be so long there"),
         ErrorKind::Unsupported => {
-            "its file system has no hard links, by which a file gets its name once it is whole"
+            Some(
+                "its file system has no hard links, by which a file gets its name once it is whole",
+            )
         }
-        _ => {
-            let why = in_words(rt.alloc(), why)?;
-            return Ok(Failure::File(format!(in rt.alloc(); "{path} can't be written: {why}")?));
-        }
-    };
-    Ok(Failure::File(format!(in rt.alloc(); "{path} can't be written: {told}")?))
+        _ => None,
+    }
 }
 
 /// Writes a new file.
 pub fn write(rt: &HostRuntime, path: &str, bytes: &[u8]) -> Result<(), Failure> {
     match write_unnamed(rt, path, bytes) {
         Ok(()) => Ok(()),
-        Err(why) if why.kind() == ErrorKind::AlreadyExists => Err(taken(rt, path, THERE)?),
-        Err(why) => Err(unwritable(rt, path, &why)?),
+        Err(why) if why.kind() == ErrorKind::AlreadyExists => Err(taken(rt, path, THERE)),
+        Err(why) => Err(unwritable(rt, path, &why)),
     }
 }
 

@@ -18,10 +18,7 @@ use wording::strings::{Exact, Shown};
 
 /// A failure about an upload, with what it was read as: a wrong guess is the first thing to rule out.
 pub fn refused<D: Display>(alloc: Global, upload: &Upload<'_>, why: &D) -> Failure {
-    match format!(in alloc; "{upload}: {why}") {
-        Ok(text) => Failure::Refused(text),
-        Err(_) => Failure::Memory,
-    }
+    Failure::of_refusal(format!(in alloc; "{upload}: {why}"))
 }
 
 /// An argument as an upload would have it.
@@ -34,9 +31,9 @@ pub fn windows_1252(alloc: Global, argument: &str) -> Result<Vec<u8>, Failure> {
         }
         Err(why) => {
             let why = InWords(&why);
-            Err(Failure::Refused(format!(in alloc;
+            Err(Failure::of_refusal(format!(in alloc;
                 "{argument}: {why}; a name is asked for in UTF-8 and looked up in Windows-1252"
-            )?))
+            )))
         }
     }
 }

@@ -44,7 +44,7 @@ fn unless_refused(alloc: Global, upload: &Upload<'_>, counts: Counts) -> Result<
         return Ok(());
     }
     let (refused, all) = (Grouped(counts.refused), Grouped(counts.all));
-    Err(Failure::Refused(format!(in alloc; "{upload}: refused entries: {refused} of {all}")?))
+    Err(Failure::of_refusal(format!(in alloc; "{upload}: refused entries: {refused} of {all}")))
 }
 
 // The first data type of a name.

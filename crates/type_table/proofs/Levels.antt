@@ -7,7 +7,7 @@ use Rattle.refusal.specs.declared.Mode.{Mode}
 use Rattle.report.specs.Report.{plus}
 use Rattle.type_tree.specs.declared.node.Node.{Node}
 use Rattle.type_tree.specs.Levels.{HasLevels}
-use Rattle.type_tree.specs.Node.{root, members_of}
+use Rattle.type_tree.specs.Node.{members_of}
 use Rattle.type_tree.proofs.Levels.{with_members, accepted}
 use Rattle.type_table.specs.Table.{rows_of}
 use Rattle.type_table.specs.Levels.{RowsMeant}

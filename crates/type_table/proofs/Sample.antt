@@ -13,7 +13,7 @@ use Rattle.field.specs.Front.{with_strings, front_of}
 use Rattle.layout.specs.Layout.{guid_of}
 use Rattle.field.specs.Tail.{after_mask, after_methods, attributes_of, tail_of}
 use Rattle.data_type.specs.Array as array
-use Rattle.data_type.specs.DataType.{taken, items_from, arrays_of, type_with, type_at, type_of}
+use Rattle.data_type.specs.DataType.{taken, items_from, arrays_of, type_with, type_at}
 use Rattle.text.specs.Text.{code_point}
 use Rattle.upload.specs.declared.Form.TheVariants.{Binary}
 use Rattle.wording.specs.Text.{shown, shown_width, widths_on}

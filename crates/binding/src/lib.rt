@@ -1,4 +1,5 @@
 //! `bind`: the addresses of variables, by their paths.
+#![tactic(auto)]
 
 use bind_report::table::Columns;
 use bind_report::{Bound, json};

@@ -1,7 +1,7 @@
 //! `captures`: lines of an upload, and an upload of lines.
 
 use arguments::Captures;
-use host::failure::{Failure, in_words};
+use host::failure::Failure;
 use host::source;
 use refusal::{Mode, Refusal};
 use report::Upload;
@@ -63,7 +63,7 @@ fn write<W: Write>(
     match made {
         Ok(bytes) => Ok(out.write_all(bytes.as_slice())?),
         Err(WriteError::OutOfMemory) => Err(Failure::Memory),
-        Err(WriteError::Refused(why)) => Err(Failure::Refused(refused(alloc, path, why)?)),
+        Err(WriteError::Refused(why)) => Err(Failure::of_refusal(refused(alloc, path, why))),
     }
 }
 
@@ -96,9 +96,9 @@ fn check_lines(alloc: Global, text: &[u8], path: &str) -> Result<(), Failure> {
         number = number.saturating_add(1);
         if let Err(Refusal::BadHexadecimal) = captures::join(line, &mut []) {
             let number = Grouped(number);
-            return Err(Failure::Refused(format!(in alloc;
+            return Err(Failure::of_refusal(format!(in alloc;
                 "{path}: refusal 12, bad hexadecimal text: line {number} is not pairs of digits and nothing else"
-            )?));
+            )));
         }
     }
     Ok(())
@@ -125,9 +125,6 @@ pub fn text(rt: &HostRuntime, path: &str) -> Result<Vec<u8>, Failure> {
     match read {
         Ok(_) => Ok(text),
         Err(why) if why.kind() == ErrorKind::OutOfMemory => Err(Failure::Memory),
-        Err(why) => {
-            let (path, why) = (source::shown(path), in_words(alloc, &why)?);
-            Err(Failure::File(format!(in alloc; "{path} can't be read: {why}")?))
-        }
+        Err(why) => Err(Failure::unreadable(alloc, source::shown(path), &why)),
     }
 }
