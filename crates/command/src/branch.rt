@@ -1,8 +1,8 @@
 //! `branch`: the symbols whose names begin with a text; and `list --sorted`, all in the order of their names.
 
-use crate::failure::Failure;
-use crate::find::{refused, windows_1252};
 use branching::NoOrder;
+use host::failure::Failure;
+use lookup::{refused, windows_1252};
 use report::{Tally, Upload};
 use std::alloc::Global;
 use std::fmt;

@@ -1,7 +1,7 @@
 //! `why`: why the sections of one symbol are there or not.
 
-use crate::failure::Failure;
-use crate::find::{named, refused};
+use host::failure::Failure;
+use lookup::{named, refused};
 use report::Upload;
 use std::alloc::Global;
 use std::io::Write;

@@ -1,25 +1,21 @@
 //! `vindaskot`: any upload, in words.
 #![tactic(auto)]
 
-mod bound;
 mod branch;
-mod captured;
 mod compare;
 mod explain;
-mod failure;
-mod find;
 mod help;
 mod plain_form;
 mod salvaged;
 mod sheets;
 mod show;
 mod slots;
-mod source;
-mod types;
-mod written;
 
 use arguments::{Asked, Operands, Request, Run};
-use failure::Failure;
+use conversions::captured;
+use host::failure::Failure;
+use host::{failure, source, written};
+use lookup::types;
 use report::{Tally, Upload};
 use std::alloc::{AllocError, Global};
 use std::env;
@@ -52,10 +48,12 @@ fn words(rt: &HostRuntime) -> Result<Vec<String>, Failure> {
     let alloc = rt.alloc();
     match env::args(rt) {
         Ok(words) => Ok(words.collect(alloc)?),
-        Err(why) if why.kind() == ErrorKind::InvalidData => Err(Failure::Usage(String::from_str(
-            alloc,
-            "a word of the command line is not UTF-8; a file of such a name can be read from standard input",
-        )?)),
+        Err(why) if why.kind() == ErrorKind::InvalidData => Err(Failure::of_usage(
+            String::from_str(
+                alloc,
+                "a word of the command line is not UTF-8; a file of such a name can be read from standard input",
+            ),
+        )),
         Err(_) => Err(Failure::Memory),
     }
 }
@@ -72,7 +70,7 @@ fn texts<'a>(alloc: Global, line: &'a [String]) -> Result<Vec<&'a str>, Failure>
 fn request_of<'a>(alloc: Global, line: &'a [&'a str]) -> Result<Request<'a>, Failure> {
     match arguments::read(line) {
         Ok(request) => Ok(request),
-        Err(why) => Err(Failure::Usage(format!(in alloc; "{why}")?)),
+        Err(why) => Err(Failure::of_usage(format!(in alloc; "{why}"))),
     }
 }
 
@@ -121,7 +119,7 @@ fn answer_of_an_upload<W: Write>(
 ) -> Result<bool, Failure> {
     let alloc = rt.alloc();
     match &run.asked {
-        Asked::Find { name, attribute } => done(find::find(alloc, upload, name, *attribute, out)),
+        Asked::Find { name, attribute } => done(lookup::find(alloc, upload, name, *attribute, out)),
         Asked::Show { name } => done(show::show(alloc, upload, name, is_coloured(rt), out)),
         Asked::Why { name } => done(explain::explain(alloc, upload, name, out)),
         Asked::Branch { text, json } => done(branch::branch(alloc, upload, text, *json, out)),
@@ -172,7 +170,7 @@ fn bind_paths<W: Write>(
 ) -> Result<bool, Failure> {
     let types = source::read(rt, types, run.form, run.mode)?;
     let paths = paths.to_vec(rt.alloc())?;
-    bound::bind(
+    binding::bind(
         rt.alloc(),
         upload,
         &types.upload(),
@@ -215,7 +213,7 @@ fn unless_refused(alloc: Global, upload: &Upload<'_>, tally: Tally) -> Result<bo
         return Ok(true);
     }
     let (refused, all) = (Grouped(tally.refused), Grouped(tally.all()));
-    Err(Failure::Refused(format!(in alloc; "{upload}: refused entries: {refused} of {all}")?))
+    Err(Failure::of_refusal(format!(in alloc; "{upload}: refused entries: {refused} of {all}")))
 }
 
 // Colour is for a terminal that can show it, and for nobody who has said NO_COLOR (no-color.org), be it text or not.

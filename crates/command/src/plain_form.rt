@@ -1,6 +1,6 @@
 //! `plain`: whether an upload is in plain form.
 
-use crate::failure::Failure;
+use host::failure::Failure;
 use report::Upload;
 use std::alloc::Global;
 use std::io::Write;

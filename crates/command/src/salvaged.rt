@@ -1,7 +1,7 @@
 //! `salvage`: the accepted entries as a new upload.
 
-use crate::failure::Failure;
-use crate::written;
+use host::failure::Failure;
+use host::written;
 use report::Upload;
 use salvage_report::Dropped;
 use std::io::Write;

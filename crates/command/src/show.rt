@@ -1,7 +1,7 @@
 //! `show`: everything of one symbol, and a picture of its bytes.
 
-use crate::failure::Failure;
-use crate::find::named;
+use host::failure::Failure;
+use lookup::named;
 use report::Upload;
 use std::alloc::Global;
 use std::io::Write;

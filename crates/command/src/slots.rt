@@ -1,6 +1,6 @@
 //! `room`: how many slots the index of an upload of so many bytes can need.
 
-use crate::failure::Failure;
+use host::failure::Failure;
 use std::alloc::Global;
 use std::io::Write;
 use wording::InWords;
@@ -14,7 +14,7 @@ pub fn room<W: Write>(alloc: Global, length: usize, out: &mut W) -> Result<(), F
         }
         Err(why) => {
             let why = InWords(&why);
-            Err(Failure::Refused(format!(in alloc; "{why}")?))
+            Err(Failure::of_refusal(format!(in alloc; "{why}")))
         }
     }
 }

@@ -6,7 +6,7 @@ use Rattle.refusal.specs.declared.Refusal.{Refusal}
 use Rattle.sections.specs.Sections.{sections_of}
 use Rattle.why.specs.declared.Reasons.{Reasons}
 use Rattle.why.proofs.Explained.{reasons_true}
-use Rattle.picture.specs.Facts.{facts_text}
+use Rattle.facts.specs.Facts.{facts_text}
 use Rattle.picture.specs.Rows.{picture_text}
 use Rattle.picture.specs.Show.{show_text}
 use Rattle.picture.specs.Whole.{ShowMeant}

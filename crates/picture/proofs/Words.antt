@@ -1,14 +1,13 @@
--- Labels, colours and reasons word for word: computed.
+-- Labels and colours word for word: computed.
 use Rattle.std.proofs.Common.{ℕ, ◌+◌, ◌*◌, ◌%◌, ◌≡◌, Bool, true, false, List, codes, refl, ap, arith}
 use Rattle.std.specs.Prelude.{◌==◌, if◌then◌else◌}
 use Rattle.std.specs.Fmt.{digits}
-use Rattle.wording.specs.Wording.{grouped, grouped_by, many, bytes, figure, refusal_text}
+use Rattle.wording.specs.Wording.{grouped, grouped_by, many, bytes}
 use Rattle.sections.specs.Parts.{part_text}
 use Rattle.sections.specs.declared.Part.{Part}
 use Rattle.sections.specs.declared.Part.TheVariants.{Length, Group, Offset, Size, TypeId, Flags, High, StringLengths, Name, «Type», Comment, Guid, AttributeCount, Attribute, ExtendedFlags, FormerName, Unread}
-use Rattle.picture.specs.Facts.{because}
 use Rattle.picture.specs.Rows.{by_turns, colour, label}
-use Rattle.picture.specs.Words.{ColoursMeant, LabelsMeant, ReasonsMeant}
+use Rattle.picture.specs.Words.{ColoursMeant, LabelsMeant}
 
 even : (k : ℕ) (s t : List ℕ) → by_turns (2 * k) s t ≡ s
 even k s t = let e : (2 * k % 2 == 0) ≡ true = grind arith in ap (λ (b : Bool). if b then s else t) e
@@ -62,21 +61,3 @@ other Unread n h = absurd (h refl)
 pub labels_meant : LabelsMeant
 unfolding digits grouped grouped_by many bytes
 labels_meant = record { unread = refl; other = other }
-
-pub reasons_meant : ReasonsMeant
-unfolding digits because grouped grouped_by many bytes figure refusal_text
-reasons_meant = record {
-  unflagged = refl;
-  no_flags = refl;
-  short = refl;
-  short_by_one = refl;
-  whole = refl;
-  refused = refl;
-  owed = refl;
-  more_unflagged = refl;
-  more_no_flags = refl;
-  more_short = λ at left. refl;
-  more_whole = λ at count. refl;
-  more_refused = λ before at why. refl;
-  more_owed = λ announced owed. refl;
-}

@@ -1,8 +1,6 @@
-pub mod Facts
 pub mod Rows
 pub mod Show
 pub mod Seen
 pub mod Meant
 pub mod Words
-pub mod Told
 pub mod Whole

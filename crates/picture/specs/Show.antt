@@ -5,7 +5,7 @@ use Rattle.part.specs.Outcome.{outcome}
 use Rattle.symbol.specs.declared.AdsSymbolInfo.{AdsSymbolInfo}
 use Rattle.sections.specs.Sections.{sections_of}
 use Rattle.why.specs.Reasons.{explained}
-use Rattle.picture.specs.Facts.{facts_text}
+use Rattle.facts.specs.Facts.{facts_text}
 use Rattle.picture.specs.Rows.{picture_text}
 
 -- what it tells, with the reasons of its entry's own bytes, an empty line, and the picture of these bytes

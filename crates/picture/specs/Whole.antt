@@ -9,7 +9,7 @@ use Rattle.symbol.specs.declared.AdsSymbolInfo.{AdsSymbolInfo}
 use Rattle.sections.specs.Sections.{sections_of}
 use Rattle.why.specs.declared.Reasons.{Reasons}
 use Rattle.why.specs.Meant.{AreTrue}
-use Rattle.picture.specs.Facts.{facts_text}
+use Rattle.facts.specs.Facts.{facts_text}
 use Rattle.picture.specs.Rows.{picture_text}
 use Rattle.picture.specs.Show.{show_text}
 

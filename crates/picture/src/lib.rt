@@ -5,8 +5,6 @@ ghost use Rattle.std.specs.Prelude.{OnOk};
 ghost use Rattle.std.specs.Io.KnownBytes.{Appends};
 ghost use Rattle.picture.specs.Show.{show_text};
 
-mod facts;
-mod reasons;
 mod rows;
 pub mod theorems;
 

@@ -1,19 +1,12 @@
 //! The theorems. Each is the contract of a function that does nothing, so that none goes unnoticed if its proof does.
 ghost use Rattle.picture.specs.Meant.{PictureMeant};
-ghost use Rattle.picture.specs.Told.{FactsMeant};
 ghost use Rattle.picture.specs.Whole.{ShowMeant};
-ghost use Rattle.picture.specs.Words.{ColoursMeant, LabelsMeant, ReasonsMeant};
+ghost use Rattle.picture.specs.Words.{ColoursMeant, LabelsMeant};
 
 /// Of a symbol that was found, in either mode, the text is the facts, with reasons that are true of the entry's bytes, an empty
 /// line, and the picture of all own bytes; so nothing that was found is refused.
 pub fn show_meant()
     ensures { ShowMeant }
-{}
-
-/// Of a symbol that was read each fact stands in its line, by the bytes of the entry, behind its heading; what the sections
-/// hold, or why there is nothing, behind these.
-pub fn facts_meant()
-    ensures { FactsMeant }
 {}
 
 /// Whatever the symbol, each byte of the entry stands in the picture once and in order, in two digits, at its place in the row
@@ -31,9 +24,4 @@ pub fn colours_meant()
 /// What a section is called where it begins.
 pub fn labels_meant()
     ensures { LabelsMeant }
-{}
-
-/// Each reason, word for word, with every figure different; and which of them are told behind attributes that are shown.
-pub fn reasons_meant()
-    ensures { ReasonsMeant }
 {}

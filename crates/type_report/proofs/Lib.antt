@@ -1,10 +1,3 @@
-pub mod Marked
-pub mod Stepping
-pub mod Counting
 pub mod Trees
-pub mod Sample
-pub mod SubItems
 pub mod Levels
-pub mod Words
-pub mod Rows
-pub mod Aligned
+pub mod Sample

@@ -1,10 +1,10 @@
 -- An object with so many levels below it.
 use Rattle.std.proofs.Common.{ℕ, zero, suc, ◌-◌, ◌<◌, ◌≡◌, List, ◌++◌, codes, ap, ◌∙◌, append_assoc, arith}
 use Rattle.refusal.specs.declared.Mode.{Mode}
-use Rattle.type_report.specs.declared.node.Node.{Node}
-use Rattle.type_report.specs.Joined.{joined}
+use Rattle.type_tree.specs.declared.node.Node.{Node}
+use Rattle.type_tree.specs.Joined.{joined}
 use Rattle.type_report.specs.Json.{own_text, node_text}
-use Rattle.type_report.specs.Node.{members_of}
+use Rattle.type_tree.specs.Node.{members_of}
 
 -- what stands before the objects in it
 abbrev pub before : Node → List ℕ

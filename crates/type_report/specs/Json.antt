@@ -13,10 +13,10 @@ use Rattle.data_type.specs.declared.AdsDataTypeInfo.{AdsDataTypeInfo}
 use Rattle.data_type.specs.declared.array.AdsArrayInfo.{AdsArrayInfo}
 use Rattle.data_type.specs.Array as array
 use Rattle.report.specs.Json.{guid_or_null, attributes_text, refused_text}
-use Rattle.type_report.specs.declared.node.Node.{Node}
-use Rattle.type_report.specs.Joined.{joined}
-use Rattle.type_report.specs.Marks.{marks_text}
-use Rattle.type_report.specs.Node.{root, members_of}
+use Rattle.type_tree.specs.declared.node.Node.{Node}
+use Rattle.type_tree.specs.Joined.{joined}
+use Rattle.type_tree.specs.Marks.{marks_text}
+use Rattle.type_tree.specs.Node.{root, members_of}
 
 unfoldable pub strings_text : AdsFieldInfo → List ℕ
 strings_text f =

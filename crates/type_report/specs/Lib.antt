@@ -1,11 +1,3 @@
-pub mod Joined
-pub mod Marks
-pub mod Node
 pub mod Json
-pub mod Cells
-pub mod Table
-pub mod Aligned
 pub mod Levels
-pub mod Counts
 pub mod Sample
-pub mod Meaning

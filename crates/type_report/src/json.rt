@@ -2,15 +2,15 @@
 
 ghost use Rattle.std.specs.Prelude.{Some, codes};
 ghost use Rattle.data_type.specs.Array as array;
-ghost use Rattle.type_report.specs.Joined.{joined, more};
+ghost use Rattle.type_tree.specs.Joined.{joined, more};
 ghost use Rattle.type_report.specs.Json.{own_text, strings_text, numbers_text, shape_text, maker_text, array_text};
 
-use crate::marks::{Marked, Style};
-use crate::node::{Dimensions, Node};
 use data_type::array::AdsArrayInfo;
 use field::AdsFieldInfo;
 use report::json::{AttributeObjects, GuidOrNull};
 use std::fmt;
+use type_tree::marks::{Marked, Style};
+use type_tree::node::{Dimensions, Node};
 use wording::strings::Quoted;
 
 /// What an entry tells of itself.
@@ -20,6 +20,7 @@ pub struct Own<'a>(pub &'a Node<'a>);
 impl fmt::Display for Own<'_> {
     ghost output = { λ o. Some (own_text o.0.now) };
 
+    #[tactic(auto, unfolding(crate::specs::Json::own_text))]
     fn fmt<W: fmt::Write>(&self, f: &mut fmt::Formatter<W>) -> fmt::Result {
         let place = self.0.place;
         let strings = Strings(&self.0.info.field);
@@ -39,6 +40,7 @@ struct Strings<'a>(&'a AdsFieldInfo<'a>);
 impl fmt::Display for Strings<'_> {
     ghost output = { λ s. Some (strings_text s.0.now) };
 
+    #[tactic(auto, unfolding(crate::specs::Json::strings_text))]
     fn fmt<W: fmt::Write>(&self, f: &mut fmt::Formatter<W>) -> fmt::Result {
         let field = self.0;
         let length = field.length;
@@ -58,6 +60,7 @@ struct Numbers<'a>(&'a Node<'a>);
 impl fmt::Display for Numbers<'_> {
     ghost output = { λ n. Some (numbers_text n.0.now) };
 
+    #[tactic(auto, unfolding(crate::specs::Json::numbers_text))]
     fn fmt<W: fmt::Write>(&self, f: &mut fmt::Formatter<W>) -> fmt::Result {
         let node = self.0;
         let offset = node.info.field.offset;
@@ -76,6 +79,7 @@ struct Shape<'a>(&'a Node<'a>);
 impl fmt::Display for Shape<'_> {
     ghost output = { λ s. Some (shape_text s.0.now) };
 
+    #[tactic(auto, unfolding(crate::specs::Json::shape_text))]
     fn fmt<W: fmt::Write>(&self, f: &mut fmt::Formatter<W>) -> fmt::Result {
         let node = self.0;
         let marks = Marked {
@@ -96,18 +100,18 @@ struct Maker<'a>(&'a AdsFieldInfo<'a>);
 impl fmt::Display for Maker<'_> {
     ghost output = { λ m. Some (maker_text m.0.now) };
 
+    #[tactic(auto, unfolding(crate::specs::Json::maker_text))]
     fn fmt<W: fmt::Write>(&self, f: &mut fmt::Formatter<W>) -> fmt::Result {
         let field = self.0;
         let version = field.version;
         let hash = field.hash_value;
         let type_hash = field.type_hash_value;
-        write!(
-            f,
-            "\"version\":{version},\"hash\":{hash},\"type_hash\":{type_hash}"
-        )?;
         let type_id = field.type_id;
         let flags = field.flags.0;
-        write!(f, ",\"type_id\":{type_id},\"flags\":{flags}")
+        write!(
+            f,
+            "\"version\":{version},\"hash\":{hash},\"type_hash\":{type_hash},\"type_id\":{type_id},\"flags\":{flags}"
+        )
     }
 }
 

@@ -1,45 +1,6 @@
-//! `type`: data types with their members (docs/FORMAT.md, "The command's text").
-#![tactic(auto, unfolding(crate::specs::Json::strings_text, crate::specs::Json::numbers_text, crate::specs::Json::shape_text, crate::specs::Json::maker_text, crate::specs::Json::own_text, crate::specs::Table::headings_text, crate::specs::Table::names_text, crate::specs::Table::numbers_text, crate::specs::Table::tail_text, crate::specs::Table::row_text, crate::specs::Table::head_text, crate::specs::Cells::array_cell, crate::specs::Cells::array_width, crate::specs::Cells::attribute_cell))]
+//! `type --json`: data types with their members in JSON (docs/FORMAT.md, "The command's text").
+#![tactic(auto)]
 
-ghost use Rattle.std.specs.Prelude.{◌≡◌};
-ghost use Rattle.type_report.specs.Counts.{none_counted, counted};
-
-pub mod cells;
 pub mod json;
 pub mod list;
-pub mod marks;
-pub mod node;
-pub mod table;
 pub mod theorems;
-
-use data_type::AdsDataTypeInfo;
-use refusal::Refusal;
-
-/// How many entries there are, and how many were refused. A count stays at the highest number once it is there.
-#[derive(Clone, Copy, Debug)]
-pub struct Counts {
-    /// All of them.
-    pub all: usize,
-    /// Those that were refused.
-    pub refused: usize,
-}
-
-impl Counts {
-    /// Of no entry yet.
-    pub fn new() -> Self
-        ensures { result ≡ none_counted }
-    {
-        Counts { all: 0, refused: 0 }
-    }
-
-    /// One more.
-    #[tactic(auto, unfolding(crate::specs::Counts::counted))]
-    pub fn count(&mut self, answer: &Result<AdsDataTypeInfo<'_>, Refusal>)
-        ensures { self.new ≡ counted self.old answer.now }
-    {
-        self.all = self.all.saturating_add(1);
-        if answer.is_err() {
-            self.refused = self.refused.saturating_add(1);
-        }
-    }
-}

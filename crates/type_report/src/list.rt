@@ -5,20 +5,20 @@ ghost use Rattle.std.specs.List.{flat_map};
 ghost use Rattle.std.specs.Io.KnownBytes.{Appends};
 ghost use Rattle.data_type.specs.DataType.{type_of};
 ghost use Rattle.walk.specs.Pieces.{pieces};
-ghost use Rattle.type_report.specs.Counts.{counts_of};
-ghost use Rattle.type_report.specs.Joined.{joined, more};
+ghost use Rattle.type_tree.specs.Counts.{counts_of};
+ghost use Rattle.type_tree.specs.Joined.{joined, more};
 ghost use Rattle.type_report.specs.Json.{own_text, node_text, type_line, entry_line};
-ghost use Rattle.type_report.specs.Node.{members_left};
+ghost use Rattle.type_tree.specs.Node.{members_left};
 
-use crate::Counts;
 use crate::json::Own;
-use crate::node::{Members, Node};
 use data_type::{AdsDataTypeInfo, DataTypes};
 use refusal::{DEEPEST, Mode};
 use report::Upload;
 use report::json::RefusedEntry;
 use std::io;
 use std::io::Write;
+use type_tree::Counts;
+use type_tree::node::{Members, Node};
 use walk::Piece;
 
 /// Writes a line for each entry of an upload.

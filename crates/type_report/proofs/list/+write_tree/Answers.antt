@@ -3,11 +3,11 @@ use Rattle.std.specs.List.{flat_map}
 use Rattle.std.specs.Io.KnownBytes.{Appends}
 use Rattle.std.proofs.KnownBytes.{Appends-nil}
 use Rattle.report.proofs.Going.{goes, ends, two, three}
-use Rattle.type_report.specs.declared.node.Node.{Node}
-use Rattle.type_report.specs.declared.node.Members.{Members}
-use Rattle.type_report.specs.Joined.{joined, more}
+use Rattle.type_tree.specs.declared.node.Node.{Node}
+use Rattle.type_tree.specs.declared.node.Members.{Members}
+use Rattle.type_tree.specs.Joined.{joined, more}
 use Rattle.type_report.specs.Json.{node_text}
-use Rattle.type_report.specs.Node.{members_left}
+use Rattle.type_tree.specs.Node.{members_left}
 use Rattle.type_report.proofs.Trees.{levels_in}
 use Rattle.type_report.proofs.list.+write_tree.Goals as goal
 

@@ -3,7 +3,7 @@ use Rattle.walk.specs.Pieces.{pieces, walker_left}
 use Rattle.data_type.specs.DataType.{type_of}
 use Rattle.report.proofs.Going.{goes}
 use Rattle.type_report.specs.Json.{entry_line}
-use Rattle.type_report.proofs.Counting.{counted_more, counted_all}
+use Rattle.type_tree.proofs.Counting.{counted_more, counted_all}
 use Rattle.type_report.proofs.list.list.Goals as goal
 
 pub loop-piece-preserved : goal.loop-piece-preserved

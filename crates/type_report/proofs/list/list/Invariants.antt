@@ -3,7 +3,7 @@ use Rattle.std.specs.List.{flat_map}
 use Rattle.walk.specs.Pieces.{walker_left}
 use Rattle.data_type.specs.DataType.{type_of}
 use Rattle.report.proofs.Going.{Going}
-use Rattle.type_report.specs.Counts.{counted_on}
+use Rattle.type_tree.specs.Counts.{counted_on}
 use Rattle.type_report.specs.Json.{entry_line}
 use Rattle.type_report.proofs.list.list.Given as goal
 

@@ -1,6 +1,6 @@
 use Rattle.std.proofs.Common.{codes, sym, ap, rules}
 use Rattle.std.proofs.Output.{has_written_of_eq}
-use Rattle.type_report.specs.Joined.{joined}
+use Rattle.type_tree.specs.Joined.{joined}
 use Rattle.type_report.specs.Json.{array_text}
 use Rattle.type_report.proofs.json.ArraysDisplay.fmt.Goals as goal
 

@@ -1,7 +1,7 @@
 use Rattle.std.proofs.Common.{[], ◌++◌, codes, refl, rules}
 use Rattle.std.proofs.Output.{has_written_append, has_written_of_eq}
 use Rattle.data_type.specs.declared.array.AdsArrayInfo.{AdsArrayInfo}
-use Rattle.type_report.specs.Joined as texts
+use Rattle.type_tree.specs.Joined as texts
 use Rattle.type_report.specs.Json.{array_text}
 use Rattle.report.proofs.Going.{more, no_more}
 use Rattle.type_report.proofs.json.MoreArraysDisplay.fmt.Goals as goal

@@ -1,0 +1,131 @@
+//! `bind`: the addresses of variables, by their paths.
+#![tactic(auto)]
+
+use bind_report::table::Columns;
+use bind_report::{Bound, json};
+use data_type::AdsDataTypeInfo;
+use host::failure::Failure;
+use lookup::{refused, windows_1252};
+use named::Named;
+use report::Upload;
+use std::alloc::{AllocError, Global};
+use std::io::Write;
+use symbol::AdsSymbolInfo;
+use wording::InWords;
+
+// Where the entries of an upload start, in the order of their names.
+fn by_name<'a, E: Named<'a>>(alloc: Global, upload: &Upload<'a>) -> Result<Vec<u32>, Failure> {
+    match ordered::<E>(alloc, upload)? {
+        Ok(starts) => Ok(starts),
+        Err(why) => Err(refused(alloc, upload, &InWords(&why))),
+    }
+}
+
+fn ordered<'a, E: Named<'a>>(
+    alloc: Global,
+    upload: &Upload<'a>,
+) -> Result<Result<Vec<u32>, refusal::Refusal>, AllocError> {
+    let room = match room::room(upload.bytes.len()) {
+        Ok(room) => room,
+        Err(why) => return Ok(Err(why)),
+    };
+    let mut slots = vec![in alloc; 0u32; room]?;
+    match name_index::build::<E>(upload.bytes, upload.mode, slots.as_mut_slice()) {
+        Ok(count) => {
+            slots.truncate(count);
+            Ok(Ok(slots))
+        }
+        Err(why) => Ok(Err(why)),
+    }
+}
+
+// The two uploads that paths lead through, and the paths.
+#[derive(Clone, Copy)]
+struct Paths<'a> {
+    symbols: bind::Upload<'a>,
+    types: bind::Upload<'a>,
+    mode: refusal::Mode,
+    paths: &'a [Vec<u8>],
+}
+
+impl<'a> Paths<'a> {
+    fn bound(&self, path: &'a [u8]) -> Bound<'a> {
+        Bound {
+            path,
+            answer: bind::bind(self.symbols, self.types, self.mode, path),
+        }
+    }
+
+    // The headings of a table, whose columns are as wide as all lines need.
+    fn write_headings<W: Write>(&self, out: &mut W) -> Result<Columns, Failure> {
+        let mut columns = Columns::new();
+        for path in self.paths {
+            columns.fit(&self.bound(path.as_slice()));
+        }
+        columns.write_headings(out)?;
+        Ok(columns)
+    }
+
+    // A line a path; whether none was refused.
+    fn write_table<W: Write>(&self, out: &mut W) -> Result<bool, Failure> {
+        let columns = self.write_headings(out)?;
+        let mut all = true;
+        for path in self.paths {
+            let bound = self.bound(path.as_slice());
+            all = all && bound.answer.is_ok();
+            columns.write_line(&bound, out)?;
+        }
+        Ok(all)
+    }
+
+    // The same in JSON.
+    fn write_json<W: Write>(&self, out: &mut W) -> Result<bool, Failure> {
+        let mut all = true;
+        for path in self.paths {
+            let bound = self.bound(path.as_slice());
+            all = all && bound.answer.is_ok();
+            json::write_line(&bound, out)?;
+        }
+        Ok(all)
+    }
+}
+
+fn all_in_windows_1252(alloc: Global, paths: &[&str]) -> Result<Vec<Vec<u8>>, Failure> {
+    let mut all: Vec<Vec<u8>> = Vec::new(alloc);
+    for path in paths {
+        let path = windows_1252(alloc, path)?;
+        all.push(path).map_err(AllocError::from)?;
+    }
+    Ok(all)
+}
+
+/// A table of the addresses of some paths, or a line of JSON for each, in the order of the paths; whether none was refused.
+pub fn bind<W: Write>(
+    alloc: Global,
+    symbols: &Upload<'_>,
+    types: &Upload<'_>,
+    paths: &[&str],
+    as_json: bool,
+    out: &mut W,
+) -> Result<bool, Failure> {
+    let asked = all_in_windows_1252(alloc, paths)?;
+    let symbol_slots = by_name::<AdsSymbolInfo>(alloc, symbols)?;
+    let type_slots = by_name::<AdsDataTypeInfo>(alloc, types)?;
+    let asked = Paths {
+        symbols: bind::Upload {
+            bytes: symbols.bytes,
+            slots: symbol_slots.as_slice(),
+        },
+        types: bind::Upload {
+            bytes: types.bytes,
+            slots: type_slots.as_slice(),
+        },
+        mode: symbols.mode,
+        paths: asked.as_slice(),
+    };
+    if as_json {
+        asked.write_json(out)
+    } else {
+        asked.write_table(out)
+    }
+}

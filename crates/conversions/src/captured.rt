@@ -1,0 +1,130 @@
+//! `captures`: lines of an upload, and an upload of lines.
+
+use arguments::Captures;
+use host::failure::Failure;
+use host::source;
+use refusal::{Mode, Refusal};
+use report::Upload;
+use std::alloc::{AllocError, Global};
+use std::fs;
+use std::io::{ErrorKind, Read, Write};
+use upload::Form;
+use wording::Grouped;
+use writing::WriteError;
+
+/// Writes what is made of a file.
+pub fn make<W: Write>(
+    rt: &HostRuntime,
+    file: &str,
+    form: Option<Form>,
+    make: Captures,
+    out: &mut W,
+) -> Result<(), Failure> {
+    let alloc = rt.alloc();
+    match make {
+        Captures::Split => {
+            let source = source::read(rt, file, form, Mode::Present)?;
+            write_split(alloc, &source.upload(), out)
+        }
+        Captures::Each => {
+            let text = text(rt, file)?;
+            write_each(alloc, text.as_slice(), source::shown(file), out)
+        }
+        Captures::Join => {
+            let text = text(rt, file)?;
+            write_joined(alloc, text.as_slice(), source::shown(file), out)
+        }
+    }
+}
+
+// The lines of an upload.
+fn write_split<W: Write>(alloc: Global, upload: &Upload<'_>, out: &mut W) -> Result<(), Failure> {
+    let lines = captures::split_to_vec(alloc, upload.bytes);
+    write(alloc, lines, upload.path, out)
+}
+
+// The upload of all lines.
+fn write_joined<W: Write>(
+    alloc: Global,
+    text: &[u8],
+    path: &str,
+    out: &mut W,
+) -> Result<(), Failure> {
+    check_lines(alloc, text, path)?;
+    write(alloc, captures::join_to_vec(alloc, text), path, out)
+}
+
+fn write<W: Write>(
+    alloc: Global,
+    made: Result<Vec<u8>, WriteError>,
+    path: &str,
+    out: &mut W,
+) -> Result<(), Failure> {
+    match made {
+        Ok(bytes) => Ok(out.write_all(bytes.as_slice())?),
+        Err(WriteError::OutOfMemory) => Err(Failure::Memory),
+        Err(WriteError::Refused(why)) => Err(Failure::of_refusal(refused(alloc, path, why))),
+    }
+}
+
+// The lines of each line's upload. Nothing is written where one is refused.
+fn write_each<W: Write>(
+    alloc: Global,
+    text: &[u8],
+    path: &str,
+    out: &mut W,
+) -> Result<(), Failure> {
+    check_lines(alloc, text, path)?;
+    for line in text.split(|byte| *byte == b'\n') {
+        match captures::join_to_vec(alloc, line) {
+            Ok(upload) => write(
+                alloc,
+                captures::split_to_vec(alloc, upload.as_slice()),
+                path,
+                out,
+            )?,
+            Err(why) => write(alloc, Err(why), path, out)?,
+        }
+    }
+    Ok(())
+}
+
+// Says in which line the first fault is, if there is one.
+fn check_lines(alloc: Global, text: &[u8], path: &str) -> Result<(), Failure> {
+    let mut number: usize = 0;
+    for line in text.split(|byte| *byte == b'\n') {
+        number = number.saturating_add(1);
+        if let Err(Refusal::BadHexadecimal) = captures::join(line, &mut []) {
+            let number = Grouped(number);
+            return Err(Failure::of_refusal(format!(in alloc;
+                "{path}: refusal 12, bad hexadecimal text: line {number} is not pairs of digits and nothing else"
+            )));
+        }
+    }
+    Ok(())
+}
+
+/// A refusal in words, behind the path of what was read.
+pub fn refused(alloc: Global, path: &str, why: Refusal) -> Result<String, AllocError> {
+    let number = why.figures().number;
+    format!(in alloc; "{path}: refusal {number}, {why}")
+}
+
+/// All that a file holds: lines and sheets have no limit of their own.
+pub fn text(rt: &HostRuntime, path: &str) -> Result<Vec<u8>, Failure> {
+    let alloc = rt.alloc();
+    let mut text = Vec::new(alloc);
+    let read = if path == "-" {
+        rt.stdin().read_to_end(&mut text)
+    } else {
+        match fs::open(rt, path) {
+            Ok(mut file) => file.read_to_end(&mut text),
+            Err(why) => Err(why),
+        }
+    };
+    match read {
+        Ok(_) => Ok(text),
+        Err(why) if why.kind() == ErrorKind::OutOfMemory => Err(Failure::Memory),
+        Err(why) => Err(Failure::unreadable(alloc, source::shown(path), &why)),
+    }
+}

@@ -1,5 +1,0 @@
-use Rattle.type_report.proofs.Aligned.{type_tables_meant}
-use Rattle.type_report.proofs.theorems.type_tables_meant.Goals as goal
-
-pub returns : goal.returns
-returns c = type_tables_meant

@@ -1,0 +1,5 @@
+pub mod Words
+pub mod Rows
+pub mod Levels
+pub mod Aligned
+pub mod Sample

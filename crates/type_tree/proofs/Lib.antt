@@ -1,0 +1,5 @@
+pub mod Marked
+pub mod Stepping
+pub mod Counting
+pub mod SubItems
+pub mod Levels

@@ -1,0 +1,7 @@
+pub mod Joined
+pub mod Marks
+pub mod Node
+pub mod Counts
+pub mod Meaning
+pub mod Levels
+pub mod Sample
