@@ -1,4 +1,5 @@
 pub mod Lengths
+pub mod Quotes
 pub mod CellsRead
 pub mod RowsRead
 pub mod NumbersRead
