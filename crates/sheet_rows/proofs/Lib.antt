@@ -1,4 +1,5 @@
 pub mod Lengths
+pub mod Lanes
 pub mod Quotes
 pub mod CellsRead
 pub mod RowsRead
