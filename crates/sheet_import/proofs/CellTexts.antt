@@ -12,7 +12,7 @@ use Rattle.sheet.specs.CellsMeant.{IsPlain}
 use Rattle.sheet.specs.Cells.{escaped_all}
 use Rattle.sheet_rows.specs.declared.cells.Cells.{Cells}
 use Rattle.sheet_rows.specs.Cells.{cells_of}
-use Rattle.sheet_rows.specs.Meant.{IsPaired, none, quotes as pair, other, IsCell, plain, quoted, IsEnd, crlf, lf, last, IsRow, ended, comma}
+use Rattle.sheet_rows.specs.Meant.{IsPaired, none, quotes as pair, other, IsCell, plain, quoted, IsEnd, crlf, lf, last, IsRow, ended, comma, texts_of}
 use Rattle.sheet_rows.proofs.RowsRead.{row_is}
 use Rattle.sheet_import.specs.Strings.{IsText, IsCellText, AreStrings}
 use Rattle.sheet_import.proofs.Texts.{Avoids, text_avoids, text_before, text_behind, bytes_rest, bytes_cons, bytes_none, decoded_cons, decoded_none}
@@ -125,13 +125,13 @@ cell_text {t} (plain p) x = plain_text t p x
 cell_text {t} (quoted p) x = quoted_text t p (text_before t [] 34 (omega arith) (text_behind [] (t ++ (34 ∷ [])) 34 (omega arith) x))
 
 -- ---- a row
-abbrev AllTexts : List (List ℕ) → Type 0
+abbrev pub AllTexts : List (List ℕ) → Type 0
 AllTexts [] = Unit {0}
 AllTexts (t ∷ ts) = IsCellText t × AllTexts ts
 
-record Told (texts : List (List ℕ)) (rest : List ℕ) : Type 0 where
-  texts_are : AllTexts texts
-  rest_is : IsText rest
+pub record Told (texts : List (List ℕ)) (rest : List ℕ) : Type 0 where
+  pub texts_are : AllTexts texts
+  pub rest_is : IsText rest
 
 end_text : {end rest : List ℕ} (cell : List ℕ) → IsEnd end rest → IsText (cell ++ end) → IsText cell × IsText rest
 end_text cell (crlf {rest}) x =
@@ -139,21 +139,21 @@ end_text cell (crlf {rest}) x =
 end_text cell (lf {rest}) x = (text_before cell rest 10 (omega arith) x, text_behind cell rest 10 (omega arith) x)
 end_text cell last x = (subst IsText (append-nil cell) x, record { bytes = []; are = bytes_none; is = sym decoded_none })
 
-row_text : {texts : List (List ℕ)} {l rest : List ℕ} → IsRow texts l rest → IsText l → Told texts rest
+pub row_text : {texts : List (List ℕ)} {l rest : List ℕ} → IsRow texts l rest → IsText l → Told texts rest
 row_text (ended {text} {cell} {end} {rest} c e) x = let p = end_text cell e x in record { texts_are = (cell_text c p.0, tt); rest_is = p.1 }
 row_text (comma {text} {cell} {more} {rest} {texts} c r) x =
     let p = row_text r (text_behind cell more 44 (omega arith) x) in
     record { texts_are = (cell_text c (text_before cell more 44 (omega arith) x), p.texts_are); rest_is = p.rest_is }
+
+pub line_texts : (c : Cells) {s rest : List ℕ} → IsRow (texts_of c) s rest → IsText s → AreStrings c.strings × IsText rest
+line_texts c r x =
+    let p = row_text r x in
+    let six = p.texts_are.1.1.1.1.1.1 in
+    (record { name = six.0; type_name = six.1.0; comment = six.1.1.0 }, p.rest_is)
 
 pub record RowTexts (c : Cells) : Type 0 where
   pub strings : AreStrings c.strings
   pub rest : IsText c.strings.rest.now
 
 pub row_texts : (s : Bor (List ℕ)) (c : Cells) → cells_of s ≡ Some c → IsText s.now → RowTexts c
-row_texts s c h x =
-    let p = row_text (row_is s c h) x in
-    let six = p.texts_are.1.1.1.1.1.1 in
-    record {
-      strings = record { name = six.0; type_name = six.1.0; comment = six.1.1.0 };
-      rest = p.rest_is;
-    }
+row_texts s c h x = let p = line_texts c (row_is s c h) x in record { strings = p.0; rest = p.1 }

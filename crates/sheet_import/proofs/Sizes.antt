@@ -1,5 +1,5 @@
 -- The rows of a sheet one after another, how long their entries are, and which strings are too long.
-use Rattle.std.proofs.Common.{ℕ, zero, suc, ◌+◌, ◌-◌, ◌^◌, ◌<◌, ◌≤◌, ◌≡◌, refl, sym, ap, ◌∙◌, Bool, true, false, List, [], ◌∷◌, ◌++◌, length, length-append, arith}
+use Rattle.std.proofs.Common.{ℕ, zero, suc, ◌+◌, ◌<◌, ◌≤◌, ◌≡◌, refl, sym, ap, ◌∙◌, Bool, true, false, List, [], ◌∷◌, ◌++◌, length, length-append, arith}
 use Rattle.std.specs.Prelude.{eqb, ltb, if◌then◌else◌, Some, None, Result, Ok, Err}
 use Rattle.std.specs.Borrow.{Bor}
 use borrow.Author.Tests.{eqb-true, eqb-false, ltb-false}
@@ -16,7 +16,7 @@ use Rattle.refusal.specs.declared.Refusal.TheVariants.{TooLong}
 use Rattle.writing.specs.Checks.{count_checked, strings_checked}
 use Rattle.writing.specs.Layout.{lengths_bytes, strings_bytes, entry_bytes}
 use Rattle.sheet_import.specs.Strings.{string_of, IsText, AreStrings}
-use Rattle.sheet_import.specs.Import.{numbers_bytes, entry_of, upload_of, cells_checked, lines_checked, told, lines_in, AreRows, size_of}
+use Rattle.sheet_import.specs.Import.{numbers_bytes, entry_of, upload_of, cells_checked, lines_checked, lines_in, AreRows}
 use Rattle.sheet_import.proofs.CellTexts.{row_texts}
 
 -- what is left of rows without a fault
@@ -97,9 +97,6 @@ no_more {left} {lines} r h = by (eqb (length left.now) 0) refl
         cc
 
 -- ---- how long the entries are
-pub sized : ℕ → List Line → Result ℕ Refusal
-sized n lines = and_then (lines_checked lines) (λ _. Ok (told (n + length (upload_of lines))))
-
 abbrev pub strings_size : Three → ℕ
 strings_size c = 33 + length (string_of c.first.now) + length (string_of c.second.now) + length (string_of c.third.now)
 
@@ -115,78 +112,48 @@ pub upload_then : (l : Line) (lines : List Line) → upload_of (l ∷ lines) ≡
 unfolding upload_of
 upload_then l lines = refl
 
-pub sized_all : (lines : List Line) → sized 0 lines ≡ size_of lines
-unfolding sized size_of
-sized_all lines = let e : 0 + length (upload_of lines) ≡ length (upload_of lines) = omega arith in ap (λ (n : ℕ). and_then (lines_checked lines) (λ _. Ok (told n))) e
+-- ---- whether strings fit
+pub checked_none : lines_checked [] ≡ Ok tt
+unfolding lines_checked
+checked_none = refl
 
-pub sized_none : (n : ℕ) → n ≤ 2 ^ 64 - 1 → sized n [] ≡ Ok n
-unfolding sized lines_checked
-sized_none n h = let e : told (n + length (upload_of [])) ≡ n = omega (arith, ap length upload_none) in ap (λ (k : ℕ). Ok k) e
+pub checked_then : (l : Line) (lines : List Line) → lines_checked (l ∷ lines) ≡ and_then (cells_checked l.cells.strings) (λ _. lines_checked lines)
+unfolding lines_checked
+checked_then l lines = refl
 
-more_told : (n e m : ℕ) → told (n + (e + m)) ≡ told (told (n + e) + m)
-more_told n e m = omega arith
-
--- a row whose strings fit, and one that has a string that does not
-pub sized_then : (n : ℕ) (l : Line) (lines : List Line) → cells_checked l.cells.strings ≡ Ok tt → sized n (l ∷ lines) ≡ sized (told (n + strings_size l.cells.strings)) lines
-unfolding sized lines_checked
-sized_then n l lines h =
-    let long : length (upload_of (l ∷ lines)) ≡ strings_size l.cells.strings + length (upload_of lines) =
-    ap length (upload_then l lines) ∙ length-append (entry_of l.numbers l.cells.strings) (upload_of lines) ∙ ap (λ (k : ℕ). k + length (upload_of lines)) (entry_long l.numbers l.cells.strings) in
-    let same : told (n + length (upload_of (l ∷ lines))) ≡ told (told (n + strings_size l.cells.strings) + length (upload_of lines)) =
-    ap (λ (k : ℕ). told (n + k)) long ∙ more_told n (strings_size l.cells.strings) (length (upload_of lines)) in
-    ap (λ (w : Result Unit Refusal). and_then (and_then w (λ _. lines_checked lines)) (λ _. Ok (told (n + length (upload_of (l ∷ lines)))))) h
-    ∙ ap (λ (k : ℕ). and_then (lines_checked lines) (λ _. Ok k)) same
-
-pub sized_bad : (n : ℕ) (l : Line) (lines : List Line) (why : Refusal) → cells_checked l.cells.strings ≡ Err why → sized n (l ∷ lines) ≡ Err why
-unfolding sized lines_checked
-sized_bad n l lines why h = ap (λ (w : Result Unit Refusal). and_then (and_then w (λ _. lines_checked lines)) (λ _. Ok (told (n + length (upload_of (l ∷ lines)))))) h
-
--- ---- in the loop
-pub record Sizing (whole left : Bor (List ℕ)) (size : ℕ) : Type 0 where
+pub record Checking (whole left : Bor (List ℕ)) : Type 0 where
   pub lines : List Line
   pub rest : Rest left lines
-  pub few : size ≤ 2 ^ 64 - 1
-  pub same : sized size lines ≡ size_of (lines_in whole)
+  pub same : lines_checked lines ≡ lines_checked (lines_in whole)
 
-pub all_sizing : {s : Bor (List ℕ)} → AreRows s → Sizing s s 0
-all_sizing {s} r = record { lines = lines_in s; rest = all_rest r; few = omega arith; same = sized_all (lines_in s) }
+pub all_checking : {s : Bor (List ℕ)} → AreRows s → Checking s s
+all_checking {s} r = record { lines = lines_in s; rest = all_rest r; same = refl }
 
-pub sizing_strings : {whole left : Bor (List ℕ)} {size : ℕ} (cells : Cells) → Sizing whole left size → cells_of left ≡ Some cells → AreStrings cells.strings
-sizing_strings cells g h = (turn cells g.rest h).strings
+pub checking_strings : {whole left : Bor (List ℕ)} (cells : Cells) → Checking whole left → cells_of left ≡ Some cells → AreStrings cells.strings
+checking_strings cells g h = (turn cells g.rest h).strings
 
-pub sizing_bad : {whole left : Bor (List ℕ)} {size : ℕ} (cells : Cells) (why : Refusal) → Sizing whole left size → cells_of left ≡ Some cells → cells_checked cells.strings ≡ Err why → size_of (lines_in whole) ≡ Err why
-sizing_bad {whole} {left} {size} cells why g h e =
+-- a row's checks, and those of the rows behind it
+checking_turn : {whole left : Bor (List ℕ)} (cells : Cells) (g : Checking whole left) (h : cells_of left ≡ Some cells)
+    → and_then (cells_checked cells.strings) (λ _. lines_checked (turn cells g.rest h).more) ≡ lines_checked (lines_in whole)
+checking_turn cells g h =
     let t = turn cells g.rest h in
-    sym g.same ∙ ap (sized size) t.is ∙ sized_bad size (record { cells = cells; numbers = t.numbers }) t.more why e
+    sym (checked_then (record { cells = cells; numbers = t.numbers }) t.more) ∙ ap lines_checked (sym t.is) ∙ g.same
 
-pub sizing_on : {whole left : Bor (List ℕ)} {size : ℕ} (cells : Cells) (next : ℕ) → Sizing whole left size → cells_of left ≡ Some cells → cells_checked cells.strings ≡ Ok tt
-    → next ≡ told (size + strings_size cells.strings) → Sizing whole cells.strings.rest next
-sizing_on {whole} {left} {size} cells next g h e n =
+pub checking_bad : {whole left : Bor (List ℕ)} (cells : Cells) (why : Refusal) → Checking whole left → cells_of left ≡ Some cells → cells_checked cells.strings ≡ Err why → lines_checked (lines_in whole) ≡ Err why
+checking_bad {whole} {left} cells why g h e =
+    sym (checking_turn cells g h) ∙ ap (λ (w : Result Unit Refusal). and_then w (λ _. lines_checked (turn cells g.rest h).more)) e
+
+pub checking_on : {whole left : Bor (List ℕ)} (cells : Cells) → Checking whole left → cells_of left ≡ Some cells → cells_checked cells.strings ≡ Ok tt → Checking whole cells.strings.rest
+checking_on {whole} {left} cells g h e =
     let t = turn cells g.rest h in
     record {
       lines = t.more;
       rest = t.rest;
-      few = omega (arith, n);
-      same = ap (λ (k : ℕ). sized k t.more) n ∙ sym (sized_then size (record { cells = cells; numbers = t.numbers }) t.more e) ∙ ap (sized size) (sym t.is) ∙ g.same;
+      same = sym (ap (λ (w : Result Unit Refusal). and_then w (λ _. lines_checked t.more)) e) ∙ checking_turn cells g h;
     }
 
-pub sizing_done : {whole left : Bor (List ℕ)} {size : ℕ} → Sizing whole left size → cells_of left ≡ None → size_of (lines_in whole) ≡ Ok size
-sizing_done {whole} {left} {size} g h = sym g.same ∙ ap (sized size) (no_more g.rest h) ∙ sized_none size g.few
-
--- what is told of a row's strings
-pub entry_passed : (c : Three) (n : ℕ) → and_then (cells_checked c) (λ _. Ok (strings_size c)) ≡ Ok n → (cells_checked c ≡ Ok tt) × (n ≡ strings_size c)
-entry_passed c n h = by (cells_checked c) refl h
-  where
-    by : (w : Result Unit Refusal) → cells_checked c ≡ w → and_then w (λ _. Ok (strings_size c)) ≡ Ok n → (cells_checked c ≡ Ok tt) × (n ≡ strings_size c)
-    by (Ok u) e g = (e, cc)
-    by (Err why) e g = cc
-
-pub entry_refused : (c : Three) (why : Refusal) → and_then (cells_checked c) (λ _. Ok (strings_size c)) ≡ Err why → cells_checked c ≡ Err why
-entry_refused c why h = by (cells_checked c) refl h
-  where
-    by : (w : Result Unit Refusal) → cells_checked c ≡ w → and_then w (λ _. Ok (strings_size c)) ≡ Err why → cells_checked c ≡ Err why
-    by (Ok u) e g = cc
-    by (Err other) e g = e ∙ cc
+pub checking_done : {whole left : Bor (List ℕ)} → Checking whole left → cells_of left ≡ None → lines_checked (lines_in whole) ≡ Ok tt
+checking_done {whole} {left} g h = sym g.same ∙ ap lines_checked (no_more g.rest h) ∙ checked_none
 
 -- which string is too long
 pub count_fits : (n : ℕ) → count_checked n ≡ Ok tt → n ≤ 65535
@@ -221,12 +188,6 @@ module _ (c : Three) where
   third w f g h =
       ap (λ (w : Result Unit Refusal). and_then w (λ _. and_then (count_checked type_name) (λ _. count_checked comment))) f
       ∙ ap (λ (w : Result Unit Refusal). and_then w (λ _. count_checked comment)) g ∙ h
-
-  pub size_bad : (why : Refusal) → cells_checked c ≡ Err why → and_then (cells_checked c) (λ _. Ok (strings_size c)) ≡ Err why
-  size_bad why h = ap (λ (w : Result Unit Refusal). and_then w (λ _. Ok (strings_size c))) h
-
-  pub size_good : cells_checked c ≡ Ok tt → and_then (cells_checked c) (λ _. Ok (strings_size c)) ≡ Ok (strings_size c)
-  size_good h = ap (λ (w : Result Unit Refusal). and_then w (λ _. Ok (strings_size c))) h
 
 -- a check of a length that was worked out
 pub count_is : (n m : ℕ) (w : Result Unit Refusal) → n ≡ m → w ≡ count_checked n → count_checked m ≡ w

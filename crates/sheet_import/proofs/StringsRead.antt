@@ -12,7 +12,9 @@ use Rattle.text.proofs.Utf8.{le_or_lt}
 use Rattle.text.proofs.Theory.{encoded_front}
 use Rattle.sheet.specs.Cells.{escaped_all}
 use Rattle.sheet.proofs.Escapes.{quote_doubled, text_kept}
-use Rattle.sheet_import.specs.Strings.{or_none, bytes_of, undoubled, string_of, quotes, IsText, IsCellText}
+use Rattle.sheet_rows.specs.Extent.{quotes}
+use Rattle.sheet_rows.proofs.Quotes.{quotes_none, quotes_quote, quotes_other}
+use Rattle.sheet_import.specs.Strings.{or_none, bytes_of, undoubled, string_of, IsText, IsCellText}
 use Rattle.sheet_import.proofs.Texts.{Avoids, text_avoids, bytes_rest, bytes_cons, bytes_none, decoded_cons, decoded_none}
 
 -- a string whose quotes stand twice
@@ -112,18 +114,6 @@ pub string_is : {t : List ℕ} (c : IsCellText t) → string_of t ≡ c.string
 string_is c = ap string_of c.is ∙ string_escaped c.string c.are
 
 -- ---- how many quotes
-pub quotes_none : quotes [] ≡ 0
-unfolding quotes
-quotes_none = refl
-
-pub quotes_quote : (b : ℕ) (s : List ℕ) → eqb b 34 ≡ true → quotes (b ∷ s) ≡ quotes s + 1
-unfolding quotes
-quotes_quote b s e = ap (λ (c : Bool). if c then quotes s + 1 else quotes s) e
-
-pub quotes_other : (b : ℕ) (s : List ℕ) → eqb b 34 ≡ false → quotes (b ∷ s) ≡ quotes s
-unfolding quotes
-quotes_other b s e = ap (λ (c : Bool). if c then quotes s + 1 else quotes s) e
-
 quotes_past : (u s : List ℕ) → Avoids 34 u → quotes (u ++ s) ≡ quotes s
 quotes_past [] s a = refl
 quotes_past (b ∷ u) s a = quotes_other b (u ++ s) (ne_eqb b 34 a.0) ∙ quotes_past u s a.1
@@ -156,6 +146,8 @@ pairs = by_quotes (λ s. AreBytes s → Pairs s)
 -- the string's length is that of the text's bytes less half of the quotes
 pub record Measured (t : List ℕ) : Type 0 where
   pub bytes : List ℕ
+  pub are : AreBytes bytes
+  pub text : t ≡ decoded bytes
   pub is : encoded_from 0 t ≡ Ok bytes
   pub long : length (string_of t) + quotes t / 2 ≡ length bytes
 
@@ -165,16 +157,11 @@ measured t c =
     let half : quotes t ≡ 2 * p.pairs = ap quotes c.is ∙ p.quotes_are in
     record {
       bytes = doubled c.string;
+      are = doubled_bytes c.string c.are;
+      text = c.is ∙ escaped_doubled c.string;
       is = ap (encoded_from 0) (c.is ∙ escaped_doubled c.string) ∙ encoded_decoded (doubled c.string) (doubled_bytes c.string c.are);
       long = omega (arith, half, p.long, ap length (string_is c));
     }
-
-pub counted_is : (t : List ℕ) → IsCellText t → (n : ℕ) → Ok n ≡ counted 0 (encoded_from 0 t) → length (string_of t) + quotes t / 2 ≡ n
-counted_is t c n e =
-    let m = measured t c in
-    let f : Ok n ≡ Ok (0 + length m.bytes) = e ∙ ap (counted 0) m.is in
-    let same : n ≡ 0 + length m.bytes = cc in
-    omega (arith, same, m.long)
 
 pub never_refused : (t : List ℕ) → IsCellText t → (why : Refusal) → Err why ≡ counted 0 (encoded_from 0 t) → ⊥
 never_refused t c why e =

@@ -11,9 +11,9 @@ use Rattle.text.proofs.Utf8.{le_or_lt, utf8_2, utf8_3}
 use Rattle.sheet_import.specs.Strings.{IsText}
 
 -- ---- the bytes of a character above 7F are above 7F
-record High (p : ℕ) : Type 0 where
-  low : 128 ≤ p
-  few : p < 65536
+pub record High (p : ℕ) : Type 0 where
+  pub low : 128 ≤ p
+  pub few : p < 65536
 
 abbrev in_range : ℕ → ℕ → Bool
 in_range i p = if leb 128 p then leb p 65535 else false
@@ -34,7 +34,7 @@ points_long : length points ≡ 32
 unfolding points
 points_long = refl
 
-high_point : (b : ℕ) → 128 ≤ b → b < 256 → High (code_point b)
+pub high_point : (b : ℕ) → 128 ≤ b → b < 256 → High (code_point b)
 high_point b h k = ⊎_elim upper middle (le_or_lt 160 b)
   where
     upper : 160 ≤ b → High (code_point b)

@@ -1,6 +1,6 @@
 -- A string that is written part after part.
-use Rattle.std.proofs.Common.{ℕ, ◌+◌, ◌-◌, ◌<◌, ◌≤◌, ◌≡◌, refl, sym, ap, ap₂, ◌∙◌, List, [], ◌++◌, length, take, drop, get_or, append_assoc, append-nil, length-append, length-drop, arith}
-use Rattle.std.specs.Prelude.{Bool, true, false, eqb, ltb, Result, Ok, Err, if◌then◌else◌}
+use Rattle.std.proofs.Common.{ℕ, ◌+◌, ◌-◌, ◌≤◌, ◌≡◌, refl, sym, ap, ap₂, ◌∙◌, List, [], ◌++◌, length, take, drop, append_assoc, append-nil, length-append, length-drop, arith}
+use Rattle.std.specs.Prelude.{Bool, ltb, Result, Ok, Err, if◌then◌else◌}
 use borrow.Author.Tests.{le-ltb}
 use Rattle.refusal.specs.Refusal.{limit}
 use Rattle.refusal.specs.declared.Refusal.{Refusal}
@@ -9,22 +9,12 @@ use Rattle.writing.specs.Writing.{answer, leaves, Writes}
 use Rattle.text.specs.Text.{encoded_from, encoding}
 use Rattle.text.proofs.Laws.{in_limit}
 use Rattle.text.proofs.Byte.{decoded_most}
-use Rattle.std.proofs.lemmas.List.{at_drop_more, at_drop_all, drop_all, take_all, drop-drop}
+use Rattle.std.proofs.lemmas.List.{drop_all, take_all, drop-drop}
 use borrow.Rule.Slice.PartMut.{put_mid, post_of, Post-is}
 use Rattle.le.specs.Put.{put, Wrote}
 use Rattle.le.proofs.Laws.{wrote, after, wrote_none, same_bytes}
-use Rattle.sheet_import.specs.Strings.{bytes_of, string_of, quotes, IsText, IsCellText}
-use Rattle.sheet_import.proofs.StringsRead.{encoded_decoded, bytes_decoded, quotes_none, quotes_quote, quotes_other, Quoted, Plain}
-
-module _ (s : List ℕ) (i : ℕ) where
-  pub quotes_end : length s ≤ i → quotes (drop i s) ≡ 0
-  quotes_end h = at_drop_all quotes s i h ∙ quotes_none
-
-  pub quotes_more : i < length s → eqb (get_or s i 0) 34 ≡ true → quotes (drop i s) ≡ quotes (drop (i + 1) s) + 1
-  quotes_more h e = at_drop_more quotes s i 0 h ∙ quotes_quote (get_or s i 0) (drop (i + 1) s) e
-
-  pub quotes_same : i < length s → eqb (get_or s i 0) 34 ≡ false → quotes (drop i s) ≡ quotes (drop (i + 1) s)
-  quotes_same h e = at_drop_more quotes s i 0 h ∙ quotes_other (get_or s i 0) (drop (i + 1) s) e
+use Rattle.sheet_import.specs.Strings.{bytes_of, string_of, IsText, IsCellText}
+use Rattle.sheet_import.proofs.StringsRead.{encoded_decoded, bytes_decoded, Quoted, Plain}
 
 -- what was written of a cell's string, and what is left of its text
 pub record Writing (old now : List ℕ) (at next : ℕ) (text left : List ℕ) : Type 0 where

@@ -1,5 +1,5 @@
 -- docs/FORMAT.md, "Sheet": the string of a cell.
-use Rattle.std.specs.Prelude.{ℕ, ◌+◌, ◌≡◌, List, [], ◌∷◌, Result, Ok, Err, eqb, if◌then◌else◌}
+use Rattle.std.specs.Prelude.{ℕ, ◌≡◌, List, [], ◌∷◌, Result, Ok, Err, eqb, if◌then◌else◌}
 use Rattle.refusal.specs.declared.Refusal.{Refusal}
 use Rattle.text.specs.RoundTrip.{AreBytes}
 use Rattle.text.specs.Text.{decoded, encoded_from}
@@ -22,11 +22,6 @@ undoubled (b ∷ c ∷ s) = if eqb b 34 then b ∷ undoubled s else b ∷ undoub
 
 unfoldable pub string_of : List ℕ → List ℕ
 string_of text = undoubled (bytes_of text)
-
--- how many quotes there are
-unfoldable pub quotes : List ℕ → ℕ
-quotes [] = 0
-quotes (b ∷ s) = if eqb b 34 then quotes s + 1 else quotes s
 
 -- a text without a fault
 pub record IsText (text : List ℕ) : Type 0 where

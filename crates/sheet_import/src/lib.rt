@@ -1,53 +1,73 @@
 //! An upload of symbols from a sheet (docs/FORMAT.md, "Sheet").
 #![tactic(auto)]
 
-ghost use Rattle.std.specs.Prelude.{◌≡◌, ◌+◌, ◌++◌, ◌≤◌, Ok, length};
+ghost use Rattle.std.specs.Prelude.{◌≡◌, ◌+◌, ◌-◌, ◌*◌, ◌++◌, ◌≤◌, Ok, length};
 ghost use Rattle.le.specs.Le.{bytes2};
 ghost use Rattle.le.specs.Put.{put, Wrote};
-ghost use Rattle.part.specs.Outcome.{and_then};
-ghost use Rattle.writing.specs.Layout.{strings_bytes};
+ghost use Rattle.writing.specs.Layout.{string_bytes};
 ghost use Rattle.writing.specs.Writing.{Writes};
-ghost use Rattle.sheet_import.specs.Strings.{AreStrings, string_of};
+ghost use Rattle.sheet_import.specs.Strings.{AreStrings, IsCellText, string_of};
 ghost use Rattle.sheet_import.specs.ImportMeant.{ImportsMeant};
-ghost use Rattle.sheet_import.specs.Import.{numbers_bytes, entry_of, row_entry, cells_checked, AreRows, AreShort, lines_in, lines_checked, size_of, upload_of, importing};
+ghost use Rattle.sheet_import.specs.Import.{numbers_bytes, entry_of, row_entry, cells_checked, AreRows, AreShort, lines_in, lines_checked, told, upload_of, importing};
 
 mod strings;
 
 use refusal::Refusal;
-use sheet_rows::{Cells, Numbers, Rows, Three};
+use sheet_rows::{Cells, Extent, Numbers, Rows, Three};
 
-// How many bytes an entry has beside those of its strings.
+// How many bytes an entry has beside those of its strings, and how many before them.
 const BARE: usize = 33;
 
-// How many bytes the entry of a row has whose strings fit.
-fn entry_size(cells: &Three<'_>) -> Result<usize, Refusal>
+const BEFORE: usize = 30;
+
+// How many bytes a string has at most.
+const LONGEST: usize = 65535;
+
+// Refuses the first string of a row that is too long.
+fn check_row(cells: &Three<'_>) -> Result<(), Refusal>
     requires { AreStrings cells.now }
-    ensures { result ≡ and_then (cells_checked cells.now) (λ _. Ok (33 + length (string_of cells.now.first.now) + length (string_of cells.now.second.now) + length (string_of cells.now.third.now))) }
+    ensures { result ≡ cells_checked cells.now }
 {
-    let name = strings::string_length(cells.first);
-    writing::check_count(name)?;
-    let type_name = strings::string_length(cells.second);
-    writing::check_count(type_name)?;
-    let comment = strings::string_length(cells.third);
-    writing::check_count(comment)?;
-    Ok(BARE + name + type_name + comment)
+    writing::check_count(strings::string_length(cells.first))?;
+    writing::check_count(strings::string_length(cells.second))?;
+    writing::check_count(strings::string_length(cells.third))
 }
 
-// How many bytes the upload of rows without a fault has. A sum that is above a usize stays at the largest.
-fn upload_size(rows: Rows<'_>) -> Result<usize, Refusal>
+// Refuses the first string of rows without a fault that is too long.
+fn check_rows(rows: Rows<'_>) -> Result<(), Refusal>
     requires { AreRows rows.bytes }
-    ensures { result ≡ size_of (lines_in rows.entry.bytes) }
+    ensures { result ≡ lines_checked (lines_in rows.entry.bytes) }
 {
-    let mut size: usize = 0;
     let mut left = rows;
     while let Some(cells) = sheet_rows::read_cells(left.bytes) {
-        let entry = entry_size(&cells.strings)?;
-        size = size.saturating_add(entry);
+        check_row(&cells.strings)?;
         left = Rows {
             bytes: cells.strings.rest,
         };
     }
-    Ok(size)
+    Ok(())
+}
+
+// The same. A string has no more bytes than its text, so that strings are measured only where a text is long.
+fn check_strings(rows: Rows<'_>, longest: usize) -> Result<(), Refusal>
+    requires rows { AreRows rows.bytes }
+    requires short { longest ≤ 65535 → lines_checked (lines_in rows.bytes) ≡ Ok tt }
+    ensures { result ≡ lines_checked (lines_in rows.entry.bytes) }
+{
+    if LONGEST < longest {
+        return check_rows(rows);
+    }
+    Ok(())
+}
+
+// How many bytes the upload of rows has of whose text so many bytes more stand in the sheet than in Windows-1252. A sum that is
+// above a usize stays at the largest.
+fn upload_size(extent: &Extent, more: usize) -> usize
+    requires { more ≤ extent.now.bytes }
+    ensures { result ≡ told (33 * extent.now.rows + (extent.now.bytes - more)) }
+{
+    let entries = extent.rows.saturating_mul(BARE);
+    entries.saturating_add(extent.bytes - more)
 }
 
 fn put_numbers(out: &mut [u8], at: usize, numbers: &Numbers) -> usize
@@ -71,34 +91,39 @@ fn put_lengths(out: &mut [u8], at: usize, name: u16, type_name: u16, comment: u1
     le::put_u16(out, b, comment)
 }
 
-fn put_strings(out: &mut [u8], at: usize, cells: &Three<'_>) -> usize
-    requires cells { AreStrings cells.now }
-    requires short { AreShort cells.now }
-    requires room { at + length (strings_bytes (string_of cells.now.first.now) (string_of cells.now.second.now) (string_of cells.now.third.now)) ≤ length out.old }
-    ensures { Wrote out.old at (strings_bytes (string_of cells.now.first.now) (string_of cells.now.second.now) (string_of cells.now.third.now)) out.new result }
+// Writes a string with its end byte.
+fn put_string(out: &mut [u8], at: usize, text: &[u8]) -> usize
+    requires text { IsCellText text.now }
+    requires short { length (string_of text.now) ≤ 65535 }
+    requires room { at + length (string_of text.now) + 1 ≤ length out.old }
+    ensures { Wrote out.old at (string_bytes (string_of text.now)) out.new result }
 {
-    let a = strings::put_string(out, at, cells.first);
-    let b = le::put_u8(out, a, 0);
-    let c = strings::put_string(out, b, cells.second);
-    let d = le::put_u8(out, c, 0);
-    let e = strings::put_string(out, d, cells.third);
-    le::put_u8(out, e, 0)
+    let end = strings::put_string(out, at, text);
+    le::put_u8(out, end, 0)
 }
 
-// Writes the entry of a row at a place that has room for it, and gives the place after it.
+// Writes the entry of a row at a place that has room for it, and gives the place after it. Its strings come first: where they end tells
+// how long they are.
 fn put_entry(out: &mut [u8], at: usize, numbers: &Numbers, cells: &Three<'_>) -> usize
     requires cells { AreStrings cells.now }
     requires short { AreShort cells.now }
     requires room { at + length (entry_of numbers.now cells.now) ≤ length out.old }
     ensures { Wrote out.old at (entry_of numbers.now cells.now) out.new result }
 {
-    let name = strings::string_length(cells.first);
-    let type_name = strings::string_length(cells.second);
-    let comment = strings::string_length(cells.third);
-    let a = le::put_u32(out, at, (BARE + name + type_name + comment) as u32);
+    let name = at + BEFORE;
+    let type_name = put_string(out, name, cells.first);
+    let comment = put_string(out, type_name, cells.second);
+    let end = put_string(out, comment, cells.third);
+    let a = le::put_u32(out, at, (end - at) as u32);
     let b = put_numbers(out, a, numbers);
-    let c = put_lengths(out, b, name as u16, type_name as u16, comment as u16);
-    put_strings(out, c, cells)
+    put_lengths(
+        out,
+        b,
+        (type_name - name - 1) as u16,
+        (comment - type_name - 1) as u16,
+        (end - comment - 1) as u16,
+    );
+    end
 }
 
 // Writes the entry of a row that has numbers.
@@ -131,8 +156,9 @@ fn put_upload(rows: Rows<'_>, upload: &mut [u8])
     }
 }
 
-/// Writes the upload of a sheet, and gives how many bytes it has. The rows are gone through three times, for their faults, for how
-/// long their strings are, and to write them, and the text once; nothing is written before all of it is known to be good.
+/// Writes the upload of a sheet, and gives how many bytes it has. The rows are gone through twice, for their faults and to write them,
+/// and the text once; nothing is written before all of it is known to be good. Where a cell has more than 65,535 bytes, the rows are
+/// gone through a third time, for how long their strings are.
 ///
 /// # Errors
 ///
@@ -141,10 +167,11 @@ fn put_upload(rows: Rows<'_>, upload: &mut [u8])
 pub fn import(sheet: &[u8], upload: &mut [u8]) -> Result<usize, Refusal>
     ensures { Writes (importing sheet.entry) upload.old upload.new result }
 {
-    sheet_rows::check(sheet)?;
-    text::encoded_length(sheet)?;
+    let extent = sheet_rows::check(sheet)?;
+    let length = text::encoded_length(sheet)?;
     let rows = sheet_rows::read_header(sheet)?;
-    let needed = upload_size(rows)?;
+    check_strings(rows, extent.longest)?;
+    let needed = upload_size(&extent, sheet.len() - length);
     writing::check_room(needed, upload.len())?;
     put_upload(rows, upload);
     Ok(needed)

@@ -2,34 +2,20 @@
 
 ghost use Rattle.std.specs.Prelude.{◌≡◌, ◌+◌, ◌≤◌, length};
 ghost use Rattle.le.specs.Put.{Wrote};
-ghost use Rattle.sheet_import.specs.Strings.{IsText, IsCellText, bytes_of, string_of, quotes};
+ghost use Rattle.sheet_import.specs.Strings.{IsText, IsCellText, bytes_of, string_of};
 
 use memchr::memchr;
 
 // What stands twice in a cell.
 const QUOTE: u8 = b'"';
 
-#[tactic(auto, using(crate::proofs::Written::quotes_more, crate::proofs::Written::quotes_same, crate::proofs::Written::quotes_end))]
-fn count_quotes(text: &[u8]) -> usize
-    ensures { result ≡ quotes text.now }
-{
-    let mut count = 0;
-    for byte in text {
-        if *byte == QUOTE {
-            count += 1;
-        }
-    }
-    count
-}
-
 /// How many bytes the string of a cell has.
 pub fn string_length(text: &[u8]) -> usize
     requires { IsCellText text.now }
     ensures { result ≡ length (string_of text.now) }
 {
-    let quotes = count_quotes(text);
     match text::encoded_length(text) {
-        Ok(length) => length - quotes / 2,
+        Ok(length) => sheet_rows::text_length(text) - (text.len() - length),
         Err(_) => unreachable!(),
     }
 }

@@ -1,4 +1,6 @@
 pub mod Lengths
+pub mod Lanes
+pub mod Quotes
 pub mod CellsRead
 pub mod RowsRead
 pub mod NumbersRead

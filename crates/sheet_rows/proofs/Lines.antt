@@ -11,7 +11,10 @@ use Rattle.sheet_rows.specs.declared.cells.Cells.{Cells}
 use Rattle.sheet_rows.specs.declared.numbers.Numbers.{Numbers}
 use Rattle.sheet_rows.specs.Cells.{cells_of}
 use Rattle.sheet_rows.specs.Rows.{Line, numbers_of, line_of, in_row, lines_from}
-use Rattle.sheet_rows.proofs.RowsRead.{cells_shorter}
+use Rattle.sheet_rows.specs.declared.extent.Extent.{Extent}
+use Rattle.sheet_rows.specs.Extent.{none, row_extent, joined, extent_of}
+use Rattle.sheet_rows.proofs.RowsRead.{cells_shorter, cells_longer}
+use Rattle.sheet_rows.proofs.Quotes.{row_bytes, row_one, none_joined, joined_none, joined_on, extent_none, extent_then}
 
 -- ---- one row
 pub record Parts (s : Bor (List ℕ)) (l : Line) : Type 0 where
@@ -69,45 +72,76 @@ line_bad n row column s h e =
     lines_on n row s h
     ∙ ap (λ (w : Result Line ℕ). and_then (in_row row w) (λ l. and_then (lines_from n (row + 1) l.cells.strings.rest) (λ lines. Ok (l ∷ lines)))) e
 
--- ---- looking for faults
-abbrev pub passed : {A : Type 0} → Result A Refusal → Result Unit Refusal
-passed w = and_then w (λ _. Ok tt)
+-- ---- how much they are, where none has a fault
+abbrev pub extended : Extent → Result (List Line) Refusal → Result Extent Refusal
+extended e w = and_then w (λ lines. Ok (joined e (extent_of lines)))
 
-passed_more : (l : Line) (w : Result (List Line) Refusal) → passed (and_then w (λ lines. Ok (l ∷ lines))) ≡ passed w
-passed_more l (Ok lines) = refl
-passed_more l (Err why) = refl
+extended_more : (e : Extent) (l : Line) (w : Result (List Line) Refusal) → extended e (and_then w (λ lines. Ok (l ∷ lines))) ≡ extended (joined e (row_extent l.cells.strings)) w
+extended_more e l (Ok lines) = ap (λ (x : Extent). Ok x) (ap (joined e) (extent_then l lines) ∙ sym (joined_on e (row_extent l.cells.strings) (extent_of lines)))
+extended_more e l (Err why) = refl
 
-pub record Left (whole left : Bor (List ℕ)) (row : ℕ) : Type 0 where
+extended_none : (w : Result (List Line) Refusal) → extended none w ≡ and_then w (λ lines. Ok (extent_of lines))
+extended_none (Ok lines) = ap (λ (x : Extent). Ok x) (none_joined (extent_of lines))
+extended_none (Err why) = refl
+
+-- the extent of those that were looked at
+pub record Left (whole left : Bor (List ℕ)) (row : ℕ) (extent : Extent) : Type 0 where
   pub fuel : ℕ
   pub enough : length left.now ≤ fuel
   pub count : row + length left.now ≤ 2 + length whole.now
-  pub same : passed (lines_from fuel row left) ≡ passed (lines_from (length whole.now) 2 whole)
+  pub rows : extent.rows + length left.now ≤ length whole.now
+  pub bytes : extent.bytes + length left.now ≤ length whole.now
+  pub same : extended extent (lines_from fuel row left) ≡ and_then (lines_from (length whole.now) 2 whole) (λ lines. Ok (extent_of lines))
 
-pub all_left : (whole : Bor (List ℕ)) → Left whole whole 2
-all_left whole = record { fuel = length whole.now; enough = omega arith; count = omega arith; same = refl }
+pub all_left : (whole : Bor (List ℕ)) → Left whole whole 2 none
+all_left whole = record {
+  fuel = length whole.now;
+  enough = omega arith;
+  count = omega arith;
+  rows = omega arith;
+  bytes = omega arith;
+  same = extended_none (lines_from (length whole.now) 2 whole);
+}
 
-pub none_left : {whole left : Bor (List ℕ)} {row : ℕ} → Left whole left row → length left.now ≡ 0 → passed (lines_from (length whole.now) 2 whole) ≡ Ok tt
-none_left {whole} {left} {row} g e = sym g.same ∙ ap passed (lines_none g.fuel row left e)
+pub none_left : {whole left : Bor (List ℕ)} {row : ℕ} {extent : Extent} → Left whole left row extent → length left.now ≡ 0
+    → and_then (lines_from (length whole.now) 2 whole) (λ lines. Ok (extent_of lines)) ≡ Ok extent
+none_left {whole} {left} {row} {extent} g e =
+    sym g.same ∙ ap (extended extent) (lines_none g.fuel row left e) ∙ ap (λ (x : Extent). Ok x) (ap (joined extent) extent_none ∙ joined_none extent)
 
 some_fuel : (n : ℕ) → 0 < n → (k : ℕ) × (n ≡ suc k)
 some_fuel zero h = absurd (omega arith)
 some_fuel (suc k) h = (k, refl)
 
-pub bad_left : {whole left : Bor (List ℕ)} {row : ℕ} (column : ℕ) → Left whole left row → 0 < length left.now → line_of left ≡ Err column
-    → passed (lines_from (length whole.now) 2 whole) ≡ Err (BadSheet row column)
-bad_left {whole} {left} {row} column g h e =
+pub bad_left : {whole left : Bor (List ℕ)} {row : ℕ} {extent : Extent} (column : ℕ) → Left whole left row extent → 0 < length left.now → line_of left ≡ Err column
+    → and_then (lines_from (length whole.now) 2 whole) (λ lines. Ok (extent_of lines)) ≡ Err (BadSheet row column)
+bad_left {whole} {left} {row} {extent} column g h e =
     let k = some_fuel g.fuel (omega (arith, g.enough)) in
-    sym g.same ∙ ap (λ (n : ℕ). passed (lines_from n row left)) k.1 ∙ ap passed (line_bad k.0 row column left h e)
+    sym g.same ∙ ap (λ (n : ℕ). extended extent (lines_from n row left)) k.1 ∙ ap (extended extent) (line_bad k.0 row column left h e)
 
-pub next_left : {whole left : Bor (List ℕ)} {row : ℕ} (l : Line) → Left whole left row → 0 < length left.now → line_of left ≡ Ok l → Left whole l.cells.strings.rest (row + 1)
-next_left {whole} {left} {row} l g h e =
+-- one more fits
+pub record Fits (whole left : Bor (List ℕ)) (extent : Extent) (c : Cells) : Type 0 where
+  pub rows : extent.rows + 1 ≤ length whole.now
+  pub bytes : extent.bytes + (row_extent c.strings).bytes ≤ length whole.now
+
+pub next_fits : {whole left : Bor (List ℕ)} {row : ℕ} {extent : Extent} (c : Cells) → Left whole left row extent → cells_of left ≡ Some c → Fits whole left extent c
+next_fits {whole} {left} {row} {extent} c g h = record {
+  rows = omega (arith, g.rows, cells_shorter left c h);
+  bytes = omega (arith, g.bytes, cells_longer left c h, row_bytes c.strings);
+}
+
+pub next_left : {whole left : Bor (List ℕ)} {row : ℕ} {extent : Extent} (l : Line) → Left whole left row extent → 0 < length left.now → line_of left ≡ Ok l
+    → Left whole l.cells.strings.rest (row + 1) (joined extent (row_extent l.cells.strings))
+next_left {whole} {left} {row} {extent} l g h e =
     let k = some_fuel g.fuel (omega (arith, g.enough)) in
     let p = line_parts left l e in
     let short = cells_shorter left l.cells p.cells in
+    let long = cells_longer left l.cells p.cells in
     record {
       fuel = k.0;
       enough = omega (arith, short, g.enough, k.1);
       count = omega (arith, short, g.count);
-      same = sym (passed_more l (lines_from k.0 (row + 1) l.cells.strings.rest)) ∙ sym (ap passed (line_then k.0 row left l h e))
-          ∙ ap (λ (n : ℕ). passed (lines_from n row left)) (sym k.1) ∙ g.same;
+      rows = omega (arith, short, g.rows, row_one l.cells.strings);
+      bytes = omega (arith, long, g.bytes, row_bytes l.cells.strings);
+      same = sym (extended_more extent l (lines_from k.0 (row + 1) l.cells.strings.rest)) ∙ sym (ap (extended extent) (line_then k.0 row left l h e))
+          ∙ ap (λ (n : ℕ). extended extent (lines_from n row left)) (sym k.1) ∙ g.same;
     }

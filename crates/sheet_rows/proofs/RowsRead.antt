@@ -11,7 +11,7 @@ use Rattle.sheet_rows.specs.declared.cells.Cells.{Cells}
 use Rattle.sheet_rows.specs.declared.cells.End.{End}
 use Rattle.sheet_rows.specs.declared.cells.End.TheVariants.{Comma, Row}
 use Rattle.sheet_rows.specs.Cells.{if_some, behind_end, cell_of, ended_cell, three_of, cells_of}
-use Rattle.sheet_rows.specs.Meant.{IsCell, IsEnd, crlf, lf, last, IsRow, ended, comma, texts_of, RowsMeant}
+use Rattle.sheet_rows.specs.Meant.{IsCell, plain, quoted, IsEnd, crlf, lf, last, IsRow, ended, comma, texts_of, RowsMeant}
 use Rattle.sheet_rows.proofs.CellsRead.{Stops, stops_none, stops_comma, stops_return, stops_feed, cell_spelt, cell_read}
 
 -- ---- steps that may give nothing
@@ -304,3 +304,20 @@ comma_shorter (comma {text} {cell} {more} c r) = omega (arith, length-append cel
 
 pub cells_shorter : (s : Bor (List ℕ)) (c : Cells) → cells_of s ≡ Some c → length c.strings.rest.now < length s.now
 cells_shorter s c h = comma_shorter (row_is s c h)
+
+-- ---- how long its texts are
+abbrev total : List (List ℕ) → ℕ
+total [] = 0
+total (t ∷ ts) = length t + total ts
+
+cell_longer : {text cell : List ℕ} → IsCell text cell → length text ≤ length cell
+cell_longer (plain p) = omega arith
+cell_longer {text} (quoted p) = omega (arith, length-append text (34 ∷ []))
+
+row_longer : {texts : List (List ℕ)} {l rest : List ℕ} → IsRow texts l rest → total texts + length rest ≤ length l
+row_longer (ended {text} {cell} {end} {rest} c e) = omega (arith, length-append cell end, end_shorter e, cell_longer c)
+row_longer (comma {text} {cell} {more} c r) = omega (arith, length-append cell (44 ∷ more), cell_longer c, row_longer r)
+
+pub cells_longer : (s : Bor (List ℕ)) (c : Cells) → cells_of s ≡ Some c
+    → length c.strings.first.now + length c.strings.second.now + length c.strings.third.now + length c.strings.rest.now ≤ length s.now
+cells_longer s c h = omega (arith, row_longer (row_is s c h))

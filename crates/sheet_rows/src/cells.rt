@@ -1,7 +1,12 @@
 //! The cells of a row.
 
-ghost use Rattle.std.specs.Prelude.{◌≡◌, ◌+◌, ◌<◌, ◌≤◌, IfSome, eqb, get_or, length, true};
+ghost use Rattle.std.specs.Prelude.{◌≡◌, ◌+◌, ◌<◌, ◌≤◌, IfSome, eqb, get_or, length, map, not, true};
+ghost use Rattle.std.specs.List.{prefix_len};
+ghost use Rattle.std.specs.Simd.Lanes.{chunk, mask_l};
+ghost use Rattle.sheet.specs.Cells.{is_special};
 ghost use Rattle.sheet_rows.specs.Cells.{plain_length, quoted_length, cell_of, feed_at, behind_end, ended_cell, three_of, cells_of};
+
+use std::simd::prelude::*;
 
 /// A cell and what stands behind it: its text, in which each quote stands twice.
 #[derive(Clone, Copy)]
@@ -47,9 +52,34 @@ fn stands(bytes: &[u8], at: usize, byte: u8) -> bool
     at < bytes.len() && bytes[at] == byte
 }
 
-// How many bytes stand before the first comma, quote, CR or LF.
+// Bit k is 1 where byte k is a comma, a quote, CR or LF.
+#[inline(always)]
+fn specials(bytes: u8x16) -> u64
+    ensures { result ≡ mask_l (map is_special bytes) }
+{
+    (bytes.simd_eq(u8x16::splat(b','))
+        | bytes.simd_eq(u8x16::splat(b'"'))
+        | bytes.simd_eq(u8x16::splat(b'\r'))
+        | bytes.simd_eq(u8x16::splat(b'\n'))).to_bitmask()
+}
+
+// How many of sixteen bytes from a place on stand before the first of these, or 16.
+#[inline(always)]
+fn plain_among(bytes: &[u8], at: usize) -> usize
+    requires { at + 16 ≤ length bytes.now }
+    ensures { result ≡ prefix_len (λ b. not (is_special b)) (chunk at 16 bytes.now) }
+{
+    let special = specials(u8x16::from_slice(&bytes[at..]));
+    if special == 0 {
+        16
+    } else {
+        special.trailing_zeros() as usize
+    }
+}
+
+// How many bytes stand before the first of these, one byte after the other.
 #[tactic(auto, using(crate::proofs::Lengths::plain_stops, crate::proofs::Lengths::plain_goes_on, crate::proofs::Lengths::plain_end))]
-fn plain_length(bytes: &[u8]) -> usize
+fn plain_by_bytes(bytes: &[u8]) -> usize
     ensures value { result ≡ plain_length bytes.now }
     ensures within { result ≤ length bytes.now }
 {
@@ -59,6 +89,23 @@ fn plain_length(bytes: &[u8]) -> usize
         }
     }
     bytes.len()
+}
+
+// The same, sixteen bytes at a time.
+#[inline(always)]
+fn plain_length(bytes: &[u8]) -> usize
+    ensures value { result ≡ plain_length bytes.now }
+    ensures within { result ≤ length bytes.now }
+{
+    let mut at = 0;
+    while 16 <= bytes.len() - at {
+        let plain = plain_among(bytes, at);
+        if plain < 16 {
+            return at + plain;
+        }
+        at += 16;
+    }
+    at + plain_by_bytes(part::rest_of(bytes, at))
 }
 
 // How many bytes stand before the quote that closes a cell.
@@ -92,6 +139,7 @@ fn quoted_cell(bytes: &[u8]) -> Option<Cell<'_>>
 }
 
 // The cell that some bytes begin with.
+#[inline(always)]
 #[tactic(auto, unfolding(crate::specs::Cells::cell_of))]
 fn first_cell(bytes: &[u8]) -> Option<Cell<'_>>
     ensures { result ≡ cell_of bytes.entry }
@@ -116,6 +164,7 @@ fn behind_feed(bytes: &[u8], at: usize) -> Option<&[u8]>
 }
 
 // What stands behind an end that some bytes begin with.
+#[inline(always)]
 #[tactic(auto, unfolding(crate::specs::Cells::behind_end))]
 fn behind_end(end: End, bytes: &[u8]) -> Option<&[u8]>
     ensures { result ≡ behind_end end bytes.entry }
@@ -139,6 +188,7 @@ fn behind_end(end: End, bytes: &[u8]) -> Option<&[u8]>
     }
 }
 
+#[inline(always)]
 #[tactic(auto, unfolding(crate::specs::Cells::ended_cell))]
 fn ended_cell(end: End, bytes: &[u8]) -> Option<Cell<'_>>
     ensures { result ≡ ended_cell end bytes.entry }
@@ -151,6 +201,7 @@ fn ended_cell(end: End, bytes: &[u8]) -> Option<Cell<'_>>
     })
 }
 
+#[inline(always)]
 #[tactic(auto, unfolding(crate::specs::Cells::three_of))]
 fn three_cells(end: End, bytes: &[u8]) -> Option<Three<'_>>
     ensures { result ≡ three_of end bytes.entry }

@@ -1,16 +1,20 @@
 //! The rows of a sheet, read cell by cell (docs/FORMAT.md, "Sheet").
 #![tactic(auto)]
 
-ghost use Rattle.std.specs.Prelude.{◌≡◌, ◌+◌, ◌≤◌, Ok, length};
+ghost use Rattle.std.specs.Prelude.{◌≡◌, ◌+◌, ◌≤◌, ◌<◌, ◌^◌, Ok, length};
 ghost use Rattle.part.specs.Outcome.{and_then};
 ghost use Rattle.sheet_rows.specs.Meant.{RowsMeant, NumbersMeant};
 ghost use Rattle.sheet_rows.specs.SheetMeant.{SheetsMeant};
 ghost use Rattle.sheet_rows.specs.Rows.{is_header, are_words, behind_header, line_of, lines_from, lines_of};
+ghost use Rattle.sheet_rows.specs.Extent.{extent_of};
 
 mod cells;
+mod extent;
 mod numbers;
 
 pub use cells::{Cells, Three, read_cells};
+use extent::with_row;
+pub use extent::{Extent, text_length};
 pub use numbers::{Numbers, read_numbers};
 use refusal::Refusal;
 
@@ -65,14 +69,20 @@ fn read_row(bytes: &[u8]) -> Result<Cells<'_>, usize>
     Ok(cells)
 }
 
-fn check_rows(rows: Rows<'_>) -> Result<(), Refusal>
-    ensures { result ≡ and_then (lines_from (length rows.entry.bytes.now) 2 rows.entry.bytes) (λ lines. Ok tt) }
+fn check_rows(rows: Rows<'_>) -> Result<Extent, Refusal>
+    ensures { result ≡ and_then (lines_from (length rows.entry.bytes.now) 2 rows.entry.bytes) (λ lines. Ok (extent_of lines)) }
 {
     let mut left = rows;
     let mut row = 2;
+    let mut extent = Extent {
+        rows: 0,
+        bytes: 0,
+        longest: 0,
+    };
     while !left.bytes.is_empty() {
         match read_row(left.bytes) {
             Ok(cells) => {
+                extent = with_row(extent, &cells.strings);
                 left = Rows {
                     bytes: cells.strings.rest,
                 }
@@ -81,17 +91,17 @@ fn check_rows(rows: Rows<'_>) -> Result<(), Refusal>
         }
         row += 1;
     }
-    Ok(())
+    Ok(extent)
 }
 
-/// Refuses a sheet for its first row with a fault.
+/// Refuses a sheet for its first row with a fault, or tells how much its rows are.
 ///
 /// # Errors
 ///
 /// 18: with column 0 for a row of the wrong shape, else with the first column whose cell is bad.
 #[tactic(auto, unfolding(crate::specs::Rows::lines_of))]
-pub fn check(sheet: &[u8]) -> Result<(), Refusal>
-    ensures { result ≡ and_then (lines_of sheet.entry) (λ lines. Ok tt) }
+pub fn check(sheet: &[u8]) -> Result<Extent, Refusal>
+    ensures { result ≡ and_then (lines_of sheet.entry) (λ lines. Ok (extent_of lines)) }
 {
     check_rows(read_header(sheet)?)
 }

@@ -1,6 +1,0 @@
-use Rattle.std.proofs.Common.{◌+◌, ◌≤◌, ◌≡◌, drop}
-use Rattle.sheet_import.specs.Strings.{quotes}
-use Rattle.sheet_import.proofs.strings.count_quotes.Given as goal
-
-abbrev pub invariant-loop-byte : goal.invariant-loop-byte
-invariant-loop-byte l = record { few : l.count ≤ l.byte-index; left : l.count + quotes (drop l.byte-index l.text) ≡ quotes l.text }
