@@ -55,7 +55,7 @@ fn needed(alloc: Global, path: &str, asked: Result<usize, Refusal>) -> Result<us
     }
 }
 
-// A refusal in words: of a sheet's row with the name of its column.
+// A refusal in words: of a row of another shape with what it should be.
 fn refused(alloc: Global, path: &str, why: Refusal) -> Result<String, AllocError> {
     match why {
         Refusal::BadSheet { row: 1, .. } => format!(in alloc;
@@ -67,22 +67,6 @@ fn refused(alloc: Global, path: &str, why: Refusal) -> Result<String, AllocError
                 "{path}: refusal 18, bad sheet: row {row} is not nine cells between commas"
             )
         }
-        Refusal::BadSheet { row, column } => {
-            let (row, name) = (Grouped(row), column_name(column));
-            format!(in alloc; "{path}: refusal 18, bad sheet: row {row}, column {name}")
-        }
         why => captured::refused(alloc, path, why),
-    }
-}
-
-// The word of a column with numbers.
-fn column_name(column: usize) -> &'static str {
-    match column {
-        1 => "group",
-        2 => "offset",
-        3 => "size",
-        4 => "type id",
-        5 => "flags",
-        _ => "high",
     }
 }

@@ -9,7 +9,7 @@ use std::alloc::{AllocError, Global};
 use std::fs;
 use std::io::{ErrorKind, Read, Write};
 use upload::Form;
-use wording::Grouped;
+use wording::{Grouped, InWords};
 use writing::WriteError;
 
 /// Writes what is made of a file.
@@ -67,7 +67,8 @@ fn write<W: Write>(
     }
 }
 
-// The lines of each line's upload. Nothing is written where one is refused.
+// The lines of each line's upload. Nothing is written where one is no digits; one whose upload is too large is refused behind the
+// lines of those before.
 fn write_each<W: Write>(
     alloc: Global,
     text: &[u8],
@@ -106,8 +107,8 @@ fn check_lines(alloc: Global, text: &[u8], path: &str) -> Result<(), Failure> {
 
 /// A refusal in words, behind the path of what was read.
 pub fn refused(alloc: Global, path: &str, why: Refusal) -> Result<String, AllocError> {
-    let number = why.figures().number;
-    format!(in alloc; "{path}: refusal {number}, {why}")
+    let why = InWords(&why);
+    format!(in alloc; "{path}: {why}")
 }
 
 /// All that a file holds: lines and sheets have no limit of their own.

@@ -51,15 +51,15 @@ fn refusals_in_words() {
         ),
         (
             sheet("1,2,3,4,8,x,a,b,c"),
-            "refusal 18, bad sheet: row 2, column flags",
+            "refusal 18, bad sheet: row 2, column 5, flags",
         ),
         (
             sheet("1,2,3,4,5,6,a,b,c\n1,2,3,4294967296,5,6,a,b,c"),
-            "refusal 18, bad sheet: row 3, column type id",
+            "refusal 18, bad sheet: row 3, column 4, type id",
         ),
         (
             sheet("1,2,3,4,5,6,a,b,\u{100}"),
-            "refusal 11, text: fault 2 at byte 71",
+            "refusal 11, text: at byte 71, a character that Windows-1252 lacks",
         ),
         (
             sheet(&format!("1,2,3,4,5,6,{},b,c", "x".repeat(65536))),
