@@ -10,11 +10,17 @@ use std::cmp::Ordering;
 /// The numbers of a piece of A and of a piece of B that are the same entry, or of one of them that one upload has alone.
 #[derive(Clone, Copy)]
 pub struct Pair {
+    /// Of A.
     pub a: Option<usize>,
+    /// Of B.
     pub b: Option<usize>,
 }
 
-/// All pieces of both, each once: A's in order, and what B has alone behind that which stands before it in B.
+/// All pieces of both, each once: A's in order, and what B has alone behind that which stands before it in B. Which are the same entry is
+/// said by the rules of docs/FORMAT.md, "The command's text"; it takes time n log n.
+///
+/// # Errors
+/// There was no memory.
 #[tactic(auto, unfolding(crate::specs::Pairs::pairs_of))]
 pub fn pairs<'a>(alloc: Global, a: &[Piece<'a>], b: &[Piece<'a>]) -> Result<Vec<Pair>, AllocError>
     ensures { IfOk result (λ all. all.items ≡ pairs_of (partners_of a.now b.now)) }

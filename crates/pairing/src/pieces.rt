@@ -23,9 +23,11 @@ pub struct Piece<'a> {
 }
 
 /// How many bytes further on something stands in B than in A.
-#[derive(Clone, Copy, PartialEq, Eq)]
+#[derive(Clone, Copy)]
 pub enum Shift {
+    /// So many bytes further on, or at the same place.
     Later(usize),
+    /// So many bytes less far.
     Earlier(usize),
 }
 
@@ -52,7 +54,10 @@ fn piece_of<'a>(bytes: &'a [u8], step: &walk::Piece<AdsSymbolInfo<'a>>) -> Piece
     }
 }
 
-/// The pieces of an upload in order, without a gap.
+/// The pieces of an upload in order, without a gap (docs/FORMAT.md, "Walking").
+///
+/// # Errors
+/// There was no memory.
 #[tactic(auto, unfolding(crate::specs::Pieces::pieces_of))]
 pub fn pieces<'a>(alloc: Global, upload: &Upload<'a>) -> Result<Vec<Piece<'a>>, AllocError>
     ensures { IfOk result (λ all. all.items ≡ pieces_of upload.now) }
@@ -72,18 +77,21 @@ pub(crate) fn piece_at<'a>(pieces: &[Piece<'a>], number: usize) -> Option<Piece<
 }
 
 impl Piece<'_> {
+    /// Whether the entry is refused, so that the piece has no name.
     pub fn is_refused(&self) -> bool
         ensures { result ≡ is_err self.now.name }
     {
         self.name.is_err()
     }
 
+    /// Whether both have as many bytes.
     pub fn is_as_long_as(&self, other: &Piece<'_>) -> bool
         ensures { result ≡ (length self.now.bytes.now == length other.now.bytes.now) }
     {
         self.bytes.len() == other.bytes.len()
     }
 
+    /// Whether both have the same bytes.
     pub fn has_the_bytes_of(&self, other: &Piece<'_>) -> bool
         ensures { result ≡ pointwise nat_eq self.now.bytes.now other.now.bytes.now }
     {

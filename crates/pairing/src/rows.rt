@@ -10,7 +10,9 @@ use refusal::Mode;
 /// What two uploads have, in rows.
 #[derive(Clone, Copy)]
 pub struct Rows<'s, 'a> {
+    /// The pieces of A.
     pub a: &'s [Piece<'a>],
+    /// The pieces of B.
     pub b: &'s [Piece<'a>],
     /// The numbers of the pieces of each row.
     pub pairs: &'s [Pair],
@@ -21,11 +23,14 @@ pub struct Rows<'s, 'a> {
 /// A piece of A, a piece of B, or one of each that are the same entry.
 #[derive(Clone, Copy)]
 pub struct Row<'a> {
+    /// What A has of it.
     pub a: Option<Piece<'a>>,
+    /// What B has of it.
     pub b: Option<Piece<'a>>,
 }
 
 impl Shift {
+    /// Whether it is as far, and in the same direction.
     pub fn is(self, other: Shift) -> bool
         ensures { result ≡ is_same_shift self other }
     {
