@@ -3,6 +3,7 @@ pub mod Lanes
 pub mod Quotes
 pub mod CellsRead
 pub mod RowsRead
+pub mod Bare
 pub mod NumbersRead
 pub mod Lines
 pub mod SheetRead

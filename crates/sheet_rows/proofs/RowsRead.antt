@@ -131,6 +131,15 @@ row_is s c h =
     let d = some_map (three_of Row b.0.rest) _ c b.2 in
     subst (λ (x : Cells). IsRow (texts_of x) s.now x.strings.rest.now) d.2 (three_before s a.1 (three_before a.0.rest b.1 (last_three b.0.rest d.1)))
 
+-- the last three cells of a row
+pub strings_row : (s : Bor (List ℕ)) (c : Cells) → cells_of s ≡ Some c → IsRow (c.strings.first.now ∷ c.strings.second.now ∷ c.strings.third.now ∷ []) c.kinds.rest.now c.strings.rest.now
+unfolding cells_of
+strings_row s c h =
+    let a = some_step (three_of Comma s) _ c h in
+    let b = some_step (three_of Comma a.0.rest) _ c a.2 in
+    let d = some_map (three_of Row b.0.rest) _ c b.2 in
+    subst (λ (x : Cells). IsRow (x.strings.first.now ∷ x.strings.second.now ∷ x.strings.third.now ∷ []) x.kinds.rest.now x.strings.rest.now) d.2 (last_three b.0.rest d.1)
+
 -- ---- a row that stands there is read
 ended_on : (e : End) (s rest : Bor (List ℕ)) (c : Cell) → cell_of s ≡ Some c → behind_end e c.rest ≡ Some rest → ended_cell e s ≡ Some (record { text = c.text; rest = rest })
 unfolding ended_cell
@@ -306,15 +315,15 @@ pub cells_shorter : (s : Bor (List ℕ)) (c : Cells) → cells_of s ≡ Some c �
 cells_shorter s c h = comma_shorter (row_is s c h)
 
 -- ---- how long its texts are
-abbrev total : List (List ℕ) → ℕ
+abbrev pub total : List (List ℕ) → ℕ
 total [] = 0
 total (t ∷ ts) = length t + total ts
 
-cell_longer : {text cell : List ℕ} → IsCell text cell → length text ≤ length cell
+pub cell_longer : {text cell : List ℕ} → IsCell text cell → length text ≤ length cell
 cell_longer (plain p) = omega arith
 cell_longer {text} (quoted p) = omega (arith, length-append text (34 ∷ []))
 
-row_longer : {texts : List (List ℕ)} {l rest : List ℕ} → IsRow texts l rest → total texts + length rest ≤ length l
+pub row_longer : {texts : List (List ℕ)} {l rest : List ℕ} → IsRow texts l rest → total texts + length rest ≤ length l
 row_longer (ended {text} {cell} {end} {rest} c e) = omega (arith, length-append cell end, end_shorter e, cell_longer c)
 row_longer (comma {text} {cell} {more} c r) = omega (arith, length-append cell (44 ∷ more), cell_longer c, row_longer r)
 

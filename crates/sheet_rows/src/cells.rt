@@ -218,6 +218,7 @@ fn three_cells(end: End, bytes: &[u8]) -> Option<Three<'_>>
 }
 
 /// The cells of the row that some bytes begin with, if it has nine.
+#[inline(always)]
 #[tactic(auto, unfolding(crate::specs::Cells::cells_of))]
 pub fn read_cells(bytes: &[u8]) -> Option<Cells<'_>>
     ensures { result ≡ cells_of bytes.entry }

@@ -1,6 +1,7 @@
 //! How much the rows of a sheet are.
 
-ghost use Rattle.std.specs.Prelude.{◌≡◌, ◌+◌, ◌-◌, ◌≤◌, ◌<◌, ◌^◌, length, take, max, eqb, if◌then◌else◌};
+ghost use Rattle.std.specs.Prelude.{◌≡◌, [], ◌∷◌, ◌+◌, ◌-◌, ◌≤◌, ◌<◌, ◌^◌, length, take, max, eqb, true, if◌then◌else◌};
+ghost use Rattle.sheet_rows.specs.Meant.{IsRow};
 ghost use Rattle.sheet_rows.specs.Extent.{quotes, text_length, row_extent, joined};
 
 use crate::cells::Three;
@@ -58,22 +59,46 @@ pub fn text_length(text: &[u8]) -> usize
     text.len() - count_quotes(text) / 2
 }
 
+// Whether none of the three cells that end a row stands between quotes, where another row follows: they have no byte then but their
+// texts, two commas, CR and LF, and quotes around a cell are two more.
+fn are_bare(line: &[u8], cells: &Three<'_>) -> bool
+    requires { IsRow (cells.now.first.now ∷ cells.now.second.now ∷ cells.now.third.now ∷ []) line.now cells.now.rest.now }
+    ensures { result ≡ true → quotes cells.now.first.now + quotes cells.now.second.now + quotes cells.now.third.now ≡ 0 }
+{
+    let texts = cells.first.len() + cells.second.len() + cells.third.len();
+    !cells.rest.is_empty() && line.len() - cells.rest.len() <= texts + 4
+}
+
+// How many bytes a cell's text has, whose quotes are looked for only where there may be some.
+#[tactic(auto, unfolding(crate::specs::Extent::text_length))]
+fn length_if(bare: bool, text: &[u8]) -> usize
+    requires { bare ≡ true → quotes text.now ≡ 0 }
+    ensures { result ≡ text_length text.now }
+{
+    if bare {
+        return text.len();
+    }
+    text_length(text)
+}
+
 fn larger(a: usize, b: usize) -> usize
     ensures { result ≡ max a b }
 {
     if a < b { b } else { a }
 }
 
-/// The extent of some rows, with one more of these cells.
+/// The extent of some rows, and of one more: its bytes from the name on, and the cells that are read there.
 #[tactic(auto, unfolding(crate::specs::Extent::row_extent))]
-pub fn with_row(extent: Extent, strings: &Three<'_>) -> Extent
+pub fn with_row(extent: Extent, line: &[u8], cells: &Three<'_>) -> Extent
+    requires row { IsRow (cells.now.first.now ∷ cells.now.second.now ∷ cells.now.third.now ∷ []) line.now cells.now.rest.now }
     requires rows { extent.rows + 1 < 2 ^ 64 }
-    requires bytes { extent.bytes + (row_extent strings.now).bytes < 2 ^ 64 }
-    ensures { result ≡ joined extent (row_extent strings.now) }
+    requires bytes { extent.bytes + (row_extent cells.now).bytes < 2 ^ 64 }
+    ensures { result ≡ joined extent (row_extent cells.now) }
 {
-    let name = text_length(strings.first);
-    let type_name = text_length(strings.second);
-    let comment = text_length(strings.third);
+    let bare = are_bare(line, cells);
+    let name = length_if(bare, cells.first);
+    let type_name = length_if(bare, cells.second);
+    let comment = length_if(bare, cells.third);
     Extent {
         rows: extent.rows + 1,
         bytes: extent.bytes + (name + type_name + comment),

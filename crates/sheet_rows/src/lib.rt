@@ -82,7 +82,7 @@ fn check_rows(rows: Rows<'_>) -> Result<Extent, Refusal>
     while !left.bytes.is_empty() {
         match read_row(left.bytes) {
             Ok(cells) => {
-                extent = with_row(extent, &cells.strings);
+                extent = with_row(extent, cells.kinds.rest, &cells.strings);
                 left = Rows {
                     bytes: cells.strings.rest,
                 }

@@ -1,8 +1,9 @@
-use Rattle.std.proofs.Common.{◌+◌, ◌<◌, ◌≡◌, sym, ap, subst, length, arith}
+use Rattle.std.proofs.Common.{◌+◌, ◌<◌, ◌≡◌, sym, ap, subst, length, arith, [], ◌∷◌}
 use Rattle.std.proofs.lemmas.Grind.{common_steps}
 use Rattle.sheet_rows.specs.declared.cells.Cells.{Cells}
 use Rattle.sheet_rows.specs.Rows.{line_of}
-use Rattle.sheet_rows.proofs.RowsRead.{cells_shorter}
+use Rattle.sheet_rows.specs.Meant.{IsRow}
+use Rattle.sheet_rows.proofs.RowsRead.{cells_shorter, strings_row}
 use Rattle.sheet_rows.specs.Extent.{row_extent, joined}
 use Rattle.sheet_rows.proofs.Lines.{Left, all_left, none_left, bad_left, next_fits, next_left, line_parts, row_told, row_bad}
 use Rattle.sheet_rows.proofs.check_rows.Goals as goal
@@ -25,7 +26,12 @@ with_row-extent-requires c =
     let told = row_told (line_of c.loop-left.left.bytes) c.in-Ok.cells (sym c.in-Ok.ensures) in
     let fits = next_fits told.0.cells c.loop-left.invariant (line_parts c.loop-left.left.bytes told.0 told.1).cells in
     let own : (row_extent told.0.cells.strings).bytes ≡ (row_extent c.in-Ok.cells.strings).bytes = ap (λ (x : Cells). (row_extent x.strings).bytes) told.2 in
-    record { rows = omega (arith, fits.rows); bytes = omega (arith, fits.bytes, own) }
+    let row = strings_row c.loop-left.left.bytes told.0.cells (line_parts c.loop-left.left.bytes told.0 told.1).cells in
+    record {
+      row = subst (λ (x : Cells). IsRow (x.strings.first.now ∷ x.strings.second.now ∷ x.strings.third.now ∷ []) x.kinds.rest.now x.strings.rest.now) told.2 row;
+      rows = omega (arith, fits.rows);
+      bytes = omega (arith, fits.bytes, own);
+    }
 
 pub loop-left-preserved : goal.loop-left-preserved
 loop-left-preserved c =
