@@ -35,7 +35,7 @@ moved_is here e more size left there h = by (nat_lt 4294967295 (to / 8)) h
     gone = record { entry = e; offset = to / 8; bit = to % 8; size = size; left = left }
 
     by : (t : Bool) → (if t then Err (OffsetTooLarge (to / 8)) else Ok gone) ≡ Ok there → Moved here e more size left there
-    by true k = absurd (grind arith)
+    by true k = absurd cc
     by false k =
         let is : gone ≡ there = cc in
         record {
@@ -56,7 +56,7 @@ pub record First (name : List ℕ) (items : List (Bor (List ℕ))) (end : ℕ) (
 
 pub first_is : (name : List ℕ) (n : ℕ) (s : Bor (List ℕ)) (end : ℕ) (e : Entry) → member_of name n s end ≡ Some e → First name (items_of n s) end e
 unfolding member_of items_of
-first_is name zero s end e h = absurd (grind arith)
+first_is name zero s end e h = absurd cc
 first_is name (suc n) s end e h = by (same_name (name_of s).now name) refl h (first_is name n (behind s (le4 s.now 0)) end e)
   where
     rest : Bor (List ℕ)
@@ -121,7 +121,7 @@ arrived here there e at h = by (e.mark == 0) refl h
   where
     by : (t : Bool) → (e.mark == 0) ≡ t → (if t then moved here e (e.offset * unit e) e.size e.arrays else Err (NoOffset at e.mark)) ≡ Ok there → Arrived here e there
     by true q k = let m = moved_is here e (e.offset * unit e) e.size e.arrays there k in record { adds = m.adds; entry = m.entry; size_is = m.size_is; mark = eqb-true e.mark 0 q }
-    by false q k = absurd (grind arith)
+    by false q k = absurd cc
 
 not_found : (here there : Here) (at : ℕ) → at_member here at None ≡ Ok there → ⊥
 unfolding at_member
@@ -165,7 +165,7 @@ member_is here there name at h = by (nat_lt 7 (length here.left.now)) h
     on (Some e) f k = reached here there name at e f k
 
     by : (t : Bool) → (if t then Err (WrongDimensions at (dimensions here.entry)) else at_member here at found) ≡ Ok there → IsMember here name there
-    by true k = absurd (grind arith)
+    by true k = absurd cc
     by false k = on found refl k
 
 -- an index is below the number of elements, and so much above the lower bound
@@ -180,8 +180,8 @@ inside number lower elements index h = by (nat_lt number low) (nat_lt (number - 
     low = (lower + 2147483648) % 4294967296
 
     by : (a b : Bool) → nat_lt number low ≡ a → nat_lt (number - low) elements ≡ b → (if a then None else if b then Some (number - low) else None) ≡ Some index → Inside number lower elements index
-    by true b p q k = absurd (grind arith)
-    by false false p q k = absurd (grind arith)
+    by true b p q k = absurd cc
+    by false false p q k = absurd cc
     by false true p q k =
         let is : number - low ≡ index = cc in
         let l : low ≤ number = ltb-false number low p in
@@ -201,7 +201,7 @@ indexed true m lower elements index h = by (nat_lt 2147483648 m) refl h
     sign false q l w e = let s : 2147483648 ≤ lower = ltb-false lower 2147483648 q in below_0 s (omega arith)
 
     by : (t : Bool) → nat_lt 2147483648 m ≡ t → (if t then None else from_lower (2147483648 - m) lower elements) ≡ Some index → Indexed true m lower elements index
-    by true q k = absurd (grind arith)
+    by true q k = absurd cc
     by false q k =
         let i = inside (2147483648 - m) lower elements index k in
         record { below = i.below; above = λ w. sign (nat_lt lower 2147483648) refl (ltb-false 2147483648 m q) w i.is }
@@ -212,7 +212,7 @@ indexed false m lower elements index h = by (nat_lt 8589934591 m) h
     sign false q w e = let s : 2147483648 ≤ lower = ltb-false lower 2147483648 q in over_0 s (omega arith)
 
     by : (t : Bool) → (if t then None else from_lower (2147483648 + m) lower elements) ≡ Some index → Indexed false m lower elements index
-    by true k = absurd (grind arith)
+    by true k = absurd cc
     by false k =
         let i = inside (2147483648 + m) lower elements index k in
         record { below = i.below; above = λ w. sign (nat_lt lower 2147483648) refl w i.is }
@@ -248,7 +248,7 @@ element_is here there n at h = by (nat_lt (length here.left.now) 8) h
     on (Some index) f k = counted here there n at index f k
 
     by : (t : Bool) → (if t then Err (WrongDimensions at (dimensions here.entry)) else at_element here at found) ≡ Ok there → IsElement here n there
-    by true k = absurd (grind arith)
+    by true k = absurd cc
     by false k = on found refl k
 
 same_here : (here there : Here) → ◌≡◌ {A = Result Here Refusal} (Ok here) (Ok there) → bits there ≡ bits here
@@ -267,7 +267,7 @@ module _ (find : Finder) (types : Bor (List ℕ)) where
 
       by : (t : Bool) → (if t then Ok gone else Err (NoOffset at e.mark)) ≡ Ok next → bits next ≡ bits here
       by true k = let is : gone ≡ next = cc in ap bits (sym is)
-      by false k = absurd (grind arith)
+      by false k = absurd cc
 
   through : (here next : Here) (at : ℕ) → to_type find types here at ≡ Ok next → bits next ≡ bits here
   unfolding to_type
@@ -275,7 +275,7 @@ module _ (find : Finder) (types : Bor (List ℕ)) where
     where
       by : (r : Result ℕ Refusal) → outcome r (λ start. at_type here types start at) (λ why. Err (NoSuchType at)) ≡ Ok next → bits next ≡ bits here
       by (Ok start) k = typed here next start at k
-      by (Err why) k = absurd (grind arith)
+      by (Err why) k = absurd cc
 
   settled_is : (most : ℕ) (here there : Here) (at : ℕ) → settled find types most here at ≡ Ok there → bits there ≡ bits here
   unfolding settled
@@ -283,19 +283,19 @@ module _ (find : Finder) (types : Bor (List ℕ)) where
     where
       by : (a p : Bool) → (if a then Ok here else if p then Err (TooManyAliases at) else Err (NoOffset at here.entry.pointer)) ≡ Ok there → bits there ≡ bits here
       by true p k = same_here here there k
-      by false true k = absurd (grind arith)
-      by false false k = absurd (grind arith)
+      by false true k = absurd cc
+      by false false k = absurd cc
   settled_is (suc most) here there at h = by (λ next. settled_is most next there at) (rests here) (here.entry.pointer == 0) h
     where
       on : ((next : Here) → settled find types most next at ≡ Ok there → bits there ≡ bits next) → (r : Result Here Refusal) → to_type find types here at ≡ r → and_then r (λ next. settled find types most next at) ≡ Ok there → bits there ≡ bits here
       on more (Ok next) e k = more next k ∙ through here next at e
-      on more (Err why) e k = absurd (grind arith)
+      on more (Err why) e k = absurd cc
 
       by : ((next : Here) → settled find types most next at ≡ Ok there → bits there ≡ bits next) → (a p : Bool)
           → (if a then Ok here else if p then and_then (to_type find types here at) (λ next. settled find types most next at) else Err (NoOffset at here.entry.pointer)) ≡ Ok there → bits there ≡ bits here
       by more true p k = same_here here there k
       by more false true k = on more (to_type find types here at) refl k
-      by more false false k = absurd (grind arith)
+      by more false false k = absurd cc
 
 pub steps_add : StepsAdd
 steps_add = record { member = member_is; element = element_is; data_type = settled_is }

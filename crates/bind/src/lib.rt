@@ -21,7 +21,7 @@ use symbol::AdsSymbolInfo;
 use types::NamedTypes;
 
 /// An upload with the slots of its name index.
-#[derive(Clone, Copy, Debug)]
+#[derive(Clone, Copy)]
 pub struct Upload<'a> {
     pub bytes: &'a [u8],
     pub slots: &'a [u32],
@@ -156,6 +156,24 @@ fn check_length(bytes: &[u8]) -> Result<(), Refusal>
     Ok(())
 }
 
+// The address below the symbol that was found, by how much of the path names it and where it starts.
+#[tactic(auto, unfolding(crate::specs::Binding::from_symbol))]
+fn from_symbol<'a>(
+    types: NamedTypes<'a>,
+    symbols: &'a [u8],
+    path: &[u8],
+    found: (usize, usize),
+) -> Result<Address<'a>, Refusal>
+    requires gone { found.0 ≤ length path.now }
+    requires long { length path.now ≤ 16777216 }
+    ensures { result ≡ from_symbol (type_found types.entry.mode types.entry.upload) symbols.entry types.entry.upload.bytes path.entry found }
+{
+    let (gone, start) = found;
+    let entry = reading::symbol_entry(symbols, start);
+    let here = below(types, path.len(), entry, &path[gone..])?;
+    told(path.len(), reading::symbol_group(symbols, start), &here)
+}
+
 /// The address of the variable, or of the part of one, that a path names.
 ///
 /// # Errors
@@ -163,7 +181,7 @@ fn check_length(bytes: &[u8]) -> Result<(), Refusal>
 /// 5 for the symbols, the data types and the path above the limit; 13 where no symbol has a name with which the path begins; 22 where
 /// the path goes on below a symbol that is a bit or a reference; then what is met first along the path, part by part: 20, 22, 24, 13, 22,
 /// 21, 14 and 23 (docs/FORMAT.md, "Binding").
-#[tactic(auto, unfolding(crate::specs::Binding::binding, crate::specs::Binding::from_symbol))]
+#[tactic(auto, unfolding(crate::specs::Binding::binding))]
 pub fn bind<'a>(
     symbols: Upload<'a>,
     types: Upload<'a>,
@@ -175,13 +193,10 @@ pub fn bind<'a>(
     check_length(symbols.bytes)?;
     check_length(types.bytes)?;
     check_length(path)?;
-    let (gone, start) = longest(symbols, mode, path)?;
-    let entry = reading::symbol_entry(symbols.bytes, start);
-    let group = reading::symbol_group(symbols.bytes, start);
+    let found = longest(symbols, mode, path)?;
     let types = NamedTypes {
         upload: types,
         mode,
     };
-    let here = below(types, path.len(), entry, &path[gone..])?;
-    told(path.len(), group, &here)
+    from_symbol(types, symbols.bytes, path, found)
 }

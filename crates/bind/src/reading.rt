@@ -8,7 +8,7 @@ ghost use Rattle.bind.specs.Reading.{behind, front, own_of, name_of, symbol_mark
 use data_type::SubItems;
 
 /// In which upload an entry starts, and where.
-#[derive(Clone, Copy, Debug, PartialEq, Eq)]
+#[derive(Clone, Copy, Debug)]
 pub enum Place {
     /// In the upload of symbols.
     Symbol(usize),
@@ -17,7 +17,7 @@ pub enum Place {
 }
 
 /// What an entry tells of a variable, of a data type or of a member.
-#[derive(Clone, Copy, Debug)]
+#[derive(Clone, Copy)]
 pub struct Entry<'a> {
     /// Where it starts.
     pub place: Place,

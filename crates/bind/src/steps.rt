@@ -12,7 +12,7 @@ use path::{Part, Subscript};
 use refusal::{LARGEST_OFFSET, Refusal};
 
 /// Where a path has led so far.
-#[derive(Clone, Copy, Debug)]
+#[derive(Clone, Copy)]
 pub struct Here<'a> {
     /// The entry that the last part named, or its data type.
     pub entry: Entry<'a>,
@@ -26,7 +26,7 @@ pub struct Here<'a> {
 }
 
 /// Where a path has led, and what is left of it.
-#[derive(Clone, Copy, Debug)]
+#[derive(Clone, Copy)]
 pub struct Way<'a, 'p> {
     pub here: Here<'a>,
     pub rest: &'p [u8],

@@ -3,12 +3,14 @@
 
 ghost use Rattle.std.specs.Prelude.{◌≡◌, ◌≤◌, length};
 ghost use Rattle.bind.specs.Found.{type_found};
-ghost use Rattle.bind.specs.Binding.{says_again, rests, at_type, to_type, settled, along};
+ghost use Rattle.part.specs.Outcome.{and_then};
+ghost use Rattle.bind.specs.Binding.{says_again, rests, at_type, to_type, to_part, settled, along};
 
 use crate::Upload;
 use crate::reading::{self, Entry};
 use crate::steps::{Here, Way};
 use data_type::AdsDataTypeInfo;
+use path::Part;
 use refusal::{MOST_ALIASES, Mode, Refusal};
 
 /// The data types of a controller, and how they are read.
@@ -101,11 +103,9 @@ impl<'a> NamedTypes<'a> {
         let mut here = start;
         let mut more = MOST_ALIASES;
         while !rests(&here) {
-            if pointer_of(&here) != 0 {
-                return Err(Refusal::NoOffset {
-                    place: at,
-                    flag: pointer_of(&here),
-                });
+            let flag = pointer_of(&here);
+            if flag != 0 {
+                return Err(Refusal::NoOffset { place: at, flag });
             }
             if more == 0 {
                 return Err(Refusal::TooManyAliases { place: at });
@@ -114,6 +114,13 @@ impl<'a> NamedTypes<'a> {
             more -= 1;
         }
         Ok(here)
+    }
+
+    // To what has parts, and there to the part that stands at a place of the path.
+    fn to_part_of(self, here: Here<'a>, part: Part<'_>, at: usize) -> Result<Here<'a>, Refusal>
+        ensures { result ≡ and_then (settled (type_found self.entry.mode self.entry.upload) self.entry.upload.bytes 16 here.entry at) (λ next. to_part next part.entry at) }
+    {
+        self.settled(here, at)?.to_part(part, at)
     }
 
     /// Along what is left of a path that is so long.
@@ -133,7 +140,7 @@ impl<'a> NamedTypes<'a> {
                     });
                 }
             };
-            way.here = self.settled(way.here, at)?.to_part(split.part, at)?;
+            way.here = self.to_part_of(way.here, split.part, at)?;
             way.rest = split.rest;
         }
         Ok(way.here)

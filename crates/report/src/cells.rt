@@ -37,6 +37,7 @@ pub struct Number {
 impl fmt::Display for Number {
     ghost output = { λ n. Some (number_cell n.column n.number) };
 
+    #[tactic(auto, unfolding(crate::specs::Cells::number_cell))]
     fn fmt<W: fmt::Write>(&self, f: &mut fmt::Formatter<W>) -> fmt::Result {
         let number = self.number;
         let gap = Spaces(self.column.saturating_sub(digits(number, 10)));
@@ -56,6 +57,7 @@ pub struct Hexadecimal {
 impl fmt::Display for Hexadecimal {
     ghost output = { λ n. Some (hexadecimal_cell n.column n.number) };
 
+    #[tactic(auto, unfolding(crate::specs::Cells::hexadecimal_cell))]
     fn fmt<W: fmt::Write>(&self, f: &mut fmt::Formatter<W>) -> fmt::Result {
         let number = self.number;
         let width = digits(number as usize, 16) + 2;
@@ -76,6 +78,7 @@ pub struct Name<'a> {
 impl fmt::Display for Name<'_> {
     ghost output = { λ n. Some (name_cell n.column n.name.now) };
 
+    #[tactic(auto, unfolding(crate::specs::Cells::name_cell))]
     fn fmt<W: fmt::Write>(&self, f: &mut fmt::Formatter<W>) -> fmt::Result {
         let name = Shown(self.name);
         let gap = Spaces(self.column.saturating_sub(shown_width(self.name)));
@@ -125,6 +128,7 @@ pub struct RefusedRow<'a> {
 impl fmt::Display for RefusedRow<'_> {
     ghost output = { λ r. Some (refused_row r.column r.place r.why.now) };
 
+    #[tactic(auto, unfolding(crate::specs::Cells::refused_row))]
     fn fmt<W: fmt::Write>(&self, f: &mut fmt::Formatter<W>) -> fmt::Result {
         let place = Number {
             number: self.place,

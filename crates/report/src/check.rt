@@ -37,6 +37,7 @@ struct Counts(Tally);
 impl fmt::Display for Counts {
     ghost output = { λ s. Some (counts_text s.0) };
 
+    #[tactic(auto, unfolding(crate::specs::Report::counts_text))]
     fn fmt<W: fmt::Write>(&self, f: &mut fmt::Formatter<W>) -> fmt::Result {
         let all = Entries(self.0.all());
         let (accepted, refused) = (Grouped(self.0.accepted), Grouped(self.0.refused));
@@ -44,6 +45,7 @@ impl fmt::Display for Counts {
     }
 }
 
+#[tactic(auto, unfolding(crate::specs::Report::refused_line))]
 fn write_refused<W: Write>(piece: &Piece<AdsSymbolInfo<'_>>, out: &mut W) -> io::Result<()>
     ensures { OnOk result (Appends (W.contents out.old) (W.contents out.new) (refused_line piece.now)) }
 {
@@ -82,6 +84,7 @@ fn write_counts<W: Write>(tally: Tally, out: &mut W) -> io::Result<()>
     write!(out, "{counts}")
 }
 
+#[tactic(auto, unfolding(crate::specs::Report::unread_text))]
 fn write_unread<W: Write>(tally: Tally, out: &mut W) -> io::Result<()>
     ensures { OnOk result (Appends (W.contents out.old) (W.contents out.new) (unread_text tally)) }
 {

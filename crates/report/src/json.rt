@@ -1,5 +1,6 @@
 //! What stands in JSON of a symbol, and of an entry that was refused (docs/FORMAT.md, "The command's text").
-ghost use Rattle.std.specs.Prelude.{Some};
+ghost use Rattle.std.specs.Prelude.{◌++◌, Some};
+ghost use Rattle.wording.specs.Text.{pair};
 ghost use Rattle.attribute.specs.Attribute as attribute;
 ghost use Rattle.refactor.specs.Refactor as refactor;
 ghost use Rattle.report.specs.Json.{refused_text, figures_text, strings_text, numbers_text, sections_text, symbol_text, guid_text, guid_or_null, attribute_text, attributes_text, more_attributes, former_text, formers_text, more_formers, extended_text};
@@ -25,6 +26,7 @@ pub struct RefusedEntry<'a> {
 impl fmt::Display for RefusedEntry<'_> {
     ghost output = { λ r. Some (refused_text r.place r.why.now) };
 
+    #[tactic(auto, unfolding(crate::specs::Json::refused_text))]
     fn fmt<W: fmt::Write>(&self, f: &mut fmt::Formatter<W>) -> fmt::Result {
         let place = self.place;
         let figures = FigureMembers(self.why.figures());
@@ -39,6 +41,7 @@ struct FigureMembers(Figures);
 impl fmt::Display for FigureMembers {
     ghost output = { λ m. Some (figures_text m.0) };
 
+    #[tactic(auto, unfolding(crate::specs::Json::figures_text))]
     fn fmt<W: fmt::Write>(&self, f: &mut fmt::Formatter<W>) -> fmt::Result {
         let number = self.0.number;
         let expected = self.0.expected;
@@ -62,6 +65,7 @@ pub struct SymbolEntry<'a> {
 impl fmt::Display for SymbolEntry<'_> {
     ghost output = { λ e. Some (symbol_text e.place e.symbol.now) };
 
+    #[tactic(auto, unfolding(crate::specs::Json::symbol_text))]
     fn fmt<W: fmt::Write>(&self, f: &mut fmt::Formatter<W>) -> fmt::Result {
         let place = self.place;
         let strings = Strings(self.symbol);
@@ -77,6 +81,7 @@ struct Strings<'a>(&'a AdsSymbolInfo<'a>);
 impl fmt::Display for Strings<'_> {
     ghost output = { λ s. Some (strings_text s.0.now) };
 
+    #[tactic(auto, unfolding(crate::specs::Json::strings_text))]
     fn fmt<W: fmt::Write>(&self, f: &mut fmt::Formatter<W>) -> fmt::Result {
         let symbol = self.0;
         let length = symbol.length;
@@ -96,6 +101,7 @@ struct Numbers<'a>(&'a AdsSymbolInfo<'a>);
 impl fmt::Display for Numbers<'_> {
     ghost output = { λ s. Some (numbers_text s.0.now) };
 
+    #[tactic(auto, unfolding(crate::specs::Json::numbers_text))]
     fn fmt<W: fmt::Write>(&self, f: &mut fmt::Formatter<W>) -> fmt::Result {
         let symbol = self.0;
         let size = symbol.size;
@@ -118,6 +124,7 @@ struct Sections<'a>(&'a AdsSymbolInfo<'a>);
 impl fmt::Display for Sections<'_> {
     ghost output = { λ s. Some (sections_text s.0.now) };
 
+    #[tactic(auto, unfolding(crate::specs::Json::sections_text))]
     fn fmt<W: fmt::Write>(&self, f: &mut fmt::Formatter<W>) -> fmt::Result {
         let symbol = self.0;
         let extended = ExtendedOrNull(symbol.extended_flags);
@@ -157,16 +164,26 @@ pub struct Guid<'a>(pub &'a [u8; 16]);
 impl fmt::Display for Guid<'_> {
     ghost output = { λ g. Some (guid_text g.0.now) };
 
+    #[tactic(auto, unfolding(crate::specs::Json::guid_text))]
     fn fmt<W: fmt::Write>(&self, f: &mut fmt::Formatter<W>) -> fmt::Result {
         let [a, b, c, d, e, g, h, i, j, k, l, m, n, o, p, q] = *self.0;
-        let (a, b, c, d) = (Pair(a), Pair(b), Pair(c), Pair(d));
-        write!(f, "{{{d}{c}{b}{a}-")?;
-        let (e, g, h, i) = (Pair(e), Pair(g), Pair(h), Pair(i));
-        write!(f, "{g}{e}-{i}{h}-")?;
-        let (j, k, l, m) = (Pair(j), Pair(k), Pair(l), Pair(m));
-        write!(f, "{j}{k}-{l}{m}")?;
-        let (n, o, p, q) = (Pair(n), Pair(o), Pair(p), Pair(q));
-        write!(f, "{n}{o}{p}{q}}}")
+        let (dc, ba) = (Two(d, c), Two(b, a));
+        let (ge, ih, jk) = (Two(g, e), Two(i, h), Two(j, k));
+        let (lm, no, pq) = (Two(l, m), Two(n, o), Two(p, q));
+        write!(f, "{{{dc}{ba}-{ge}-{ih}-{jk}-{lm}{no}{pq}}}")
+    }
+}
+
+// Two bytes in hexadecimal digits.
+#[derive(Clone, Copy)]
+struct Two(u8, u8);
+
+impl fmt::Display for Two {
+    ghost output = { λ t. Some (pair t.0 ++ pair t.1) };
+
+    fn fmt<W: fmt::Write>(&self, f: &mut fmt::Formatter<W>) -> fmt::Result {
+        let (first, second) = (Pair(self.0), Pair(self.1));
+        write!(f, "{first}{second}")
     }
 }
 

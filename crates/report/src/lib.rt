@@ -1,5 +1,5 @@
 //! What the command prints of an upload of symbols (docs/FORMAT.md, "The command's text").
-#![tactic(auto, unfolding(crate::specs::Report::upload_text, crate::specs::Report::counted, crate::specs::Report::counts_text, crate::specs::Report::unread_text, crate::specs::Report::refused_line, crate::specs::Json::refused_text, crate::specs::Json::figures_text, crate::specs::Json::strings_text, crate::specs::Json::numbers_text, crate::specs::Json::sections_text, crate::specs::Json::symbol_text, crate::specs::Json::guid_text, crate::specs::Cells::number_cell, crate::specs::Cells::hexadecimal_cell, crate::specs::Cells::name_cell, crate::specs::Table::headings_text, crate::specs::Table::names_text, crate::specs::Table::numbers_text, crate::specs::Table::counts_text, crate::specs::Table::symbol_row, crate::specs::Cells::refused_row))]
+#![tactic(auto)]
 
 ghost use Rattle.std.specs.Prelude.{◌≡◌, Some};
 ghost use Rattle.report.specs.Aligned.{TablesMeant};
@@ -21,7 +21,7 @@ use upload::Form;
 use wording::Bytes;
 
 /// An upload, and where it is from.
-#[derive(Clone, Copy, Debug)]
+#[derive(Clone, Copy)]
 pub struct Upload<'a> {
     /// Where it is from, as the command tells it.
     pub path: &'a str,
@@ -55,6 +55,7 @@ fn mode_text(mode: Mode) -> &'static str
 impl fmt::Display for Upload<'_> {
     ghost output = { λ u. Some (upload_text u) };
 
+    #[tactic(auto, unfolding(crate::specs::Report::upload_text))]
     fn fmt<W: fmt::Write>(&self, f: &mut fmt::Formatter<W>) -> fmt::Result {
         let path = self.path;
         let form = form_text(self.form);
@@ -98,6 +99,7 @@ impl Tally {
     }
 
     /// One more.
+    #[tactic(auto, unfolding(crate::specs::Report::counted))]
     pub fn count(&mut self, answer: &Result<AdsSymbolInfo<'_>, Refusal>)
         ensures { self.new ≡ counted self.old answer.now }
     {

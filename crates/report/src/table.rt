@@ -17,7 +17,7 @@ use walk::Piece;
 use wording::strings::shown_width;
 
 /// How wide the columns of a table are: as the widest of their headings and of the cells that are to stand in them.
-#[derive(Clone, Copy, Debug)]
+#[derive(Clone, Copy)]
 pub struct Columns {
     place: usize,
     name: usize,
@@ -138,6 +138,7 @@ struct Headings(Columns);
 impl fmt::Display for Headings {
     ghost output = { λ h. Some (headings_text h.0) };
 
+    #[tactic(auto, unfolding(crate::specs::Table::headings_text))]
     fn fmt<W: fmt::Write>(&self, f: &mut fmt::Formatter<W>) -> fmt::Result {
         let columns = self.0;
         let place = AtRight("place", columns.place);
@@ -166,6 +167,7 @@ struct SymbolRow<'a> {
 impl fmt::Display for SymbolRow<'_> {
     ghost output = { λ r. Some (symbol_row r.columns r.place r.symbol.now) };
 
+    #[tactic(auto, unfolding(crate::specs::Table::symbol_row))]
     fn fmt<W: fmt::Write>(&self, f: &mut fmt::Formatter<W>) -> fmt::Result {
         let names = NameCells(*self);
         let numbers = NumberCells(*self);
@@ -180,6 +182,7 @@ struct NameCells<'a>(SymbolRow<'a>);
 impl fmt::Display for NameCells<'_> {
     ghost output = { λ c. Some (names_text c.0.columns c.0.place c.0.symbol.now) };
 
+    #[tactic(auto, unfolding(crate::specs::Table::names_text))]
     fn fmt<W: fmt::Write>(&self, f: &mut fmt::Formatter<W>) -> fmt::Result {
         let (columns, symbol) = (self.0.columns, self.0.symbol);
         let place = Number {
@@ -204,6 +207,7 @@ struct NumberCells<'a>(SymbolRow<'a>);
 impl fmt::Display for NumberCells<'_> {
     ghost output = { λ c. Some (numbers_text c.0.columns c.0.symbol.now) };
 
+    #[tactic(auto, unfolding(crate::specs::Table::numbers_text))]
     fn fmt<W: fmt::Write>(&self, f: &mut fmt::Formatter<W>) -> fmt::Result {
         let (columns, symbol) = (self.0.columns, self.0.symbol);
         let size = Number {
@@ -228,6 +232,7 @@ struct CountCells<'a>(SymbolRow<'a>);
 impl fmt::Display for CountCells<'_> {
     ghost output = { λ c. Some (counts_text c.0.columns c.0.symbol.now) };
 
+    #[tactic(auto, unfolding(crate::specs::Table::counts_text))]
     fn fmt<W: fmt::Write>(&self, f: &mut fmt::Formatter<W>) -> fmt::Result {
         let (columns, symbol) = (self.0.columns, self.0.symbol);
         let attributes = Number {

@@ -1,5 +1,5 @@
 //! What `why` prints: a sentence for each section of a symbol, and the bytes where it stands or was looked for (docs/FORMAT.md, "The command's text").
-#![tactic(auto, unfolding(crate::specs::Text::sentence_text, crate::specs::Text::row_text, crate::specs::Text::section_text, crate::specs::Text::sections_text, crate::specs::Text::reasons_text))]
+#![tactic(auto)]
 
 ghost use Rattle.std.specs.Prelude.{◌≡◌, Some, OnOk};
 ghost use Rattle.std.specs.Io.KnownBytes.{Appends};
@@ -13,7 +13,7 @@ use why::{Reason, Reasons};
 use wording::{Bytes, InWords, Pair};
 
 /// A section of a symbol.
-#[derive(Clone, Copy, Debug, PartialEq, Eq)]
+#[derive(Clone, Copy)]
 pub enum Section {
     Guid,
     Attributes,
@@ -72,9 +72,9 @@ impl fmt::Display for Counted {
     fn fmt<W: fmt::Write>(&self, f: &mut fmt::Formatter<W>) -> fmt::Result {
         let (place, count) = (self.place, self.count);
         match self.section {
-            Section::Guid | Section::ExtendedFlags => write!(f, "there, at place {place}"),
             Section::Attributes => write!(f, "{count} announced at place {place}, all there"),
             Section::FormerNames => write!(f, "{count} in the chain at place {place}, all there"),
+            _ => write!(f, "there, at place {place}"),
         }
     }
 }
@@ -121,9 +121,10 @@ pub struct Sentence<'a> {
 impl fmt::Display for Sentence<'_> {
     ghost output = { λ s. Some (sentence_text s.section s.reason.now) };
 
+    #[tactic(auto, unfolding(crate::specs::Text::sentence_text))]
     fn fmt<W: fmt::Write>(&self, f: &mut fmt::Formatter<W>) -> fmt::Result {
         let heading = heading(self.section);
-        match self.reason {
+        match *self.reason {
             Reason::NotFlagged => {
                 let flag = flag(self.section);
                 write!(f, "{heading}: not flagged, {flag} is not set.")
@@ -135,7 +136,7 @@ impl fmt::Display for Sentence<'_> {
                 )
             }
             Reason::NoRoom { place, left } => {
-                let (place, left, least) = (*place, Bytes(*left), least(self.section));
+                let (left, least) = (Bytes(left), least(self.section));
                 write!(
                     f,
                     "{heading}: flagged, with {left} left at place {place} and {least} needed."
@@ -144,13 +145,16 @@ impl fmt::Display for Sentence<'_> {
             Reason::Whole { place, count } => {
                 let counted = Counted {
                     section: self.section,
-                    place: *place,
-                    count: *count,
+                    place,
+                    count,
                 };
                 write!(f, "{heading}: {counted}.")
             }
-            Reason::Refused { record, place, why } => {
-                let (record, place) = (*record, *place);
+            Reason::Refused {
+                record,
+                place,
+                ref why,
+            } => {
                 let refused = refused(self.section);
                 let why = InWords(why);
                 write!(
@@ -159,10 +163,7 @@ impl fmt::Display for Sentence<'_> {
                 )
             }
             Reason::Owed { announced, owed } => {
-                let missing = Missing {
-                    announced: *announced,
-                    owed: *owed,
-                };
+                let missing = Missing { announced, owed };
                 write!(f, "{heading}: {missing}.")
             }
         }
@@ -179,6 +180,7 @@ struct Row<'a> {
 impl fmt::Display for Row<'_> {
     ghost output = { λ r. Some (row_text r.place r.bytes.now) };
 
+    #[tactic(auto, unfolding(crate::specs::Text::row_text))]
     fn fmt<W: fmt::Write>(&self, f: &mut fmt::Formatter<W>) -> fmt::Result {
         let place = self.place;
         write!(f, "  {place}:")?;
@@ -214,6 +216,7 @@ fn place_of(reason: &Reason) -> Option<usize>
     }
 }
 
+#[tactic(auto, unfolding(crate::specs::Text::section_text))]
 fn write_section<W: Write>(
     section: Section,
     reason: &Reason,
@@ -253,6 +256,7 @@ fn nothing_missing(reasons: &Reasons) -> bool
         && !is_missing(&reasons.refactor_infos)
 }
 
+#[tactic(auto, unfolding(crate::specs::Text::sections_text))]
 fn write_sections<W: Write>(own: &[u8], reasons: &Reasons, out: &mut W) -> io::Result<()>
     ensures { OnOk result (Appends (W.contents out.old) (W.contents out.new) (sections_text own.now reasons.now)) }
 {
@@ -272,6 +276,7 @@ fn write_ending<W: Write>(nothing_missing: bool, out: &mut W) -> io::Result<()>
 }
 
 /// Writes a sentence for each section of a symbol, of whose entry these are the own bytes, with the bytes at its place; and that nothing is missing, where that is so.
+#[tactic(auto, unfolding(crate::specs::Text::reasons_text))]
 pub fn write<W: Write>(own: &[u8], reasons: &Reasons, out: &mut W) -> io::Result<()>
     ensures { OnOk result (Appends (W.contents out.old) (W.contents out.new) (reasons_text own.now reasons.now)) }
 {
