@@ -1,7 +1,13 @@
-//! The theorem, as the contract of a function that does nothing, so that it does not go unnoticed if its proof does.
+//! The theorems. Each is the contract of a function that does nothing, so that none goes unnoticed if its proof does.
 ghost use Rattle.why_report.specs.Sentences.{SentencesMeant};
+ghost use Rattle.why_report.specs.Written.{ReasonsWritten};
 
 /// Each reason's sentence, word for word, with every figure different; and the bytes below it.
 pub fn sentences_meant()
     ensures { SentencesMeant }
+{}
+
+/// The four sections are told in the order in which they stand in an entry; the last line stands exactly where each is not flagged or shown whole.
+pub fn reasons_written()
+    ensures { ReasonsWritten }
 {}
