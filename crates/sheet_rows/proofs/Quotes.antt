@@ -1,7 +1,7 @@
 -- How many quotes a text has, and how much rows are.
-use Rattle.std.proofs.Common.{ℕ, ◌+◌, ◌<◌, ◌≤◌, ◌≡◌, refl, sym, ap, ◌∙◌, Bool, true, false, List, [], ◌∷◌, ◌++◌, length, take, get_or, arith}
+use Rattle.std.proofs.Common.{ℕ, ◌+◌, ◌<◌, ◌≤◌, ◌≡◌, refl, ap, ◌∙◌, Bool, true, false, List, [], ◌∷◌, length, drop, get_or, arith}
 use Rattle.std.specs.Prelude.{eqb, if◌then◌else◌}
-use Rattle.le.proofs.Laws.{take_more}
+use Rattle.std.proofs.lemmas.List.{at_drop_more, at_drop_all}
 use Rattle.sheet_rows.specs.declared.cells.Three.{Three}
 use Rattle.sheet_rows.specs.declared.extent.Extent.{Extent}
 use Rattle.sheet_rows.specs.Rows.{Line}
@@ -20,21 +20,15 @@ pub quotes_other : (b : ℕ) (s : List ℕ) → eqb b 34 ≡ false → quotes (b
 unfolding quotes
 quotes_other b s e = ap (λ (c : Bool). if c then quotes s + 1 else quotes s) e
 
-quotes_first : (b : ℕ) (s : List ℕ) → quotes (b ∷ s) ≡ quotes s + (if eqb b 34 then 1 else 0)
-quotes_first b s = by (eqb b 34) refl
-  where
-    by : (c : Bool) → eqb b 34 ≡ c → quotes (b ∷ s) ≡ quotes s + (if c then 1 else 0)
-    by true e = quotes_quote b s e
-    by false e = omega (arith, quotes_other b s e)
+module _ (s : List ℕ) (i : ℕ) where
+  pub quotes_end : length s ≤ i → quotes (drop i s) ≡ 0
+  quotes_end h = at_drop_all quotes s i h ∙ quotes_none
 
-pub quotes_append : (x y : List ℕ) → quotes (x ++ y) ≡ quotes x + quotes y
-quotes_append [] y = omega (arith, quotes_none)
-quotes_append (b ∷ x) y = omega (arith, quotes_first b (x ++ y), quotes_first b x, quotes_append x y)
+  pub quotes_more : i < length s → eqb (get_or s i 0) 34 ≡ true → quotes (drop i s) ≡ quotes (drop (i + 1) s) + 1
+  quotes_more h e = at_drop_more quotes s i 0 h ∙ quotes_quote (get_or s i 0) (drop (i + 1) s) e
 
-pub quotes_more : (s : List ℕ) (i : ℕ) → i < length s → quotes (take (i + 1) s) ≡ quotes (take i s) + (if eqb (get_or s i 0) 34 then 1 else 0)
-quotes_more s i h =
-    ap quotes (sym (take_more s i h)) ∙ quotes_append (take i s) (get_or s i 0 ∷ [])
-    ∙ omega (arith, quotes_first (get_or s i 0) [], quotes_none)
+  pub quotes_same : i < length s → eqb (get_or s i 0) 34 ≡ false → quotes (drop i s) ≡ quotes (drop (i + 1) s)
+  quotes_same h e = at_drop_more quotes s i 0 h ∙ quotes_other (get_or s i 0) (drop (i + 1) s) e
 
 pub quotes_few : (s : List ℕ) → quotes s ≤ length s
 quotes_few [] = omega (arith, quotes_none)

@@ -1,6 +1,6 @@
 //! How much the rows of a sheet are.
 
-ghost use Rattle.std.specs.Prelude.{◌≡◌, [], ◌∷◌, ◌+◌, ◌-◌, ◌≤◌, ◌<◌, ◌^◌, length, take, max, eqb, true, if◌then◌else◌};
+ghost use Rattle.std.specs.Prelude.{◌≡◌, [], ◌∷◌, ◌+◌, ◌-◌, ◌≤◌, ◌<◌, ◌^◌, length, max, true};
 ghost use Rattle.sheet_rows.specs.Meant.{IsRow};
 ghost use Rattle.sheet_rows.specs.Extent.{quotes, text_length, row_extent, joined};
 
@@ -17,38 +17,17 @@ pub struct Extent {
     pub longest: usize,
 }
 
-// 1 for a quote, else 0.
-fn one_quote(byte: u8) -> u8
-    ensures { (result ≡ (if eqb byte 34 then 1 else 0)) × (result ≤ 1) }
-{
-    if byte == b'"' { 1 } else { 0 }
-}
-
-// How many of so many bytes from a place on are quotes.
-fn quotes_among(text: &[u8], from: usize, count: usize) -> u8
-    requires { (from + count ≤ length text.now) × (count ≤ 16) }
-    ensures { (quotes (take from text.now) + result ≡ quotes (take (from + count) text.now)) × (result ≤ count) }
-{
-    let mut sum: u8 = 0;
-    let mut i: usize = 0;
-    while i < count {
-        sum += one_quote(text[from + i]);
-        i += 1;
-    }
-    sum
-}
-
-// How many quotes there are, sixteen bytes at a time: their sum is a byte, so that the compiler adds up all at once.
+#[tactic(auto, using(crate::proofs::Quotes::quotes_more, crate::proofs::Quotes::quotes_same, crate::proofs::Quotes::quotes_end))]
 fn count_quotes(text: &[u8]) -> usize
     ensures { result ≡ quotes text.now }
 {
-    let mut sum: usize = 0;
-    let mut at: usize = 0;
-    while 16 <= text.len() - at {
-        sum += usize::from(quotes_among(text, at, 16));
-        at += 16;
+    let mut count = 0;
+    for byte in text {
+        if *byte == b'"' {
+            count += 1;
+        }
     }
-    sum + usize::from(quotes_among(text, at, text.len() - at))
+    count
 }
 
 /// How many bytes a cell's text has, two quotes counted as one.
