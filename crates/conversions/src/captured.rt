@@ -20,38 +20,33 @@ pub fn make<W: Write>(
     make: Captures,
     out: &mut W,
 ) -> Result<(), Failure> {
-    let alloc = rt.alloc();
     match make {
-        Captures::Split => {
-            let source = source::read(rt, file, form, Mode::Present)?;
-            write_split(alloc, &source.upload(), out)
-        }
-        Captures::Each => {
-            let text = text(rt, file)?;
-            write_each(alloc, text.as_slice(), source::shown(file), out)
-        }
-        Captures::Join => {
-            let text = text(rt, file)?;
-            write_joined(alloc, text.as_slice(), source::shown(file), out)
-        }
+        Captures::Split => write_split(rt, file, form, out),
+        Captures::Each => write_each(rt, file, out),
+        Captures::Join => write_joined(rt, file, out),
     }
 }
 
 // The lines of an upload.
-fn write_split<W: Write>(alloc: Global, upload: &Upload<'_>, out: &mut W) -> Result<(), Failure> {
-    let lines = captures::split_to_vec(alloc, upload.bytes);
-    write(alloc, lines, upload.path, out)
+fn write_split<W: Write>(
+    rt: &HostRuntime,
+    file: &str,
+    form: Option<Form>,
+    out: &mut W,
+) -> Result<(), Failure> {
+    let source = source::read(rt, file, form, Mode::Present)?;
+    let upload = source.upload();
+    let lines = captures::split_to_vec(rt.alloc(), upload.bytes);
+    write(rt.alloc(), lines, upload.path, out)
 }
 
 // The upload of all lines.
-fn write_joined<W: Write>(
-    alloc: Global,
-    text: &[u8],
-    path: &str,
-    out: &mut W,
-) -> Result<(), Failure> {
-    check_lines(alloc, text, path)?;
-    write(alloc, captures::join_to_vec(alloc, text), path, out)
+fn write_joined<W: Write>(rt: &HostRuntime, file: &str, out: &mut W) -> Result<(), Failure> {
+    let text = text(rt, file)?;
+    let path = source::shown(file);
+    check_lines(rt.alloc(), text.as_slice(), path)?;
+    let upload = captures::join_to_vec(rt.alloc(), text.as_slice());
+    write(rt.alloc(), upload, path, out)
 }
 
 fn write<W: Write>(
@@ -69,25 +64,20 @@ fn write<W: Write>(
 
 // The lines of each line's upload. Nothing is written where one is no digits; one whose upload is too large is refused behind the
 // lines of those before.
-fn write_each<W: Write>(
-    alloc: Global,
-    text: &[u8],
-    path: &str,
-    out: &mut W,
-) -> Result<(), Failure> {
-    check_lines(alloc, text, path)?;
-    for line in text.split(|byte| *byte == b'\n') {
-        match captures::join_to_vec(alloc, line) {
-            Ok(upload) => write(
-                alloc,
-                captures::split_to_vec(alloc, upload.as_slice()),
-                path,
-                out,
-            )?,
-            Err(why) => write(alloc, Err(why), path, out)?,
-        }
+fn write_each<W: Write>(rt: &HostRuntime, file: &str, out: &mut W) -> Result<(), Failure> {
+    let text = text(rt, file)?;
+    let path = source::shown(file);
+    check_lines(rt.alloc(), text.as_slice(), path)?;
+    for line in text.as_slice().split(|byte| *byte == b'\n') {
+        write(rt.alloc(), split_again(rt.alloc(), line), path, out)?;
     }
     Ok(())
+}
+
+// The lines of a line's upload.
+fn split_again(alloc: Global, line: &[u8]) -> Result<Vec<u8>, WriteError> {
+    let upload = captures::join_to_vec(alloc, line)?;
+    captures::split_to_vec(alloc, upload.as_slice())
 }
 
 // Says in which line the first fault is, if there is one.
