@@ -160,14 +160,14 @@ pub enum Misuse<'a> {
 
 impl Display for Misuse<'_> {
     fn fmt<W: Write>(&self, f: &mut Formatter<W>) -> fmt::Result {
-        match self {
+        match *self {
             Misuse::Against(rule) => f.write_str(rule.words()),
             Misuse::UnknownOption(word) => write_unknown(name_of(word), f),
             Misuse::UnknownLetters(word) => write_unknown(word, f),
             Misuse::Valued(word) => write_valued(word, f),
-            Misuse::NotFor { flag, command } => write_not_for(*flag, command, f),
-            Misuse::Unfit { expected, word } => write_unfit(*expected, word, f),
-            Misuse::Lacks { command, need } => write_lack(command, *need, f),
+            Misuse::NotFor { flag, command } => write_not_for(flag, command, f),
+            Misuse::Unfit { expected, word } => write_unfit(expected, word, f),
+            Misuse::Lacks { command, need } => write_lack(command, need, f),
             Misuse::Extra { command, word } => write_extra(command, word, f),
         }
     }

@@ -60,7 +60,7 @@ impl<'a> Operands<'a> {
     /// # Errors
     ///
     /// Where there is no memory left.
-    #[tactic(auto, using(crate::proofs::OperandLaws::list_past, crate::proofs::OperandLaws::list_later, crate::proofs::OperandLaws::list_pushed, crate::proofs::OperandLaws::list_ends))]
+    #[tactic(auto, using(crate::proofs::OperandLaws::list_pushed))]
     pub fn to_vec(self, alloc: Global) -> Result<Vec<&'a str>, AllocError>
         ensures { IfOk result (λ v. v.items ≡ drop self.entry.first (operands_of self.entry.line.now)) }
     {

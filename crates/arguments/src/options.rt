@@ -10,7 +10,7 @@ use refusal::Mode;
 use upload::Form;
 
 /// An option that goes with a command.
-#[derive(Clone, Copy, PartialEq, Eq)]
+#[derive(Clone, Copy)]
 pub enum Flag {
     /// `--binary`
     Binary,

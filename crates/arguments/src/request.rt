@@ -121,7 +121,7 @@ pub enum Asked<'a> {
 }
 
 /// What is made of a file: lines of an upload, or an upload of lines.
-#[derive(Clone, Copy, PartialEq, Eq)]
+#[derive(Clone, Copy)]
 pub enum Captures {
     /// The upload is split into lines.
     Split,
@@ -206,7 +206,7 @@ fn against_captures(options: Options, make: Captures) -> Option<Rule>
     if options.mode == Mode::Checked {
         return Some(Rule::CapturesUnchecked);
     }
-    if options.form.is_some() && make != Captures::Split {
+    if options.form.is_some() && !matches!(make, Captures::Split) {
         return Some(Rule::CapturesOfLines);
     }
     None
@@ -361,7 +361,7 @@ fn asked_of<'a>(line: Line<'a>, task: Task, file: &str) -> Result<Asked<'a>, Mis
         Task::Plain => Ok(Asked::Plain),
         Task::Compare => compare_of(line, file),
         Task::Bind => bind_of(line, file),
-        Task::Show | Task::Why | Task::Branch | Task::Salvage => of_a_word(line, task),
+        _ => of_a_word(line, task),
     }
 }
 

@@ -96,7 +96,7 @@ impl<'a> NamedTypes<'a> {
     }
 
     // An entry that has dimensions left or sub-items; else its data type, and so on. A pointer has none.
-    #[tactic(auto, using(crate::proofs::Along::rests_here, crate::proofs::Along::below_pointer, crate::proofs::Along::no_more, crate::proofs::Along::one_type))]
+    #[tactic(auto, using(crate::proofs::Along::one_type))]
     fn settled(self, start: Here<'a>, at: usize) -> Result<Here<'a>, Refusal>
         ensures { result ≡ settled (type_found self.entry.mode self.entry.upload) self.entry.upload.bytes 16 start.entry at }
     {

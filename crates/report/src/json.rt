@@ -107,13 +107,12 @@ impl fmt::Display for Numbers<'_> {
         let size = symbol.size;
         let group = symbol.index_group.0;
         let offset = symbol.index_offset.0;
-        write!(f, "\"size\":{size},\"group\":{group},\"offset\":{offset}")?;
         let type_id = symbol.data_type_id;
         let flags = symbol.flags.0;
         let high = symbol.high;
         write!(
             f,
-            ",\"type_id\":{type_id},\"flags\":{flags},\"high\":{high}"
+            "\"size\":{size},\"group\":{group},\"offset\":{offset},\"type_id\":{type_id},\"flags\":{flags},\"high\":{high}"
         )
     }
 }
@@ -129,13 +128,12 @@ impl fmt::Display for Sections<'_> {
         let symbol = self.0;
         let extended = ExtendedOrNull(symbol.extended_flags);
         let guid = GuidOrNull(&symbol.guid);
-        write!(f, "\"extended_flags\":{extended},\"guid\":{guid}")?;
         let attributes = AttributeObjects(symbol.attributes);
         let former = FormerNames(symbol.refactor_infos);
         let unread = symbol.unread.len();
         write!(
             f,
-            ",\"attributes\":[{attributes}],\"former_names\":[{former}],\"unread\":{unread}"
+            "\"extended_flags\":{extended},\"guid\":{guid},\"attributes\":[{attributes}],\"former_names\":[{former}],\"unread\":{unread}"
         )
     }
 }

@@ -144,15 +144,16 @@ impl fmt::Display for Headings {
         let place = AtRight("place", columns.place);
         let name = AtLeft("name", columns.name);
         let type_name = AtLeft("type", columns.type_name);
-        write!(f, "{place}  {name}  {type_name}")?;
         let size = AtRight("size", columns.size);
         let group = AtRight("group", columns.group);
         let offset = AtRight("offset", columns.offset);
-        write!(f, "  {size}  {group}  {offset}")?;
         let attributes = AtRight("attrs", columns.attributes);
         let unread = AtRight("unread", columns.unread);
         let high = AtRight("high", columns.high);
-        write!(f, "  {attributes}  {unread}  {high}")
+        write!(
+            f,
+            "{place}  {name}  {type_name}  {size}  {group}  {offset}  {attributes}  {unread}  {high}"
+        )
     }
 }
 
