@@ -5,7 +5,7 @@ use sections::{Part, Section, sections};
 use std::alloc::{AllocError, Global};
 use std::cmp::Ordering;
 use symbol::AdsSymbolInfo;
-use values::{Value, value_of};
+use values::{Value, are_refused_alike, value_of};
 use walk::Entry;
 
 /// A part in which two entries differ, and what it tells in each.
@@ -62,7 +62,7 @@ fn in_refusals<'a>(
     in_b: Result<AdsSymbolInfo<'a>, Refusal>,
 ) -> Difference<'a> {
     let (in_a, in_b) = match (in_a, in_b) {
-        (Err(one), Err(other)) if one == other => first_byte(0, a.bytes, 0, b.bytes),
+        (Err(one), Err(other)) if are_refused_alike(one, other) => first_byte(0, a.bytes, 0, b.bytes),
         (one, other) => (reason(one), reason(other)),
     };
     Difference {
@@ -172,7 +172,7 @@ fn values<'a>(
     other: Option<Section<'_>>,
 ) -> (Value<'a>, Value<'a>) {
     match (one, other) {
-        (Some(one), Some(other)) if in_a == in_b => {
+        (Some(one), Some(other)) if in_a.tells_the_same(in_b) => {
             first_byte(one.at, one.bytes, other.at, other.bytes)
         }
         _ => (in_a, in_b),
