@@ -1,11 +1,1 @@
-pub mod Going
-pub mod Orders
-pub mod Turns
-pub mod Lists
-pub mod Kept
-pub mod Once
-pub mod Apart
-pub mod Told
 pub mod Meant
-pub mod Alike
-pub mod Twins

@@ -6,10 +6,11 @@ use Rattle.std.specs.List.{sum_by}
 use Rattle.std.proofs.lemmas.List.Sums.{sum_by-cons}
 use Rattle.wording.specs.Wording.{grouped, grouped_by, many, bytes}
 use Rattle.report.specs.Tallies.{at_most}
-use Rattle.comparison.specs.declared.pieces.Shift.TheVariants.{Later}
+use Rattle.pairing.specs.declared.pieces.Shift.TheVariants.{Later}
 use Rattle.comparison.specs.declared.counts.Counted.{Counted}
-use Rattle.comparison.specs.declared.finding.Row.{Row}
-use Rattle.comparison.specs.Rows.{is_alike, is_unmoved, shift_in, moved_on, name_else}
+use Rattle.pairing.specs.declared.rows.Row.{Row}
+use Rattle.pairing.specs.Rows.{is_alike, is_unmoved, shift_in, name_else}
+use Rattle.comparison.specs.Moved.{moved_on}
 use Rattle.comparison.specs.Counts.{nothing, added, counted, counted_on, counted_text}
 use Rattle.comparison.specs.Json.{moved_line, side_by, name_text, front_text}
 use Rattle.comparison.specs.Meant.{CountsMeant, TextsMeant}

@@ -3,8 +3,8 @@ use Rattle.std.specs.Prelude.{ℕ, ◌&&◌, Bool, List, [], ◌∷◌, ◌++◌
 use Rattle.wording.specs.Wording.{grouped}
 use Rattle.report.specs.Report.{plus, entries}
 use Rattle.comparison.specs.declared.counts.Counted.{Counted}
-use Rattle.comparison.specs.declared.finding.Row.{Row}
-use Rattle.comparison.specs.Rows.{is_alike, is_unmoved, shift_in}
+use Rattle.pairing.specs.declared.rows.Row.{Row}
+use Rattle.pairing.specs.Rows.{is_alike, is_unmoved, shift_in}
 
 abbrev pub nothing : Counted
 nothing = record { in_a = 0; in_b = 0; alike = 0; different = 0; only_in_a = 0; only_in_b = 0; moved = 0 }

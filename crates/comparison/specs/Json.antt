@@ -4,12 +4,12 @@ use Rattle.std.specs.Borrow.{Bor}
 use Rattle.refusal.specs.declared.Refusal.{Refusal}
 use Rattle.wording.specs.Text.{quoted}
 use Rattle.report.specs.Json.{refused_text}
-use Rattle.comparison.specs.declared.pieces.Piece.{Piece}
-use Rattle.comparison.specs.declared.pieces.Shift.{Shift}
-use Rattle.comparison.specs.declared.pieces.Shift.TheVariants.{Later, Earlier}
-use Rattle.comparison.specs.declared.finding.Moved.{Moved}
-use Rattle.comparison.specs.declared.finding.Row.{Row}
-use Rattle.comparison.specs.Rows.{name_in}
+use Rattle.pairing.specs.declared.pieces.Piece.{Piece}
+use Rattle.pairing.specs.declared.pieces.Shift.{Shift}
+use Rattle.pairing.specs.declared.pieces.Shift.TheVariants.{Later, Earlier}
+use Rattle.comparison.specs.declared.moved.Moved.{Moved}
+use Rattle.pairing.specs.declared.rows.Row.{Row}
+use Rattle.pairing.specs.Rows.{name_in}
 
 -- negative where it is earlier
 abbrev pub later_text : Shift → List ℕ

@@ -6,11 +6,12 @@ use Rattle.refusal.specs.declared.Refusal.{Refusal}
 use Rattle.wording.specs.Text.{quoted}
 use Rattle.report.specs.Json.{refused_text}
 use Rattle.report.specs.Tallies.{at_most}
-use Rattle.comparison.specs.declared.pieces.Piece.{Piece}
-use Rattle.comparison.specs.declared.pieces.Shift.TheVariants.{Later}
+use Rattle.pairing.specs.declared.pieces.Piece.{Piece}
+use Rattle.pairing.specs.declared.pieces.Shift.TheVariants.{Later}
 use Rattle.comparison.specs.declared.counts.Counted.{Counted}
-use Rattle.comparison.specs.declared.finding.Row.{Row}
-use Rattle.comparison.specs.Rows.{is_alike, is_unmoved, shift_in, moved_in}
+use Rattle.pairing.specs.declared.rows.Row.{Row}
+use Rattle.pairing.specs.Rows.{is_alike, is_unmoved, shift_in}
+use Rattle.comparison.specs.Moved.{moved_in}
 use Rattle.comparison.specs.Counts.{nothing, counted_on, counted_text}
 use Rattle.comparison.specs.Json.{moved_line, front_text}
 

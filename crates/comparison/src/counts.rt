@@ -1,9 +1,9 @@
 //! The last line of the table.
 ghost use Rattle.std.specs.Prelude.{◌≡◌, Some};
-ghost use Rattle.comparison.specs.Rows.{rows_in};
+ghost use Rattle.pairing.specs.Rows.{rows_in};
 ghost use Rattle.comparison.specs.Counts.{nothing, counted, counted_on, added, counted_text};
 
-use crate::finding::{Row, Rows};
+use pairing::rows::{Row, Rows};
 use std::fmt;
 use wording::{Grouped, Many};
 

@@ -1,5 +1,5 @@
 //! In which parts two entries differ.
-use crate::pieces::Piece;
+use pairing::pieces::Piece;
 use refusal::{Mode, Refusal};
 use sections::{Part, Section, sections};
 use std::alloc::{AllocError, Global};

@@ -1,12 +1,13 @@
 //! `compare --json`: a line a finding.
 ghost use Rattle.std.specs.Prelude.{OnOk, Some};
 ghost use Rattle.std.specs.Io.KnownBytes.{Appends};
-ghost use Rattle.comparison.specs.Rows.{moved_in};
+ghost use Rattle.comparison.specs.Moved.{moved_in};
 ghost use Rattle.comparison.specs.Json.{later_text, moved_line, side_text, name_text, front_text};
 
 use crate::differences::{Difference, differences};
-use crate::finding::{Row, Rows};
-use crate::pieces::{Piece, Shift};
+use crate::moved::Moved;
+use pairing::pieces::{Piece, Shift};
+use pairing::rows::{Row, Rows};
 use refusal::Mode;
 use report::json::RefusedEntry;
 use std::alloc::Global;
@@ -34,7 +35,7 @@ pub(crate) fn write<W: Write>(alloc: Global, rows: &Rows<'_, '_>, out: &mut W) -
 fn write_moved<W: Write>(row: &Row<'_>, before: Shift, out: &mut W) -> io::Result<()>
     ensures { OnOk result (Appends (W.contents out.old) (W.contents out.new) (moved_line (moved_in before row.now.a row.now.b))) }
 {
-    let Some(moved) = row.moved(before) else {
+    let Some(moved) = Moved::of(row, before) else {
         return Ok(());
     };
     let later = Later(moved.shift);

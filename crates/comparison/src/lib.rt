@@ -3,28 +3,26 @@
 #![tactic(auto)]
 
 ghost use Rattle.std.specs.Prelude.{◌≡◌, IfOk};
-ghost use Rattle.comparison.specs.Rows.{are_alike};
+ghost use Rattle.pairing.specs.Rows.{are_alike};
 
 mod counts;
 mod differences;
-mod finding;
 mod json;
-mod pairs;
-mod pieces;
+mod moved;
 mod table;
 pub mod theorems;
 
 use counts::Counted;
-use finding::Rows;
-use pairs::pairs;
-use pieces::pieces;
+use pairing::pairs::pairs;
+use pairing::pieces::pieces;
+use pairing::rows::Rows;
 use report::Upload;
 use std::alloc::Global;
 use std::io;
 use std::io::Write;
 
 /// Writes what two uploads differ in; whether they are alike, every entry at its place and in its bytes.
-#[tactic(auto, unfolding(crate::specs::Rows::rows_of))]
+#[tactic(auto, unfolding(pairing::specs::Rows::rows_of))]
 pub fn compare<W: Write>(
     alloc: Global,
     a: &Upload<'_>,

@@ -1,7 +1,8 @@
 //! `compare`: a line for each part that differs, for each entry that one upload has alone, and where entries moved.
 use crate::differences::{Difference, differences};
-use crate::finding::{Row, Rows};
-use crate::pieces::{Piece, Shift};
+use crate::moved::Moved;
+use pairing::pieces::{Piece, Shift};
+use pairing::rows::{Row, Rows};
 use refusal::{Mode, Refusal};
 use report::table::digits;
 use std::alloc::{AllocError, Global};
@@ -54,7 +55,7 @@ fn lines<'a>(
     mode: Mode,
 ) -> Result<Vec<Line<'a>>, AllocError> {
     let mut all = Vec::new(alloc);
-    if let Some(moved) = row.moved(before) {
+    if let Some(moved) = Moved::of(row, before) {
         all.push(line_of(row, Told::Moved(moved.shift)))?;
     }
     if !row.is_alike() {

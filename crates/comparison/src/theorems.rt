@@ -1,14 +1,7 @@
 //! The theorems (docs/FORMAT.md, "The command's text"). Each is the contract of a function that does nothing, so that none goes unnoticed if its proof does.
 #![tactic(auto)]
 
-ghost use Rattle.comparison.specs.Alike.{AlikeMeant};
-ghost use Rattle.comparison.specs.Told.{RowsMeant};
 ghost use Rattle.comparison.specs.Meant.{CountsMeant, TextsMeant};
-
-/// In the rows every piece of A stands once, in A's order, and every piece of B once; and where both stand in a row they are one entry: of one name letter by letter, in any case; refused, in the same bytes; at one place, and as long or one of them refused; or as long. Names go before places: of an entry of A and one of B that are named alike, one at least is told with one named like it, so no name is left over in both.
-pub fn rows_meant()
-    ensures { RowsMeant }
-{}
 
 /// Each number of the last line is how many rows there are of what it tells.
 pub fn counts_meant()
@@ -18,9 +11,4 @@ pub fn counts_meant()
 /// The last line of the table, the lines of what moved and those of entries up to their parts, with every number another.
 pub fn texts_meant()
     ensures { TextsMeant }
-{}
-
-/// Two uploads that are read in one mode are alike exactly where they have the same bytes.
-pub fn alike_meant()
-    ensures { AlikeMeant }
 {}

@@ -1,6 +1,6 @@
 use Rattle.std.proofs.Common.{◌≡◌, drop, map}
 use Rattle.comparison.specs.Counts.{nothing, counted_on}
-use Rattle.comparison.specs.Rows.{row_of, rows_in}
+use Rattle.pairing.specs.Rows.{row_of, rows_in}
 use Rattle.comparison.proofs.counts.Counted.of.Given as goal
 
 abbrev pub invariant-loop-pair : goal.invariant-loop-pair

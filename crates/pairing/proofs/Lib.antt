@@ -1,0 +1,14 @@
+pub mod Going
+pub mod Orders
+pub mod Turns
+pub mod Lists
+pub mod Kept
+pub mod Once
+pub mod Apart
+pub mod Told
+pub mod Alike
+pub mod Twins
+pub mod Laid
+pub mod Places
+pub mod Near
+pub mod Rules
