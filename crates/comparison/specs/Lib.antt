@@ -1,4 +1,5 @@
 pub mod Moved
+pub mod Entries
 pub mod Counts
 pub mod Json
 pub mod Meant

@@ -1,5 +1,6 @@
 //! `compare`: a line for each part that differs, for each entry that one upload has alone, and where entries moved.
-use crate::differences::{Difference, differences};
+use crate::entries::differences_in;
+use differences::Difference;
 use crate::moved::Moved;
 use pairing::pieces::{Piece, Shift};
 use pairing::rows::{Row, Rows};
@@ -73,7 +74,7 @@ fn push_told<'a>(
 ) -> Result<(), AllocError> {
     match (&row.a, &row.b) {
         (Some(a), Some(b)) => {
-            for one in differences(alloc, a, b, mode)? {
+            for one in differences_in(alloc, a, b, mode)? {
                 all.push(line_of(row, Told::Differs(one)))?;
             }
         }
