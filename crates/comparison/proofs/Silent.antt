@@ -16,14 +16,14 @@ use Rattle.comparison.specs.Moved.{moved_in}
 use Rattle.comparison.specs.Json.{entry_line, front_text, json_lines, moved_line, row_lines}
 use Rattle.comparison.specs.Meant.{JsonMeant}
 
-no : false ≡ true → ⊥
+pub no : false ≡ true → ⊥
 no h = cc
 
-both : (a b : Bool) → (a && b) ≡ true → (a ≡ true) × (b ≡ true)
+pub both : (a b : Bool) → (a && b) ≡ true → (a ≡ true) × (b ≡ true)
 both true b h = (refl, h)
 both false b h = absurd (no h)
 
-same_shift : (s t : Shift) → is_same_shift s t ≡ true → s ≡ t
+pub same_shift : (s t : Shift) → is_same_shift s t ≡ true → s ≡ t
 same_shift (Later m) (Later n) h = ap (λ (k : ℕ). Later k) (eqb-true m n h)
 same_shift (Later m) (Earlier n) h = absurd (no h)
 same_shift (Earlier m) (Later n) h = absurd (no h)
@@ -56,8 +56,7 @@ stays_by mode r (Some p) None h = absurd (no h)
 stays_by mode r (Some p) (Some q) h =
     let s : Shift = shift p.place q.place in
     let t = both (is_same_shift s (Later 0)) (pointwise nat_eq p.bytes.now q.bytes.now) h in
-    let moved : Moved = record { place_in_a = p.place; place_in_b = q.place; shift = s } in
-    (
+    let moved : Moved = record { place_in_a = p.place; place_in_b = q.place; shift = s } in (
       ap₂ (λ (x y : Bool). moved_line (if◌then◌else◌ {A = Option Moved} x None (Some moved)) ++ (if y then [] else entry_line mode r)) t.0 t.1,
       same_shift s (Later 0) t.0,
     )

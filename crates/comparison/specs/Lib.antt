@@ -3,3 +3,5 @@ pub mod Entries
 pub mod Counts
 pub mod Json
 pub mod Meant
+pub mod Table
+pub mod TableMeant

@@ -183,11 +183,7 @@ impl fmt::Display for Comma {
     }
 }
 
-fn write_difference<W: Write>(
-    is_first: bool,
-    one: &Difference<'_>,
-    out: &mut W,
-) -> io::Result<()>
+fn write_difference<W: Write>(is_first: bool, one: &Difference<'_>, out: &mut W) -> io::Result<()>
     ensures { OnOk result (Appends (W.contents out.old) (W.contents out.new) (comma is_first ++ difference_json one.now)) }
 {
     let comma = Comma { is_first };

@@ -2,6 +2,7 @@
 #![tactic(auto)]
 
 ghost use Rattle.comparison.specs.Meant.{CountsMeant, JsonMeant, TextsMeant};
+ghost use Rattle.comparison.specs.TableMeant.{TableMeant};
 
 /// Each number of the last line is how many rows there are of what it tells.
 pub fn counts_meant()
@@ -16,4 +17,9 @@ pub fn texts_meant()
 /// In JSON nothing is written exactly where every entry stays: both uploads have it, in the same bytes and at the same place.
 pub fn json_meant()
     ensures { JsonMeant }
+{}
+
+/// The lines of the table word for word, each cell in its column, with every number another; and where every entry stays there is no table.
+pub fn table_meant()
+    ensures { TableMeant }
 {}

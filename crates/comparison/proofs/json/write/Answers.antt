@@ -16,7 +16,7 @@ loop-pair-preserved g c =
     let row : Pair → Row = row_of c.args.rows.now.a.now c.args.rows.now.b.now in
     let rest : List Row = map row (drop (c.loop-pair.pair-index + 1) pairs) in
     let left : map row (drop c.loop-pair.pair-index pairs) ≡ c.row-row.result ∷ rest =
-        ap (map row) (left_at pairs c.loop-pair.pair-index (record { a = None; b = None }) (omega arith)) ∙ ap (λ (r : Row). r ∷ rest) (sym c.row-row.ensures) in
+    ap (map row) (left_at pairs c.loop-pair.pair-index (record { a = None; b = None }) (omega arith)) ∙ ap (λ (r : Row). r ∷ rest) (sym c.row-row.ensures) in
     subst
     (λ (s : Shift). Going (g.W.Write.contents c.args.out.now) (g.W.Write.contents c.write_row.new.out) (json_lines c.args.rows.now.mode s rest) (json_lines c.args.rows.now.mode together (rows_in c.args.rows.now)))
     (sym c.shift_behind-before.ensures)
