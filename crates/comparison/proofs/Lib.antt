@@ -1,1 +1,4 @@
 pub mod Meant
+pub mod Lines
+pub mod Silent
+pub mod TableWords

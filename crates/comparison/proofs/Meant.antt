@@ -4,7 +4,9 @@ use Rattle.std.specs.Prelude.{◌^◌, ◌&&◌, min, not, is_some, None}
 use Rattle.std.specs.Fmt.{digits}
 use Rattle.std.specs.List.{sum_by}
 use Rattle.std.proofs.lemmas.List.Sums.{sum_by-cons}
-use Rattle.wording.specs.Wording.{grouped, grouped_by, many, bytes}
+use Rattle.wording.specs.Wording.{grouped, grouped_by, many, bytes, figure, refusal_text}
+use Rattle.sections.specs.Parts.{part_text}
+use Rattle.values.specs.Shown.{value_json}
 use Rattle.report.specs.Tallies.{at_most}
 use Rattle.pairing.specs.declared.pieces.Shift.TheVariants.{Later}
 use Rattle.comparison.specs.declared.counts.Counted.{Counted}
@@ -12,7 +14,7 @@ use Rattle.pairing.specs.declared.rows.Row.{Row}
 use Rattle.pairing.specs.Rows.{is_alike, is_unmoved, shift_in, name_else}
 use Rattle.comparison.specs.Moved.{moved_on}
 use Rattle.comparison.specs.Counts.{nothing, added, counted, counted_on, counted_text}
-use Rattle.comparison.specs.Json.{moved_line, side_by, name_text, front_text}
+use Rattle.comparison.specs.Json.{moved_line, side_by, name_text, front_text, difference_json, parts_json}
 use Rattle.comparison.specs.Meant.{CountsMeant, TextsMeant}
 
 added_is : (n : ℕ) (is_one : Bool) → n ≤ 2 ^ 64 - 1 → added n is_one ≡ min (n + cond is_one 1 0) (2 ^ 64 - 1)
@@ -48,7 +50,7 @@ moved_by : ℕ → ℕ → ℕ → List ℕ
 moved_by before a b = moved_line (moved_on (Later before) a b)
 
 pub texts_meant : TextsMeant
-unfolding counted_text moved_line front_text grouped grouped_by many bytes digits moved_by
+unfolding counted_text moved_line front_text grouped grouped_by many bytes digits moved_by parts_json difference_json part_text value_json figure refusal_text
 texts_meant = record {
   counted = refl;
   later = λ p q a b. (λ i. moved_by 0 (a i) (b i)) ∙ refl;
@@ -57,4 +59,7 @@ texts_meant = record {
   on = λ p q a b. (λ i. moved_by 7 (a i) (b i)) ∙ refl;
   in_both = λ p q own other a b. λ i. codes "{\"name\":" ++ (name_text (name_else (name_else None (b i)) (a i)) ++ (codes ",\"a\":" ++ (side_by p.place (a i) ++ (codes ",\"b\":" ++ (side_by q.place (b i) ++ codes ",\"parts\":[")))));
   only_in_b = λ q why b. λ i. codes "{\"name\":" ++ (name_text (name_else None (b i)) ++ (codes ",\"a\":" ++ (codes "null" ++ (codes ",\"b\":" ++ (side_by q.place (b i) ++ codes ",\"parts\":[")))));
+  no_parts = refl;
+  two_parts = refl;
+  refusal = refl;
 }

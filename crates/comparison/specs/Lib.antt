@@ -1,4 +1,7 @@
 pub mod Moved
+pub mod Entries
 pub mod Counts
 pub mod Json
 pub mod Meant
+pub mod Table
+pub mod TableMeant

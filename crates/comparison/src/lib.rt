@@ -6,7 +6,7 @@ ghost use Rattle.std.specs.Prelude.{◌≡◌, IfOk};
 ghost use Rattle.pairing.specs.Rows.{are_alike};
 
 mod counts;
-mod differences;
+mod entries;
 mod json;
 mod moved;
 mod table;

@@ -1,5 +1,6 @@
 //! Where the entries of both uploads stand otherwise apart than those before them.
 ghost use Rattle.std.specs.Prelude.{◌≡◌};
+ghost use Rattle.comparison.specs.Entries.{shift_behind};
 ghost use Rattle.comparison.specs.Moved.{moved_in};
 
 use pairing::pieces::Shift;
@@ -34,4 +35,11 @@ impl Moved {
             _ => None,
         }
     }
+}
+
+/// How far apart the entry of a row stands, or the one before if only one upload has it.
+pub(crate) fn shift_behind(row: &Row<'_>, before: Shift) -> Shift
+    ensures { result ≡ shift_behind before row.now }
+{
+    row.shift().unwrap_or(before)
 }

@@ -1,14 +1,25 @@
 //! The theorems (docs/FORMAT.md, "The command's text"). Each is the contract of a function that does nothing, so that none goes unnoticed if its proof does.
 #![tactic(auto)]
 
-ghost use Rattle.comparison.specs.Meant.{CountsMeant, TextsMeant};
+ghost use Rattle.comparison.specs.Meant.{CountsMeant, JsonMeant, TextsMeant};
+ghost use Rattle.comparison.specs.TableMeant.{TableMeant};
 
 /// Each number of the last line is how many rows there are of what it tells.
 pub fn counts_meant()
     ensures { CountsMeant }
 {}
 
-/// The last line of the table, the lines of what moved and those of entries up to their parts, with every number another.
+/// The last line of the table, the lines of what moved, those of entries up to their parts, and these parts, with every number another.
 pub fn texts_meant()
     ensures { TextsMeant }
+{}
+
+/// In JSON nothing is written exactly where every entry stays: both uploads have it, in the same bytes and at the same place.
+pub fn json_meant()
+    ensures { JsonMeant }
+{}
+
+/// The lines of the table word for word, each cell in its column, with every number another; and where every entry stays there is no table.
+pub fn table_meant()
+    ensures { TableMeant }
 {}

@@ -1,3 +1,5 @@
 pub mod Told
 pub mod Bits
 pub mod Words
+pub mod Written
+pub mod Same

@@ -1,27 +1,24 @@
 //! What the parts of a symbol's entry tell, for people and in JSON (docs/FORMAT.md, "The command's text").
 #![tactic(auto, unfolding(crate::specs::Values::value_of))]
 
-ghost use Rattle.std.specs.Prelude.{◌≡◌, ◌++◌, Some, codes};
-ghost use Rattle.wording.specs.Text.{shown};
-ghost use Rattle.values.specs.Names.{former_text, or_none};
+ghost use Rattle.std.specs.Prelude.{◌≡◌};
+ghost use Rattle.values.specs.Alike.{are_refused_alike, tells_the_same};
 ghost use Rattle.values.specs.Values.{attribute_in, count_value, extended_value, former_name_in, guid_value, value_of};
 
 mod names;
+mod shown;
 pub mod theorems;
 
 use attribute::AdsAttribute;
 use flags::symbol_flags::{AdsSymbol2Flags, AdsSymbolFlags};
 pub use names::{ExtendedNames, FlagNames, FourDigits};
 use refusal::Refusal;
-use report::json::Guid;
 use sections::{Part, Section};
-use std::fmt;
+pub use shown::{AsJson, AsText, FormerName, NameAndValue, OrNone};
 use symbol::AdsSymbolInfo;
-use wording::strings::{Quoted, Shown};
-use wording::{Bytes, InWords};
 
-/// What a part tells. Two are equal where they tell the same, wherever their bytes lie.
-#[derive(Clone, Copy, Debug, PartialEq, Eq)]
+/// What a part tells.
+#[derive(Clone, Copy, Debug)]
 pub enum Value<'a> {
     /// Nothing: the part is not there.
     Absent,
@@ -33,11 +30,15 @@ pub enum Value<'a> {
     Hexadecimal(u32),
     /// The two bytes after the flags.
     High(u16),
+    /// A symbol's flags.
     Flags(AdsSymbolFlags),
+    /// Its extended flags.
     ExtendedFlags(AdsSymbol2Flags),
     /// A string in Windows-1252.
     Text(&'a [u8]),
+    /// The GUID of a type.
     Guid([u8; 16]),
+    /// An attribute, with its name and its value.
     Attribute(AdsAttribute<'a>),
     /// A former name, which may be empty.
     FormerName(&'a [u8]),
@@ -47,116 +48,46 @@ pub enum Value<'a> {
     Byte { at: usize, byte: u8 },
 }
 
-/// Text, and that there is none where it is empty.
-#[derive(Clone, Copy)]
-pub struct OrNone<'a>(pub &'a [u8]);
-
-impl fmt::Display for OrNone<'_> {
-    ghost output = { λ s. Some (or_none s.0.now) };
-
-    #[tactic(auto, unfolding(crate::specs::Names::or_none))]
-    fn fmt<W: fmt::Write>(&self, f: &mut fmt::Formatter<W>) -> fmt::Result {
-        if self.0.is_empty() {
-            return write!(f, "none");
-        }
-        let text = Shown(self.0);
-        write!(f, "{text}")
-    }
-}
-
-/// A former name, and that it is empty.
-#[derive(Clone, Copy)]
-pub struct FormerName<'a>(pub &'a [u8]);
-
-impl fmt::Display for FormerName<'_> {
-    ghost output = { λ s. Some (former_text s.0.now) };
-
-    #[tactic(auto, unfolding(crate::specs::Names::former_text))]
-    fn fmt<W: fmt::Write>(&self, f: &mut fmt::Formatter<W>) -> fmt::Result {
-        if self.0.is_empty() {
-            return write!(f, "(no name)");
-        }
-        let text = Shown(self.0);
-        write!(f, "{text}")
-    }
-}
-
-/// An attribute in one line.
-#[derive(Clone, Copy)]
-pub struct NameAndValue<'a>(pub AdsAttribute<'a>);
-
-impl fmt::Display for NameAndValue<'_> {
-    ghost output = { λ a. Some (shown a.0.name.now ++ (codes " = " ++ shown a.0.value.now)) };
-
-    fn fmt<W: fmt::Write>(&self, f: &mut fmt::Formatter<W>) -> fmt::Result {
-        let name = Shown(self.0.name);
-        let value = Shown(self.0.value);
-        write!(f, "{name} = {value}")
-    }
-}
-
-/// A value for people.
-#[derive(Clone, Copy)]
-pub struct AsText<'a>(pub Value<'a>);
-
-impl fmt::Display for AsText<'_> {
-    fn fmt<W: fmt::Write>(&self, f: &mut fmt::Formatter<W>) -> fmt::Result {
-        match self.0 {
-            Value::Absent => write!(f, "none"),
-            Value::Bytes(number) => Bytes(number).fmt(f),
-            Value::Number(number) => write!(f, "{number}"),
-            Value::Hexadecimal(number) => write!(f, "0x{number:X}"),
-            Value::High(high) => write!(f, "0x{high:04X}"),
-            Value::Flags(flags) => FlagNames(flags).fmt(f),
-            Value::ExtendedFlags(flags) => ExtendedNames(flags).fmt(f),
-            Value::Text(text) => OrNone(text).fmt(f),
-            Value::Guid(id) => Guid(&id).fmt(f),
-            Value::Attribute(one) => NameAndValue(one).fmt(f),
-            Value::FormerName(name) => FormerName(name).fmt(f),
-            Value::Refused(why) => InWords(&why).fmt(f),
-            Value::Byte { at, byte } => write!(f, "byte {at} of the entry is 0x{byte:02X}"),
+impl Value<'_> {
+    /// Whether two tell the same: what they tell is of one kind, and alike in its numbers and in the bytes of its strings, wherever these lie.
+    #[tactic(auto, unfolding(crate::specs::Alike::tells_the_same))]
+    pub fn tells_the_same(self, other: Value<'_>) -> bool
+        ensures { result ≡ tells_the_same self.entry other.entry }
+    {
+        match (self, other) {
+            (Value::Absent, Value::Absent) => true,
+            (Value::Bytes(one), Value::Bytes(other)) => one == other,
+            (Value::Number(one), Value::Number(other)) => one == other,
+            (Value::Hexadecimal(one), Value::Hexadecimal(other)) => one == other,
+            (Value::High(one), Value::High(other)) => one == other,
+            (Value::Flags(one), Value::Flags(other)) => one.0 == other.0,
+            (Value::ExtendedFlags(one), Value::ExtendedFlags(other)) => one.0 == other.0,
+            (Value::Text(one), Value::Text(other)) => one == other,
+            (Value::Guid(one), Value::Guid(other)) => one == other,
+            (Value::Attribute(one), Value::Attribute(other)) => {
+                one.name == other.name && one.value == other.value
+            }
+            (Value::FormerName(one), Value::FormerName(other)) => one == other,
+            (Value::Refused(one), Value::Refused(other)) => are_refused_alike(one, other),
+            (
+                Value::Byte { at, byte },
+                Value::Byte {
+                    at: to,
+                    byte: other,
+                },
+            ) => { at == to && byte == other }
+            _ => false,
         }
     }
 }
 
-/// A value in JSON.
-#[derive(Clone, Copy)]
-pub struct AsJson<'a>(pub Value<'a>);
-
-impl fmt::Display for AsJson<'_> {
-    fn fmt<W: fmt::Write>(&self, f: &mut fmt::Formatter<W>) -> fmt::Result {
-        match self.0 {
-            Value::Absent => write!(f, "null"),
-            Value::Bytes(number) => write!(f, "{number}"),
-            Value::Number(number) => write!(f, "{number}"),
-            Value::Hexadecimal(number) => write!(f, "{number}"),
-            Value::High(high) => write!(f, "{high}"),
-            Value::Flags(flags) => {
-                let word = flags.0;
-                write!(f, "{word}")
-            }
-            Value::ExtendedFlags(flags) => {
-                let word = flags.0;
-                write!(f, "{word}")
-            }
-            Value::Text(text) => Quoted(text).fmt(f),
-            Value::Guid(id) => {
-                let id = Guid(&id);
-                write!(f, "\"{id}\"")
-            }
-            Value::Attribute(one) => {
-                let name = Quoted(one.name);
-                let value = Quoted(one.value);
-                write!(f, "{{\"name\":{name},\"value\":{value}}}")
-            }
-            Value::FormerName(name) => Quoted(name).fmt(f),
-            Value::Refused(why) => {
-                let why = InWords(&why);
-                write!(f, "\"{why}\"")
-            }
-            Value::Byte { at, byte } => write!(f, "{{\"byte\":{at},\"value\":{byte}}}"),
-        }
-    }
+/// Whether two refusals are the same: of one number, with the same figures.
+pub fn are_refused_alike(one: Refusal, other: Refusal) -> bool
+    ensures { result ≡ are_refused_alike one other }
+{
+    let one = one.figures();
+    let other = other.figures();
+    one.number == other.number && one.expected == other.expected && one.got == other.got
 }
 
 /// What a section of a symbol's entry tells (docs/FORMAT.md, "The command's text", of `compare`).
