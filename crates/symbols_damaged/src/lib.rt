@@ -7,7 +7,7 @@ ghost use Rattle.symbol.specs.Symbol.{symbol_of};
 ghost use Rattle.symbol.specs.Told.{Told, told_of};
 ghost use Rattle.symbol.proofs.Anywhere.{symbols_anywhere};
 ghost use Rattle.symbol_find.specs.Find.{find, find_indexed};
-ghost use Rattle.symbols_damaged.specs.Finding.{FindingStays};
+ghost use Rattle.symbols_damaged.specs.Finding.{FindingStays, AttributesStay};
 ghost use Rattle.symbols_damaged.specs.Listed.{rows_of, ListingStays, ListedByRows};
 ghost use Rattle.symbols_damaged.specs.ShutsOut.{SymbolsShutOut};
 
@@ -43,9 +43,16 @@ pub fn symbols_anywhere()
     damage::stays_anywhere::<TellingSymbols>()
 }
 
-/// A name that no damaged entry has is found or refused alike, without an index, through each upload's own, and through that of the other.
+/// A name that no damaged entry has is found or refused alike: without an index, through each upload's own and that of the other, and by halving through each upload's own name index. By halving through that of the other a symbol of that name is found, or 13 is answered, and the same where the slots are in order there too.
 pub fn finding_stays()
     ensures { FindingStays find find_indexed }
+{
+    names_damaged::finding_stays::<TellingSymbols>()
+}
+
+/// Of every other symbol the attribute of any name tells the same.
+pub fn attributes_stay()
+    ensures { AttributesStay }
 {}
 
 /// A listing has as many rows, and all but those of damaged entries are the same text.
