@@ -108,6 +108,9 @@ module _ {R S : Type 0} (header : ℕ) (w : NamePlaces) (read : Mode → Bor (Li
   abbrev indexed : Mode → Bor (List ℕ) → List ℕ → List ℕ → Result ℕ Refusal
   indexed mode = find_indexed name_of (read mode)
 
+  abbrev halves_of : Mode → Bor (List ℕ) → List ℕ → List ℕ → Result ℕ Refusal → Type 0
+  halves_of mode = Halves w (read mode) name_of
+
   abbrev Has : Mode → Bor (List ℕ) → List ℕ → ℕ → Type 0
   Has = HasName header read length_of name_of
 
@@ -154,7 +157,7 @@ module _ {R S : Type 0} (header : ℕ) (w : NamePlaces) (read : Mode → Bor (Li
     as_without : (name : List ℕ) {a : List ℕ} → AreBuilt (indexing (read mode) s) a → indexed mode s a name ≡ walked mode s name
     as_without name (built_of {old} {new} {n} h) = same_find_of read name_of by_steps mode s old new n h name
 
-    as_halved : (name : List ℕ) {a : List ℕ} (r : Result ℕ Refusal) → AreBuilt (name_indexing w (read mode) s) a → Halves w (read mode) name_of s a name r → r ≡ walked mode s name
+    as_halved : (name : List ℕ) {a : List ℕ} (r : Result ℕ Refusal) → AreBuilt (name_indexing w (read mode) s) a → halves_of mode s a name r → r ≡ walked mode s name
     as_halved name r (built_of {old} {new} {n} h) halves =
         let p = before_order w (read mode) (by_steps mode) s old new n h in
         (same_halved_of w (read mode) (by_steps mode) name_of (named mode) s old new n h old p.mid n p.built name r halves).1
@@ -229,7 +232,7 @@ module _ {R S : Type 0} (header : ℕ) (w : NamePlaces) (read : Mode → Bor (Li
         same_there at (ap (λ (l : List ℕ). among l at) f.among ∙ among_middle f.before at f.behind) f.has
 
     -- by halving in the second through the name index of the first
-    module _ {a : List ℕ} (x : AreBuilt (name_indexing w (read mode) s) a) (r : Result ℕ Refusal) (halves : Halves w (read mode) name_of t a name r) where
+    module _ {a : List ℕ} (x : AreBuilt (name_indexing w (read mode) s) a) (r : Result ℕ Refusal) (halves : halves_of mode t a name r) where
       abbrev one : List ℕ
       one = take 1 (drop halves.one.0 a)
 
@@ -249,7 +252,7 @@ module _ {R S : Type 0} (header : ℕ) (w : NamePlaces) (read : Mode → Bor (Li
       unfolding find_indexed
       refused_so why h = only_not_found (first_of (is_named name_of (read mode) s name) one) why (sym (through_one ∙ simp (le-ltb limit (length s.now) (small_of mode s x))) ∙ h)
 
-      halved_there : HalvesThere header w read length_of name_of told walked indexed mode s t places a name r
+      halved_there : HalvesThere header w read length_of name_of told walked indexed halves_of mode s t places a name r
       halved_there = record {
         first = λ at h. (finds_first at h).has;
         second = λ at h. (finds_second at h).has;
@@ -260,7 +263,7 @@ module _ {R S : Type 0} (header : ℕ) (w : NamePlaces) (read : Mode → Bor (Li
         ordered = λ o. halves.ordered o ∙ slots_alike a (ordered_reached mode s x) ∙ as_ordered mode s name x;
       }
 
-  pub finding_stays_of : FindingStays header w read length_of name_of told walked indexed
+  pub finding_stays_of : FindingStays header w read length_of name_of told walked indexed halves_of
   finding_stays_of mode s t places name d none_s none_t =
       let same = find_alike mode s t places name d none_s none_t in
       record {

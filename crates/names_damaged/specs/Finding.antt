@@ -12,7 +12,7 @@ use Rattle.index.specs.Index.{indexing}
 use Rattle.regrown.specs.Tells.{tells}
 use Rattle.name_order.specs.declared.places.NamePlaces.{NamePlaces}
 use Rattle.name_find.specs.Meaning.{HasName}
-use Rattle.name_index.specs.Index.{name_indexing, InOrder, Halves}
+use Rattle.name_index.specs.Index.{name_indexing, InOrder}
 
 -- the slots that building wrote, by what it is to write
 pub data AreBuilt (slots : Result (List ℕ) Refusal) : List ℕ → Type 0 where
@@ -26,8 +26,8 @@ module _ {R S : Type 0} (header : ℕ) (w : NamePlaces) (read : Mode → Bor (Li
     pub elsewhere : among places at ≡ false
     pub same : tells length_of told (step_at (read mode) s at) ≡ tells length_of told (step_at (read mode) t at)
 
-  -- what finding without an index answers, and through an index
-  module _ (walked : Mode → Bor (List ℕ) → List ℕ → Result ℕ Refusal) (indexed : Mode → Bor (List ℕ) → List ℕ → List ℕ → Result ℕ Refusal) where
+  -- what finding answers without an index and through one, and what it may answer by halving
+  module _ (walked : Mode → Bor (List ℕ) → List ℕ → Result ℕ Refusal) (indexed : Mode → Bor (List ℕ) → List ℕ → List ℕ → Result ℕ Refusal) (halves : Mode → Bor (List ℕ) → List ℕ → List ℕ → Result ℕ Refusal → Type 0) where
     -- what halving answers in the second through the name index of the first, whose slots may be out of order there: an entry that has the name in both, or 13;
     -- and where the slots are in order there too, what is found in the first
     pub record HalvesThere (mode : Mode) (s t : Bor (List ℕ)) (places slots name : List ℕ) (r : Result ℕ Refusal) : Type 0 where
@@ -46,10 +46,10 @@ module _ {R S : Type 0} (header : ℕ) (w : NamePlaces) (read : Mode → Bor (Li
       pub there : (at : ℕ) → walked mode s name ≡ Ok at → SameThere mode s t places at
       pub halved :
           (a b : List ℕ) → AreBuilt (name_indexing w (read mode) s) a → AreBuilt (name_indexing w (read mode) t) b
-          → (q r : Result ℕ Refusal) → Halves w (read mode) name_of s a name q → Halves w (read mode) name_of t b name r → q ≡ r
+          → (q r : Result ℕ Refusal) → halves mode s a name q → halves mode t b name r → q ≡ r
       pub halved_crossed :
           (a : List ℕ) → AreBuilt (name_indexing w (read mode) s) a
-          → (r : Result ℕ Refusal) → Halves w (read mode) name_of t a name r → HalvesThere mode s t places a name r
+          → (r : Result ℕ Refusal) → halves mode t a name r → HalvesThere mode s t places a name r
 
     -- of a name that no entry which differs has, in neither version
     abbrev pub FindingStays : Type 0

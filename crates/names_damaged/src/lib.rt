@@ -2,6 +2,7 @@
 #![tactic(auto)]
 
 ghost use Rattle.name_find.specs.Find.{find, find_indexed};
+ghost use Rattle.name_index.specs.Index.{Halves};
 ghost use Rattle.names_damaged.specs.Finding.{FindingStays};
 
 use damage::Telling;
@@ -13,5 +14,5 @@ use named::Named;
 pub fn finding_stays<'a, K: Telling<'a>>()
 where
     K::Record: Named<'a>,
-    ensures { FindingStays K.Record.HEADER K.Record.places K.Record.read K.Record.length_of K.Record.name_of K.told (λ mode. find K.Record.name_of (K.Record.read mode)) (λ mode. find_indexed K.Record.name_of (K.Record.read mode)) }
+    ensures { FindingStays K.Record.HEADER K.Record.places K.Record.read K.Record.length_of K.Record.name_of K.told (λ mode. find K.Record.name_of (K.Record.read mode)) (λ mode. find_indexed K.Record.name_of (K.Record.read mode)) (λ mode. Halves K.Record.places (K.Record.read mode) K.Record.name_of) }
 {}

@@ -17,8 +17,10 @@ use Rattle.named.specs.Kinds.{symbol_places}
 use Rattle.symbol_find.specs.Find.{own_name}
 use Rattle.names_damaged.specs.Finding as any
 
--- of a name that no entry which differs has, in neither version, without an index and through one
-abbrev pub FindingStays : (Mode → Bor (List ℕ) → List ℕ → Result ℕ Refusal) → (Mode → Bor (List ℕ) → List ℕ → List ℕ → Result ℕ Refusal) → Type 0
+-- of a name that no entry which differs has, in neither version: without an index, through one, and by halving
+abbrev pub FindingStays :
+    (Mode → Bor (List ℕ) → List ℕ → Result ℕ Refusal) → (Mode → Bor (List ℕ) → List ℕ → List ℕ → Result ℕ Refusal)
+    → (Mode → Bor (List ℕ) → List ℕ → List ℕ → Result ℕ Refusal → Type 0) → Type 0
 FindingStays = any.FindingStays 30 symbol_places symbol_of (λ symbol. symbol.length) own_name told_of
 
 -- what a step tells of a symbol's attribute of some name: its name and value, or 13

@@ -11,6 +11,7 @@ ghost use Rattle.data_type.proofs.Anywhere.{types_anywhere};
 ghost use Rattle.data_type.specs.DataType.{type_of};
 ghost use Rattle.named.specs.Kinds.{field_places};
 ghost use Rattle.type_find.specs.Find.{own_name, find, find_indexed};
+ghost use Rattle.name_index.specs.Index.{Halves};
 ghost use Rattle.names_damaged.specs.Finding.{FindingStays};
 
 use damage::Telling;
@@ -75,7 +76,7 @@ pub fn types_anywhere()
 
 /// A name that no damaged entry has is found or refused alike: without an index, through each upload's own and that of the other, and by halving through each upload's own name index. By halving through that of the other a data type of that name is found, or 13 is answered, and the same where the slots are in order there too.
 pub fn finding_stays()
-    ensures { FindingStays 42 field_places type_of (λ r. r.field.length) own_name type_told find find_indexed }
+    ensures { FindingStays 42 field_places type_of (λ r. r.field.length) own_name type_told find find_indexed (λ mode. Halves field_places (type_of mode) own_name) }
 {
     names_damaged::finding_stays::<TellingTypes>()
 }
