@@ -13,8 +13,7 @@ use Rattle.symbol.specs.declared.AdsSymbolInfo.{AdsSymbolInfo}
 use Rattle.symbol.specs.Symbol.{symbol_of}
 use Rattle.name_order.specs.Order.{named_before}
 use Rattle.named.specs.Kinds.{symbol_places}
-use Rattle.symbol_find.specs.Find.{own_name, is_named}
-use Rattle.name_index.specs.Index.{Halves}
+use Rattle.symbol_find.specs.Find.{is_named}
 use Rattle.listing.specs.Listing.{lying}
 use Rattle.symbols_damaged.specs.Finding.{FindingStays}
 use Rattle.symbols_damaged.specs.Listed.{Row, row_of, ListingStays}
@@ -36,7 +35,9 @@ abbrev pub by_entry : Mode → ℕ → List ℕ → List Row
 by_entry mode line s = counted line (pieces (symbol_of mode) (lying s))
 
 pub record SymbolsShutOut : Type 0 where
-  pub ends : (indexed : Mode → Bor (List ℕ) → List ℕ → List ℕ → Result ℕ Refusal) → FindingStays ends_at_refused indexed (λ mode. Halves symbol_places (symbol_of mode) own_name) → ⊥
+  -- whatever is answered through an index, and where nothing is said of halving
+  pub ends : (indexed : Mode → Bor (List ℕ) → List ℕ → List ℕ → Result ℕ Refusal) → FindingStays ends_at_refused indexed (λ mode s slots name r. ⊥) → ⊥
+  -- whatever is answered without one and through one
   pub unseen :
       (walked : Mode → Bor (List ℕ) → List ℕ → Result ℕ Refusal) (indexed : Mode → Bor (List ℕ) → List ℕ → List ℕ → Result ℕ Refusal)
       → FindingStays walked indexed answers_unseen → ⊥
