@@ -6,8 +6,10 @@ ghost use Rattle.damage.specs.Theorems.{StaysInPlace, StaysAnywhere};
 ghost use Rattle.symbol.specs.Symbol.{symbol_of};
 ghost use Rattle.symbol.specs.Told.{Told, told_of};
 ghost use Rattle.symbol.proofs.Anywhere.{symbols_anywhere};
-ghost use Rattle.symbol_find.specs.Find.{find, find_indexed};
-ghost use Rattle.symbols_damaged.specs.Finding.{FindingStays};
+ghost use Rattle.named.specs.Kinds.{symbol_places};
+ghost use Rattle.symbol_find.specs.Find.{own_name, find, find_indexed};
+ghost use Rattle.name_index.specs.Index.{Halves};
+ghost use Rattle.symbols_damaged.specs.Finding.{FindingStays, AttributesStay};
 ghost use Rattle.symbols_damaged.specs.Listed.{rows_of, ListingStays, ListedByRows};
 ghost use Rattle.symbols_damaged.specs.ShutsOut.{SymbolsShutOut};
 
@@ -43,9 +45,16 @@ pub fn symbols_anywhere()
     damage::stays_anywhere::<TellingSymbols>()
 }
 
-/// A name that no damaged entry has is found or refused alike, without an index, through each upload's own, and through that of the other.
+/// A name that no damaged entry has is found or refused alike: without an index, through each upload's own and that of the other, and by halving through each upload's own name index. By halving through that of the other a symbol of that name is found, or 13 is answered, and the same where the slots are in order there too.
 pub fn finding_stays()
-    ensures { FindingStays find find_indexed }
+    ensures { FindingStays find find_indexed (λ mode. Halves symbol_places (symbol_of mode) own_name) }
+{
+    names_damaged::finding_stays::<TellingSymbols>()
+}
+
+/// Of every other symbol the attribute of any name tells the same.
+pub fn attributes_stay()
+    ensures { AttributesStay }
 {}
 
 /// A listing has as many rows, and all but those of damaged entries are the same text.
@@ -58,7 +67,7 @@ pub fn listed_by_rows()
     ensures { ListedByRows }
 {}
 
-/// Finding that ends at a refused entry, and a listing whose line number is told by entry, are not what these theorems allow.
+/// Finding that ends at a refused entry, halving that answers the slot where it ends without a look at the name there, and a listing whose line number is told by entry, are not what these theorems allow.
 pub fn symbols_shut_out()
     ensures { SymbolsShutOut }
 {}

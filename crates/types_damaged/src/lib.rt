@@ -1,4 +1,4 @@
-//! One bad field, and one bad data type, stays one bad entry: what is read, salvaged and indexed of the others. Nothing to run, but its theorems. docs/FORMAT.md, "One bad entry".
+//! One bad field, and one bad data type, stays one bad entry: what is read, salvaged and indexed of the others, and of data types what is found. Nothing to run, but its theorems. docs/FORMAT.md, "One bad entry".
 #![tactic(auto)]
 
 ghost use Rattle.refusal.specs.declared.Mode.{Mode};
@@ -9,6 +9,10 @@ ghost use Rattle.field.proofs.Anywhere.{fields_anywhere};
 ghost use Rattle.data_type.specs.Told.{Told as TypeTold, told_of as type_told};
 ghost use Rattle.data_type.proofs.Anywhere.{types_anywhere};
 ghost use Rattle.data_type.specs.DataType.{type_of};
+ghost use Rattle.named.specs.Kinds.{field_places};
+ghost use Rattle.type_find.specs.Find.{own_name, find, find_indexed};
+ghost use Rattle.name_index.specs.Index.{Halves};
+ghost use Rattle.names_damaged.specs.Finding.{FindingStays};
 
 use damage::Telling;
 use data_type::AdsDataTypeInfo;
@@ -68,4 +72,11 @@ pub fn types_anywhere()
     ensures { (mode : Mode) → StaysAnywhere 42 (type_of mode) (λ r. r.field.length) type_told }
 {
     damage::stays_anywhere::<TellingTypes>()
+}
+
+/// A name that no damaged entry has is found or refused alike: without an index, through each upload's own and that of the other, and by halving through each upload's own name index. By halving through that of the other a data type of that name is found, or 13 is answered, and the same where the slots are in order there too.
+pub fn finding_stays()
+    ensures { FindingStays 42 field_places type_of (λ r. r.field.length) own_name type_told find find_indexed (λ mode. Halves field_places (type_of mode) own_name) }
+{
+    names_damaged::finding_stays::<TellingTypes>()
 }
