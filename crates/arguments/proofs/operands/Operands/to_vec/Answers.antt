@@ -1,4 +1,4 @@
-use Rattle.std.proofs.Common.{Bool, ◌+◌, ◌≡◌, ◌++◌, sym, ap, ◌∙◌, drop}
+use Rattle.std.proofs.Common.{Bool, ◌+◌, ◌++◌, sym, ap, ◌∙◌, drop}
 use Rattle.std.specs.Prelude.{not}
 use Rattle.arguments.proofs.OperandLaws.{seen, list_past, list_later, list_ends}
 use Rattle.arguments.proofs.operands.Operands.to_vec.Goals as goal
