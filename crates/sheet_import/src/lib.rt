@@ -15,9 +15,10 @@ mod strings;
 use refusal::Refusal;
 use sheet_rows::{Cells, Extent, Numbers, Rows, Three};
 
-// How many bytes an entry has beside those of its strings, and how many before them.
+// How many bytes an entry has beside those of its strings.
 const BARE: usize = 33;
 
+// How many it has before them.
 const BEFORE: usize = 30;
 
 // How many bytes a string has at most.
@@ -60,8 +61,8 @@ fn check_strings(rows: Rows<'_>, longest: usize) -> Result<(), Refusal>
     Ok(())
 }
 
-// How many bytes the upload of rows has of whose text so many bytes more stand in the sheet than in Windows-1252. A sum that is
-// above a usize stays at the largest.
+// How many bytes the upload of rows has, whose strings take so many bytes more in the sheet than in Windows-1252. A sum that is above
+// a usize stays at the largest.
 fn upload_size(extent: &Extent, more: usize) -> usize
     requires { more ≤ extent.now.bytes }
     ensures { result ≡ told (33 * extent.now.rows + (extent.now.bytes - more)) }
