@@ -2,3 +2,4 @@ pub mod Meant
 pub mod Lines
 pub mod Silent
 pub mod TableWords
+pub mod Wide

@@ -22,6 +22,7 @@ use Rattle.comparison.specs.Entries.{shift_behind, shift_else}
 use Rattle.comparison.specs.Moved.{moved_in}
 use Rattle.comparison.specs.Table.{fits_on, headings_text, line_text, lines_of, moved_lines, table_by, table_text, told_lines, widths_on}
 use Rattle.comparison.specs.TableMeant.{TableMeant}
+use Rattle.comparison.proofs.Wide.{wide_enough}
 use Rattle.comparison.proofs.Silent.{both, no, same_shift}
 
 -- a row that stays has no line
@@ -65,4 +66,5 @@ table_meant = record {
   earlier = refl;
   back = refl;
   nothing = nothing;
+  stand = wide_enough;
 }

@@ -1,22 +1,49 @@
 -- docs/FORMAT.md, "The command's text", of `compare`: the lines of the table word for word, and where there is none.
-use Rattle.std.specs.Prelude.{ℕ, ◌≡◌, true, List, [], ◌++◌, codes, Some, None, Ok, Err}
+use Rattle.std.specs.Prelude.{ℕ, ◌≡◌, ◌≤◌, true, List, [], ◌∷◌, ◌++◌, codes, length, Some, None, Ok, Err}
 use Rattle.std.specs.Borrow.{Bor}
 use Rattle.std.specs.List.{list_all}
 use Rattle.refusal.specs.declared.Mode.{Mode}
 use Rattle.refusal.specs.declared.Refusal.TheVariants.{EndByte}
-use Rattle.report.specs.Cells.{name_cell}
+use Rattle.report.specs.Cells.{at_left, name_cell}
 use Rattle.sections.specs.declared.Part.TheVariants.{Size}
 use Rattle.values.specs.declared.Value.TheVariants.{Byte, Bytes}
+use Rattle.pairing.specs.declared.pieces.Shift.{Shift}
 use Rattle.pairing.specs.declared.pieces.Shift.TheVariants.{Later, Earlier}
 use Rattle.pairing.specs.declared.rows.Row.{Row}
 use Rattle.pairing.specs.Rows.{stays}
+use Rattle.comparison.specs.declared.table.Line.{Line}
+use Rattle.comparison.specs.declared.table.Told.{Told}
+use Rattle.comparison.specs.declared.table.Told.TheVariants as told
 use Rattle.comparison.specs.declared.table.Told.TheVariants.{Moved, Differs, OnlyInA, OnlyInB}
 use Rattle.comparison.specs.declared.table.Widths.{Widths}
-use Rattle.comparison.specs.Table.{headings_text, line_text, table_text}
+use Rattle.comparison.specs.Entries.{shift_behind, together}
+use Rattle.comparison.specs.Json.{title_text}
+use Rattle.comparison.specs.Table.{headings_text, line_text, lines_of, named_width, place_cell, table_text, widths_on}
 
 -- columns that are all wider than their cells
 abbrev pub wide : Widths
 wide = record { a = 4; b = 4; name = 11; part = 11 }
+
+abbrev pub title_of : Told → List ℕ
+title_of (told.Moved s) = []
+title_of (told.Differs d) = title_text d.part
+title_of (told.OnlyInA name) = codes "only in A"
+title_of (told.OnlyInB name) = codes "only in B"
+
+-- the cells of a line fill their columns, that of a name one of 60 characters at most: so the columns begin at the same character in every line
+pub record Stands (w : Widths) (l : Line) : Type 0 where
+  pub a : length (place_cell w.a l.a) ≡ w.a
+  pub b : length (place_cell w.b l.b) ≡ w.b
+  pub name : named_width l.name l.told ≤ w.name
+  pub part : length (at_left w.part (length (title_of l.told)) (title_of l.told)) ≡ w.part
+
+abbrev pub AllStand : Widths → List Line → Type 0
+AllStand w [] = Unit {0}
+AllStand w (l ∷ ls) = Stands w l × AllStand w ls
+
+abbrev pub RowsStand : Widths → Mode → Shift → List Row → Type 0
+RowsStand w mode before [] = Unit {0}
+RowsStand w mode before (r ∷ rows) = AllStand w (lines_of mode before r) × RowsStand w mode (shift_behind before r) rows
 
 -- every number another
 pub record TableMeant : Type 0 where
@@ -34,3 +61,5 @@ pub record TableMeant : Type 0 where
   pub back : line_text wide (record { a = Some 27; b = Some 27; name = None; told = Moved (Later 0) }) ≡ codes "  27    27  from here on at the same places\n"
   -- where every entry stays there is no table
   pub nothing : (mode : Mode) (rows : List Row) → list_all stays rows ≡ true → table_text mode rows ≡ []
+  -- and in the widths that a table has, every line of every row stands
+  pub stand : (mode : Mode) (rows : List Row) (w : Widths) → widths_on mode together None rows ≡ Some w → RowsStand w mode together rows

@@ -19,7 +19,8 @@ pub fn json_meant()
     ensures { JsonMeant }
 {}
 
-/// The lines of the table word for word, each cell in its column, with every number another; and where every entry stays there is no table.
+/// The lines of the table word for word, with every number another; where every entry stays there is no table; and in one the cells of
+/// every line fill their columns, that of a name one of 60 characters at most, so the columns begin at the same character in every line.
 pub fn table_meant()
     ensures { TableMeant }
 {}
