@@ -1,5 +1,5 @@
 -- The lines of the table word for word, and where there is none: proved.
-use Rattle.std.proofs.Common.{ℕ, ◌≡◌, refl, sym, ap, ap₂, ◌∙◌, Bool, true, List, [], ◌∷◌, ◌++◌}
+use Rattle.std.proofs.Common.{◌≡◌, refl, ap, ap₂, ◌∙◌, Bool, true, List, [], ◌∷◌, ◌++◌}
 use Rattle.std.specs.Prelude.{Option, Some, None, ◌&&◌, nat_eq, if◌then◌else◌}
 use Rattle.std.specs.Cmp.Lexicographic.{pointwise}
 use Rattle.std.specs.Fmt.{digits}
@@ -18,7 +18,7 @@ use Rattle.pairing.specs.Rows.{is_alike, is_same_shift, is_unmoved, shift_in, st
 use Rattle.comparison.specs.declared.moved.Moved.{Moved}
 use Rattle.comparison.specs.declared.table.Line.{Line}
 use Rattle.comparison.specs.declared.table.Widths.{Widths}
-use Rattle.comparison.specs.Entries.{shift_behind, shift_else}
+use Rattle.comparison.specs.Entries.{shift_else}
 use Rattle.comparison.specs.Moved.{moved_in}
 use Rattle.comparison.specs.Table.{fits_on, headings_text, line_text, lines_of, moved_lines, table_by, table_text, told_lines, widths_on}
 use Rattle.comparison.specs.TableMeant.{TableMeant}

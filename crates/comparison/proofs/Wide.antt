@@ -1,5 +1,5 @@
 -- The columns of the table are wide enough for the cells of every line: proved.
-use Rattle.std.proofs.Common.{ℕ, ◌≤◌, ◌≡◌, refl, sym, ap, subst, ◌∙◌, List, [], ◌∷◌, ◌++◌, ◌-◌, codes, decimal, length, replicate, length-append, max, arith}
+use Rattle.std.proofs.Common.{ℕ, ◌≤◌, ◌≡◌, refl, sym, subst, ◌∙◌, List, [], ◌∷◌, ◌-◌, codes, decimal, length, replicate, length-append, arith}
 use Rattle.std.proofs.lemmas.List.{length-replicate}
 use Rattle.report.specs.Cells.{at_left, at_right, number_cell}
 use Rattle.std.specs.Prelude.{Option, Some, None}
@@ -12,7 +12,7 @@ use Rattle.comparison.specs.declared.table.Told.{Told}
 use Rattle.comparison.specs.declared.table.Told.TheVariants as told
 use Rattle.comparison.specs.declared.table.Widths.{Widths}
 use Rattle.comparison.specs.Entries.{shift_behind, together}
-use Rattle.comparison.specs.Table.{fits_on, fitted, headings, lines_of, named_width, or_headings, place_cell, place_width, told_width, widths_on}
+use Rattle.comparison.specs.Table.{fits_on, fitted, lines_of, named_width, or_headings, place_cell, place_width, told_width, widths_on}
 use Rattle.comparison.specs.TableMeant.{AllStand, RowsStand, Stands, title_of}
 
 -- the widths of a line's cells are no more than those of the columns

@@ -5,3 +5,4 @@ pub mod Json
 pub mod Meant
 pub mod Table
 pub mod TableMeant
+pub mod Report

@@ -2,8 +2,12 @@
 //! (docs/FORMAT.md, "The command's text").
 #![tactic(auto)]
 
-ghost use Rattle.std.specs.Prelude.{◌≡◌, IfOk};
-ghost use Rattle.pairing.specs.Rows.{are_alike};
+ghost use Rattle.std.specs.Prelude.{◌≡◌, ◌++◌, IfOk, OnOk, codes};
+ghost use Rattle.std.specs.Io.KnownBytes.{Appends};
+ghost use Rattle.pairing.specs.Pieces.{pieces_of};
+ghost use Rattle.pairing.specs.Rows.{are_alike, rows_in, rows_of};
+ghost use Rattle.comparison.specs.Counts.{counted_on, counted_text, nothing};
+ghost use Rattle.comparison.specs.Report.{report_text, uploads_text, written_text};
 
 mod counts;
 mod entries;
@@ -30,7 +34,8 @@ pub fn compare<W: Write>(
     as_json: bool,
     out: &mut W,
 ) -> io::Result<bool>
-    ensures { IfOk result (λ alike. alike ≡ are_alike a.now b.now) }
+    ensures alike { IfOk result (λ alike. alike ≡ are_alike a.now b.now) }
+    ensures written { OnOk result (Appends (W.contents out.old) (W.contents out.new) (written_text as_json a.now b.now (rows_of (pieces_of a.now) (pieces_of b.now)))) }
 {
     let pieces_of_a = pieces(alloc, a)?;
     let pieces_of_b = pieces(alloc, b)?;
@@ -41,24 +46,54 @@ pub fn compare<W: Write>(
         pairs: pairs.as_slice(),
         mode: a.mode,
     };
-    if as_json {
-        json::write(alloc, &rows, out)?;
-    } else {
-        write_table(alloc, a, b, &rows, out)?;
-    }
+    write_rows(alloc, a, b, &rows, as_json, out)?;
     Ok(rows.are_alike())
 }
 
+fn write_rows<W: Write>(
+    alloc: Global,
+    a: &Upload<'_>,
+    b: &Upload<'_>,
+    rows: &Rows<'_, '_>,
+    as_json: bool,
+    out: &mut W,
+) -> io::Result<()>
+    requires { rows.now.mode ≡ a.now.mode }
+    ensures { OnOk result (Appends (W.contents out.old) (W.contents out.new) (written_text as_json a.now b.now (rows_in rows.now))) }
+{
+    if as_json {
+        json::write(alloc, rows, out)
+    } else {
+        write_table(alloc, a, b, rows, out)
+    }
+}
+
+#[tactic(auto, unfolding(crate::specs::Report::report_text))]
 fn write_table<W: Write>(
     alloc: Global,
     a: &Upload<'_>,
     b: &Upload<'_>,
     rows: &Rows<'_, '_>,
     out: &mut W,
-) -> io::Result<()> {
-    writeln!(out, "A: {a}")?;
-    writeln!(out, "B: {b}")?;
+) -> io::Result<()>
+    requires { rows.now.mode ≡ a.now.mode }
+    ensures { OnOk result (Appends (W.contents out.old) (W.contents out.new) (report_text a.now b.now (rows_in rows.now))) }
+{
+    write_uploads(a, b, out)?;
     table::write(alloc, rows, out)?;
+    write_counted(rows, out)?;
+    Ok(())
+}
+
+fn write_uploads<W: Write>(a: &Upload<'_>, b: &Upload<'_>, out: &mut W) -> io::Result<()>
+    ensures { OnOk result (Appends (W.contents out.old) (W.contents out.new) (uploads_text a.now b.now)) }
+{
+    write!(out, "A: {a}\nB: {b}\n")
+}
+
+fn write_counted<W: Write>(rows: &Rows<'_, '_>, out: &mut W) -> io::Result<()>
+    ensures { OnOk result (Appends (W.contents out.old) (W.contents out.new) (counted_text (counted_on nothing (rows_in rows.now)) ++ codes "\n")) }
+{
     let counted = Counted::of(rows);
     writeln!(out, "{counted}")
 }

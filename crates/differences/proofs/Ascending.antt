@@ -1,11 +1,10 @@
 -- The sections of an entry stand in the order of their parts: proved.
-use Rattle.std.proofs.Common.{ℕ, ◌+◌, ◌-◌, ◌<◌, ◌≡◌, Bool, true, false, List, [], ◌∷◌, ◌++◌, length, refl, sym, ap, ◌∙◌, arith, Bor}
+use Rattle.std.proofs.Common.{ℕ, ◌+◌, ◌-◌, ◌≡◌, Bool, true, false, List, [], ◌∷◌, ◌++◌, length, refl, sym, arith, Bor}
 use Rattle.std.specs.Prelude.{eqb, min, is_some, if◌then◌else◌}
 use Rattle.std.specs.List.{AllByRecursion}
-use Rattle.std.specs.Ordering.{nat_cmp, ordering_then}
+use Rattle.std.specs.Ordering.{nat_cmp}
 use Rattle.std.specs.Cmp.{IsTotalOrder, nat_cmp_is}
-use Rattle.std.specs.declared.cmp.Ordering.{Ordering}
-use Rattle.std.specs.declared.cmp.Ordering.TheVariants.{Less, Equal, Greater}
+use Rattle.std.specs.declared.cmp.Ordering.TheVariants.{Less, Equal}
 use Rattle.std.proofs.lemmas.Cmp.{then_total, on_total, nat_cmp_total}
 use Rattle.part.specs.Slice.{part}
 use Rattle.attribute.specs.Attribute as attribute
@@ -17,7 +16,7 @@ use Rattle.sections.specs.declared.Part.{Part}
 use Rattle.sections.specs.declared.Part.TheVariants.{Length, Group, Offset, Size, TypeId, Flags, High, StringLengths, Name, «Type», Comment, Guid, AttributeCount, Attribute, ExtendedFlags, FormerName, Unread}
 use Rattle.sections.specs.declared.Section.{Section}
 use Rattle.sections.specs.Parts.{kind, number, part_order}
-use Rattle.sections.specs.Sections.{Cut, cut, cut_off, cut_all, header_parts, string_parts, attribute_size, attribute_parts, former_parts, with_count, with_attributes, with_former_names, with_optional, cut_entry, sections_of}
+use Rattle.sections.specs.Sections.{Cut, cut, cut_all, header_parts, string_parts, attribute_size, attribute_parts, former_parts, with_count, with_optional, cut_entry, sections_of}
 use Rattle.differences.specs.Meant.{IsBefore}
 
 pub parts_total : IsTotalOrder part_order

@@ -1,7 +1,7 @@
 -- Of two symbols' sections exactly those parts are told that one has alone or whose bytes differ: proved.
-use Rattle.std.proofs.Common.{ℕ, ◌+◌, ◌<◌, ◌≤◌, ◌≡◌, ◌≢◌, ◌^◌, refl, sym, ap, ap₂, subst, ◌∙◌, Bool, true, false, List, [], ◌∷◌, length, arith, Bor}
+use Rattle.std.proofs.Common.{ℕ, ◌+◌, ◌<◌, ◌≡◌, ◌^◌, refl, sym, ap, ap₂, ◌∙◌, Bool, true, false, List, [], ◌∷◌, length}
 use Rattle.std.specs.Prelude.{Option, Some, None, ◌||◌, eqb, if◌then◌else◌}
-use Rattle.std.specs.List.{AllByRecursion, cons_option, filter_map}
+use Rattle.std.specs.List.{AllByRecursion, cons_option}
 use Rattle.std.specs.Ordering.{nat_cmp, ordering_then, ordering_reverse}
 use Rattle.std.specs.declared.cmp.Ordering.{Ordering}
 use Rattle.std.specs.declared.cmp.Ordering.TheVariants.{Less, Equal, Greater}
@@ -14,7 +14,6 @@ use Rattle.sections.specs.declared.Section.{Section}
 use Rattle.values.specs.Alike.{same_bytes, tells_the_same}
 use Rattle.values.specs.Values.{value_of}
 use Rattle.values.specs.declared.Value.{Value}
-use Rattle.values.specs.declared.Value.TheVariants.{Absent}
 use Rattle.values.proofs.Same.{alike_bytes, bytes_alike, same_meant}
 use Rattle.differences.specs.declared.Difference.{Difference}
 use Rattle.differences.specs.First.{first_byte}

@@ -6,7 +6,7 @@ use Rattle.std.proofs.lemmas.List.{drop_all}
 use Rattle.std.proofs.lemmas.Option.{slice_get_past, slice_get-get_or}
 use Rattle.std.proofs.Math.Seq.{get_or-append_seam}
 use Rattle.values.specs.declared.Value.{Value}
-use Rattle.values.specs.declared.Value.TheVariants.{Byte, Bytes}
+use Rattle.values.specs.declared.Value.TheVariants.{Bytes}
 use Rattle.differences.specs.First.{common, placed, first_by, first_byte}
 use Rattle.differences.specs.Meant.{FirstApart}
 use Rattle.differences.specs.Meant as meant

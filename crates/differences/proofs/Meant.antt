@@ -1,5 +1,5 @@
 -- What is told of two entries: proved.
-use Rattle.std.proofs.Common.{ℕ, ◌+◌, ◌<◌, ◌≤◌, ◌≡◌, ◌^◌, refl, sym, ap, subst, ◌∙◌, Bool, true, false, List, [], ◌∷◌, length, arith, Bor}
+use Rattle.std.proofs.Common.{ℕ, ◌+◌, ◌≤◌, ◌≡◌, refl, sym, ap, subst, ◌∙◌, Bool, true, false, List, [], ◌∷◌, length, arith, Bor}
 use Rattle.std.specs.Prelude.{Result, Ok, Err, ◌||◌, is_ok, is_err, if◌then◌else◌}
 use Rattle.refusal.specs.Refusal.{limit}
 use Rattle.refusal.specs.declared.Mode.{Mode}
@@ -14,7 +14,6 @@ use Rattle.values.specs.Alike.{are_refused_alike}
 use Rattle.values.specs.declared.Value.{Value}
 use Rattle.values.specs.declared.Value.TheVariants.{Absent, Refused}
 use Rattle.values.proofs.Same.{alike_refused, refused_alike}
-use Rattle.differences.specs.declared.Difference.{Difference}
 use Rattle.differences.specs.declared.Entry.{Entry}
 use Rattle.differences.specs.First.{first_byte}
 use Rattle.differences.specs.Differences.{differences_by, differences_of, in_symbols}

@@ -1,5 +1,5 @@
 -- The strings of an accepted entry are among its sections: proved.
-use Rattle.std.proofs.Common.{ℕ, ◌+◌, ◌-◌, ◌<◌, ◌≤◌, ◌≡◌, ◌⊎◌, inl, inr, Bool, true, false, List, [], ◌∷◌, ◌++◌, length, refl, sym, ap, ◌∙◌, lit<, arith, Bor}
+use Rattle.std.proofs.Common.{ℕ, ◌+◌, ◌-◌, ◌<◌, ◌≤◌, ◌≡◌, ◌⊎◌, inl, inr, Bool, true, false, List, [], ◌∷◌, ◌++◌, length, refl, ap, lit<, arith, Bor}
 use Rattle.std.specs.Prelude.{eqb, leb, min, is_some, Ok, if◌then◌else◌}
 use borrow.Author.Tests.{eqb-true}
 use Rattle.le.specs.Le.{has}

@@ -20,7 +20,7 @@ use Rattle.symbol.specs.Told.{Told, told_of}
 use Rattle.symbol.specs.declared.AdsSymbolInfo.{AdsSymbolInfo}
 use Rattle.symbol.proofs.Anywhere.{symbols_anywhere}
 use Rattle.sections.specs.Parts.{part_order}
-use Rattle.sections.specs.Sections.{Cut, cut, cut_off, cut_all, header_parts, string_parts, attribute_parts, former_parts, with_count, with_optional, cut_entry, sections_of}
+use Rattle.sections.specs.Sections.{Cut, cut, cut_off, cut_all, header_parts, string_parts, attribute_parts, former_parts, cut_entry, sections_of}
 use Rattle.sections.specs.declared.Part.{Part}
 use Rattle.sections.specs.declared.Part.TheVariants.{Name, «Type», Comment, Guid, AttributeCount, Attribute, ExtendedFlags, FormerName, Unread}
 use Rattle.sections.specs.declared.Section.{Section}

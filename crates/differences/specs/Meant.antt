@@ -1,6 +1,5 @@
 -- docs/FORMAT.md, "The command's text", of `compare`: in which parts two entries differ, and what is told of each.
 use Rattle.std.specs.Prelude.{ℕ, ◌+◌, ◌<◌, ◌≤◌, ◌≡◌, ◌≢◌, List, [], ◌∷◌, ◌++◌, ◌||◌, true, Some, None, Result, Ok, Err, is_ok, is_err, length}
-use Rattle.std.specs.Borrow.{Bor}
 use Rattle.std.specs.List.{AllByRecursion}
 use Rattle.std.specs.declared.cmp.Ordering.TheVariants.{Less}
 use Rattle.refusal.specs.Refusal.{limit}

@@ -1,5 +1,5 @@
 -- Values word for word: computed.
-use Rattle.std.proofs.Common.{ℕ, ◌≡◌, List, [], ◌∷◌, refl, sym, ap, ◌∙◌}
+use Rattle.std.proofs.Common.{ℕ, ◌≡◌, List, ◌∷◌, refl, sym, ap, ◌∙◌}
 use Rattle.std.specs.Fmt.{digits}
 use Rattle.report.specs.Json.{guid_text}
 use Rattle.wording.specs.Text.{quoted, shown}

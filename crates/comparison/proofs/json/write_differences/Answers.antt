@@ -1,4 +1,4 @@
-use Rattle.std.proofs.Common.{List, ap, sym, ◌∙◌, arith}
+use Rattle.std.proofs.Common.{arith}
 use Rattle.comparison.proofs.Lines.{goes_on, is_done, part_more, no_part, left_at, none_left}
 use Rattle.comparison.proofs.json.write_differences.Goals as goal
 

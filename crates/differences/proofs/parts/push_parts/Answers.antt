@@ -1,4 +1,3 @@
-use Rattle.std.proofs.Common.{arith}
 use Rattle.differences.proofs.Turns.{goes, falls, all_told}
 use Rattle.differences.proofs.parts.push_parts.Goals as goal
 
