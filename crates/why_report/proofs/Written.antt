@@ -28,9 +28,11 @@ is_lacking (Owed announced owed) none = refl
 ended : (own : List ℕ) (x : Reasons) (b : Bool) → nothing_missing x ≡ b → reasons_text own x ≡ followed_by (ending_text b) own x
 unfolding reasons_text sections_text
 ended own x b e =
-    rw e simp (append_assoc (section_text own Guid x.guid) (section_text own Attributes x.attributes ++ (section_text own ExtendedFlags x.extended_flags ++ section_text own FormerNames x.refactor_infos)) (ending_text b),
-        append_assoc (section_text own Attributes x.attributes) (section_text own ExtendedFlags x.extended_flags ++ section_text own FormerNames x.refactor_infos) (ending_text b),
-        append_assoc (section_text own ExtendedFlags x.extended_flags) (section_text own FormerNames x.refactor_infos) (ending_text b))
+    rw e simp (
+      append_assoc (section_text own Guid x.guid) (section_text own Attributes x.attributes ++ (section_text own ExtendedFlags x.extended_flags ++ section_text own FormerNames x.refactor_infos)) (ending_text b),
+      append_assoc (section_text own Attributes x.attributes) (section_text own ExtendedFlags x.extended_flags ++ section_text own FormerNames x.refactor_infos) (ending_text b),
+      append_assoc (section_text own ExtendedFlags x.extended_flags) (section_text own FormerNames x.refactor_infos) (ending_text b),
+    )
 
 complete : (own : List ℕ) (x : Reasons) → AreComplete x → reasons_text own x ≡ followed_by (codes "Nothing that is flagged or announced is missing.\n") own x
 complete own x (g, (a, (f, c))) = ended own x true (simp (is_shown x.guid g, is_shown x.attributes a, is_shown x.extended_flags f, is_shown x.refactor_infos c))
