@@ -86,12 +86,15 @@ static void print_type(const struct upload *upload, const uint64_t slots[VINDASK
         print_refusal("type", status, answer);
 }
 
+/* A path is given in UTF-8, and bound in Windows-1252, which takes no more bytes. */
 static bool print_address(const struct upload *symbols, const struct upload *types, const char *path)
 {
+    static uint8_t text[UINT16_MAX];
     uint64_t slots[VINDASKOT_ADDRESS_SLOTS], answer[VINDASKOT_FIGURES];
-    uint32_t status = vindaskot_bind_in(symbols->bytes, symbols->len, false, symbols->starts, symbols->count,
-                                        types->bytes, types->len, types->starts, types->count,
-                                        (const uint8_t *)path, strlen(path), slots, answer);
+    uint32_t status = vindaskot_encode((const uint8_t *)path, strlen(path), text, sizeof text, answer);
+    if (status == VINDASKOT_DONE)
+        status = vindaskot_bind_in(symbols->bytes, symbols->len, false, symbols->starts, symbols->count, types->bytes,
+                                   types->len, types->starts, types->count, text, (size_t)answer[0], slots, answer);
     if (status != VINDASKOT_DONE) {
         print_refusal(path, status, answer);
         return false;
@@ -100,7 +103,7 @@ static bool print_address(const struct upload *symbols, const struct upload *typ
     printf("%s: %u %s at group 0x%X, offset 0x%X", path, (unsigned)slots[VINDASKOT_ADDRESS_SIZE],
            is_in_bits ? "bits" : "bytes", (unsigned)slots[VINDASKOT_ADDRESS_GROUP],
            (unsigned)slots[VINDASKOT_ADDRESS_OFFSET]);
-    if (is_in_bits)
+    if (is_in_bits || slots[VINDASKOT_ADDRESS_BIT] != 0)
         printf(", bit %u", (unsigned)slots[VINDASKOT_ADDRESS_BIT]);
     print_type(slots[VINDASKOT_ADDRESS_UPLOAD] == 0 ? symbols : types, slots);
     return true;

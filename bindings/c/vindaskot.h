@@ -70,8 +70,8 @@
  *   12  bad hexadecimal line                            0, 0
  *   13  name not found                                  0, 0; of a path the place of the part in it, and 1 where no
  *                                                       member has its name, 2 where no data type has its type's
- *   14  no attribute, refactor, array or member of that  how many there are, number asked; of a subscript of a path
- *       number, or a subscript outside its bounds       the elements of its dimension, its place in the path
+ *   14  no attribute, refactor, array or member of      how many there are, number asked; of a subscript of a path
+ *       that number, or a subscript outside its bounds  the elements of its dimension, its place in the path
  *   15  data type entries nest too deep                 16, 17
  *   16  checked mode: an end byte is not 0              its place in the entry (in a record or a chain by itself, from
  *                                                       bytes[0] on), the byte

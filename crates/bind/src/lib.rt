@@ -21,9 +21,11 @@ use symbol::AdsSymbolInfo;
 use types::NamedTypes;
 
 /// An upload with the slots of its name index.
-#[derive(Clone, Copy)]
+#[derive(Clone, Copy, Debug)]
 pub struct Upload<'a> {
+    /// The entries, one behind another.
     pub bytes: &'a [u8],
+    /// The starts of its name index.
     pub slots: &'a [u32],
 }
 

@@ -8,7 +8,7 @@ ghost use Rattle.bind.specs.Reading.{behind, front, own_of, name_of, symbol_mark
 use data_type::SubItems;
 
 /// In which upload an entry starts, and where.
-#[derive(Clone, Copy, Debug)]
+#[derive(Clone, Copy, Debug, PartialEq, Eq)]
 pub enum Place {
     /// In the upload of symbols.
     Symbol(usize),
