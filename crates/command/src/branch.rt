@@ -2,7 +2,7 @@
 
 use branching::NoOrder;
 use host::failure::Failure;
-use lookup::{refused, windows_1252};
+use host::source::windows_1252;
 use report::{Tally, Upload};
 use std::alloc::Global;
 use std::fmt;
@@ -13,7 +13,7 @@ use wording::strings::Shown;
 
 fn unordered(alloc: Global, upload: &Upload<'_>, why: &NoOrder) -> Failure {
     match why {
-        NoOrder::Refused(why) => refused(alloc, upload, &InWords(why)),
+        NoOrder::Refused(why) => Failure::of_upload(alloc, upload, &InWords(why)),
         NoOrder::Memory => Failure::Memory,
     }
 }
@@ -70,7 +70,7 @@ fn write_some<W: Write>(
     out: &mut W,
 ) -> Result<(), Failure> {
     if starts.is_empty() {
-        return Err(refused(alloc, upload, &NoBranch(asked)));
+        return Err(Failure::of_upload(alloc, upload, &NoBranch(asked)));
     }
     write(upload, starts, as_json, out)?;
     Ok(())

@@ -1,6 +1,6 @@
 //! `compare`: which entries of two uploads differ.
 
-use crate::failure::Failure;
+use host::failure::Failure;
 use report::Upload;
 use std::alloc::Global;
 use std::io::Write;

@@ -1,7 +1,7 @@
 //! `why`: why the sections of one symbol are there or not.
 
 use host::failure::Failure;
-use lookup::{named, refused};
+use lookup::named;
 use report::Upload;
 use std::alloc::Global;
 use std::io::Write;
@@ -21,7 +21,7 @@ pub fn explain<W: Write>(
     let own = &from[..found.entry.length.min(from.len())];
     let reasons = match why::explain(own) {
         Ok(reasons) => reasons,
-        Err(why) => return Err(refused(alloc, upload, &InWords(&why))),
+        Err(why) => return Err(Failure::of_upload(alloc, upload, &InWords(&why))),
     };
     let (at, length) = (found.at, Bytes(own.len()));
     let name = OrNone(found.entry.name);

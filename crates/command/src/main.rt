@@ -7,12 +7,11 @@ mod explain;
 mod help;
 mod plain_form;
 mod salvaged;
-mod sheets;
 mod show;
 mod slots;
 
 use arguments::{Asked, Operands, Request, Run};
-use conversions::captured;
+use conversions::{captured, sheets};
 use host::failure::Failure;
 use host::{failure, source, written};
 use lookup::types;
@@ -170,7 +169,7 @@ fn bind_paths<W: Write>(
 ) -> Result<bool, Failure> {
     let types = source::read(rt, types, run.form, run.mode)?;
     let paths = paths.to_vec(rt.alloc())?;
-    binding::bind(
+    addresses::bind(
         rt.alloc(),
         upload,
         &types.upload(),

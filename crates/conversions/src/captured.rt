@@ -5,11 +5,10 @@ use host::failure::Failure;
 use host::source;
 use refusal::{Mode, Refusal};
 use report::Upload;
-use std::alloc::{AllocError, Global};
-use std::fs;
-use std::io::{ErrorKind, Read, Write};
+use std::alloc::Global;
+use std::io::Write;
 use upload::Form;
-use wording::{Grouped, InWords};
+use wording::Grouped;
 use writing::WriteError;
 
 /// Writes what is made of a file.
@@ -42,7 +41,7 @@ fn write_split<W: Write>(
 
 // The upload of all lines.
 fn write_joined<W: Write>(rt: &HostRuntime, file: &str, out: &mut W) -> Result<(), Failure> {
-    let text = text(rt, file)?;
+    let text = source::read_text(rt, file)?;
     let path = source::shown(file);
     check_lines(rt.alloc(), text.as_slice(), path)?;
     let upload = captures::join_to_vec(rt.alloc(), text.as_slice());
@@ -58,14 +57,14 @@ fn write<W: Write>(
     match made {
         Ok(bytes) => Ok(out.write_all(bytes.as_slice())?),
         Err(WriteError::OutOfMemory) => Err(Failure::Memory),
-        Err(WriteError::Refused(why)) => Err(Failure::of_refusal(refused(alloc, path, why))),
+        Err(WriteError::Refused(why)) => Err(Failure::refused(alloc, path, &why)),
     }
 }
 
 // The lines of each line's upload. Nothing is written where one is no digits; one whose upload is too large is refused behind the
 // lines of those before.
 fn write_each<W: Write>(rt: &HostRuntime, file: &str, out: &mut W) -> Result<(), Failure> {
-    let text = text(rt, file)?;
+    let text = source::read_text(rt, file)?;
     let path = source::shown(file);
     check_lines(rt.alloc(), text.as_slice(), path)?;
     for line in text.as_slice().split(|byte| *byte == b'\n') {
@@ -93,29 +92,4 @@ fn check_lines(alloc: Global, text: &[u8], path: &str) -> Result<(), Failure> {
         }
     }
     Ok(())
-}
-
-/// A refusal in words, behind the path of what was read.
-pub fn refused(alloc: Global, path: &str, why: Refusal) -> Result<String, AllocError> {
-    let why = InWords(&why);
-    format!(in alloc; "{path}: {why}")
-}
-
-/// All that a file holds: lines and sheets have no limit of their own.
-pub fn text(rt: &HostRuntime, path: &str) -> Result<Vec<u8>, Failure> {
-    let alloc = rt.alloc();
-    let mut text = Vec::new(alloc);
-    let read = if path == "-" {
-        rt.stdin().read_to_end(&mut text)
-    } else {
-        match fs::open(rt, path) {
-            Ok(mut file) => file.read_to_end(&mut text),
-            Err(why) => Err(why),
-        }
-    };
-    match read {
-        Ok(_) => Ok(text),
-        Err(why) if why.kind() == ErrorKind::OutOfMemory => Err(Failure::Memory),
-        Err(why) => Err(Failure::unreadable(alloc, source::shown(path), &why)),
-    }
 }

@@ -1,4 +1,5 @@
-//! What the command makes of a file: lines of an upload, and an upload of lines.
+//! What the command makes of a file: lines of an upload, a sheet of one, and an upload of either.
 #![tactic(auto)]
 
 pub mod captured;
+pub mod sheets;

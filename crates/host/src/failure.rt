@@ -4,9 +4,13 @@ ghost use Rattle.std.specs.Prelude.{◌≡◌};
 ghost use Rattle.host.specs.Status.{is_unread, failure_status, status_of};
 ghost use Rattle.host.specs.StatusMeant.{StatusMeant};
 
+use refusal::Refusal;
+use report::Upload;
 use std::alloc::{AllocError, Global};
+use std::fmt::Display;
 use std::io;
 use std::io::ErrorKind;
+use wording::InWords;
 
 /// A message in a sentence, by the status that it ends with.
 #[derive(Drop)]
@@ -50,7 +54,18 @@ impl Failure {
         }
     }
 
-    /// What is wrong with a file, likewise.
+    /// A refusal of what was read from a path.
+    pub fn refused(alloc: Global, path: &str, why: &Refusal) -> Self {
+        let why = InWords(why);
+        Failure::of_refusal(format!(in alloc; "{path}: {why}"))
+    }
+
+    /// What was refused or not found of an upload, with what it was read as: a wrong guess is the first thing to rule out.
+    pub fn of_upload<D: Display>(alloc: Global, upload: &Upload<'_>, why: &D) -> Self {
+        Failure::of_refusal(format!(in alloc; "{upload}: {why}"))
+    }
+
+    /// What is wrong with a file, unless there was no memory for the words.
     pub fn of_file(words: Result<String, AllocError>) -> Self {
         match words {
             Ok(words) => Failure::File(words),

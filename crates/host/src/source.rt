@@ -1,12 +1,14 @@
-//! The file that is read, or standard input.
+//! What is read: a file or standard input, and words of the command line.
 
 use crate::failure::Failure;
 use refusal::Mode;
 use report::Upload;
+use std::alloc::Global;
 use std::fmt::{Display, Formatter};
+use std::io::{ErrorKind, Read};
 use std::{fmt, fs};
 use upload::{Fault, Form, ReadError, Taken};
-use wording::{Bytes, Grouped};
+use wording::{Bytes, Grouped, InWords};
 
 /// An upload that was read.
 #[derive(Drop)]
@@ -56,6 +58,42 @@ pub fn read<'a>(
         Err(ReadError::Refused(fault)) => {
             let why = Why(fault);
             Err(Failure::of_refusal(format!(in alloc; "{path}: {why}")))
+        }
+    }
+}
+
+/// All that a file holds, or standard input: lines and sheets have no limit of their own.
+pub fn read_text(rt: &HostRuntime, path: &str) -> Result<Vec<u8>, Failure> {
+    let alloc = rt.alloc();
+    let mut text = Vec::new(alloc);
+    let read = if path == "-" {
+        rt.stdin().read_to_end(&mut text)
+    } else {
+        match fs::open(rt, path) {
+            Ok(mut file) => file.read_to_end(&mut text),
+            Err(why) => Err(why),
+        }
+    };
+    match read {
+        Ok(_) => Ok(text),
+        Err(why) if why.kind() == ErrorKind::OutOfMemory => Err(Failure::Memory),
+        Err(why) => Err(Failure::unreadable(alloc, shown(path), &why)),
+    }
+}
+
+/// A word of the command line as an upload would have it.
+pub fn windows_1252(alloc: Global, word: &str) -> Result<Vec<u8>, Failure> {
+    let mut bytes = vec![in alloc; 0u8; word.len()]?;
+    match text::encode(word.as_bytes(), bytes.as_mut_slice()) {
+        Ok(length) => {
+            bytes.truncate(length);
+            Ok(bytes)
+        }
+        Err(why) => {
+            let why = InWords(&why);
+            Err(Failure::of_refusal(format!(in alloc;
+                "{word}: {why}; a name is asked for in UTF-8 and looked up in Windows-1252"
+            )))
         }
     }
 }

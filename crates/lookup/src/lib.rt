@@ -5,6 +5,7 @@ pub mod types;
 
 use finding::Found;
 use host::failure::Failure;
+use host::source::windows_1252;
 use refusal::{Mode, Refusal};
 use report::Upload;
 use std::alloc::Global;
@@ -15,28 +16,6 @@ use symbol::{AdsSymbolInfo, Symbols};
 use walk::Entry;
 use wording::InWords;
 use wording::strings::{Exact, Shown};
-
-/// A failure about an upload, with what it was read as: a wrong guess is the first thing to rule out.
-pub fn refused<D: Display>(alloc: Global, upload: &Upload<'_>, why: &D) -> Failure {
-    Failure::of_refusal(format!(in alloc; "{upload}: {why}"))
-}
-
-/// An argument as an upload would have it.
-pub fn windows_1252(alloc: Global, argument: &str) -> Result<Vec<u8>, Failure> {
-    let mut bytes = vec![in alloc; 0u8; argument.len()]?;
-    match text::encode(argument.as_bytes(), bytes.as_mut_slice()) {
-        Ok(length) => {
-            bytes.truncate(length);
-            Ok(bytes)
-        }
-        Err(why) => {
-            let why = InWords(&why);
-            Err(Failure::of_refusal(format!(in alloc;
-                "{argument}: {why}; a name is asked for in UTF-8 and looked up in Windows-1252"
-            )))
-        }
-    }
-}
 
 /// The first symbol of a name.
 pub fn named<'a>(
@@ -49,7 +28,7 @@ pub fn named<'a>(
     match finding::named::<AdsSymbolInfo>(upload, asked) {
         Ok(found) => Ok(found),
         Err(Refusal::NameNotFound) => no_symbol(alloc, upload, asked),
-        Err(why) => Err(refused(alloc, upload, &InWords(&why))),
+        Err(why) => Err(Failure::of_upload(alloc, upload, &InWords(&why))),
     }
 }
 
@@ -89,7 +68,7 @@ fn no_attribute(
     asked: &[u8],
 ) -> Result<(), Failure> {
     let why = NoAttribute { symbol, asked };
-    Err(refused(alloc, upload, &why))
+    Err(Failure::of_upload(alloc, upload, &why))
 }
 
 // That a symbol has no attribute of a name, and which it has.
@@ -207,7 +186,7 @@ fn no_symbol<'a>(
         asked,
         why: not_found(alloc, upload, asked)?,
     };
-    Err(refused(alloc, upload, &why))
+    Err(Failure::of_upload(alloc, upload, &why))
 }
 
 // Why no symbol has a name: one that has it was refused in the checked mode, or one is alike.

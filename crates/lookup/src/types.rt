@@ -1,6 +1,6 @@
 //! `type`: data types with their members.
 
-use crate::{NotFound, Unfound, is_alike, refused, small, windows_1252};
+use crate::{NotFound, Unfound, is_alike, small};
 use data_type::{AdsDataTypeInfo, DataTypes};
 use field::AdsFieldInfo;
 use host::failure::Failure;
@@ -54,7 +54,7 @@ fn named<'a>(alloc: Global, upload: &Upload<'a>, name: &str) -> Result<Node<'a>,
     match finding::named::<AdsDataTypeInfo>(upload, asked) {
         Ok(found) => Ok(Node::root(found.at, found.entry)),
         Err(Refusal::NameNotFound) => no_type(alloc, upload, asked),
-        Err(why) => Err(refused(alloc, upload, &InWords(&why))),
+        Err(why) => Err(Failure::of_upload(alloc, upload, &InWords(&why))),
     }
 }
 
@@ -64,7 +64,7 @@ fn no_type<'a>(alloc: Global, upload: &Upload<'a>, asked: &[u8]) -> Result<Node<
         asked,
         why: not_found(alloc, upload, asked)?,
     };
-    Err(refused(alloc, upload, &why))
+    Err(Failure::of_upload(alloc, upload, &why))
 }
 
 // Why no data type has a name: one that has it was refused, for whatever of its members, or one is alike.

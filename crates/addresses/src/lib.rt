@@ -5,7 +5,7 @@ use bind_report::table::Columns;
 use bind_report::{Bound, json};
 use data_type::AdsDataTypeInfo;
 use host::failure::Failure;
-use lookup::{refused, windows_1252};
+use host::source::windows_1252;
 use named::Named;
 use report::Upload;
 use std::alloc::{AllocError, Global};
@@ -17,7 +17,7 @@ use wording::InWords;
 fn by_name<'a, E: Named<'a>>(alloc: Global, upload: &Upload<'a>) -> Result<Vec<u32>, Failure> {
     match ordered::<E>(alloc, upload)? {
         Ok(starts) => Ok(starts),
-        Err(why) => Err(refused(alloc, upload, &InWords(&why))),
+        Err(why) => Err(Failure::of_upload(alloc, upload, &InWords(&why))),
     }
 }
 
