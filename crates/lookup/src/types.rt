@@ -4,6 +4,7 @@ use crate::{NotFound, Unfound, is_alike, small};
 use data_type::{AdsDataTypeInfo, DataTypes};
 use field::AdsFieldInfo;
 use host::failure::Failure;
+use host::source::windows_1252;
 use refusal::{Mode, Refusal};
 use report::Upload;
 use std::alloc::Global;
