@@ -3,3 +3,4 @@ pub mod Lines
 pub mod Silent
 pub mod TableWords
 pub mod Wide
+pub mod Sample

@@ -2,6 +2,7 @@
 #![tactic(auto)]
 
 ghost use Rattle.comparison.specs.Meant.{CountsMeant, JsonMeant, TextsMeant};
+ghost use Rattle.comparison.specs.Sample.{ReportMeant};
 ghost use Rattle.comparison.specs.TableMeant.{TableMeant};
 
 /// Each number of the last line is how many rows there are of what it tells.
@@ -23,4 +24,10 @@ pub fn json_meant()
 /// every line fill their columns, that of a name one of 60 characters at most, so the columns begin at the same character in every line.
 pub fn table_meant()
     ensures { TableMeant }
+{}
+
+/// Of two uploads all that is written, in both forms, character by character: of an entry that differs, of one that each has alone, and
+/// of two that start later in B by as many bytes, which is told once.
+pub fn report_meant()
+    ensures { ReportMeant }
 {}
