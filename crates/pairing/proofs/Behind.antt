@@ -50,9 +50,10 @@ module _ (ps qs : List Piece) where
   told_on ys k [] l before = tt
   told_on ys k (m ∷ xs) l before =
       let g = got ps k (omega (arith, l)) in
-      let rest : List Pair = flat_map (λ x. told_one ys x.0 x.1) (enumerate_from (k + 1) xs) in
-      (subst (λ (o : Option Piece). IsInPlace qs (row_before before) o (piece_numbered qs m)) (sym g.is) tt,
-      behind_on ys k m rest (told_on ys (k + 1) xs (omega (arith, l))))
+      let rest : List Pair = flat_map (λ x. told_one ys x.0 x.1) (enumerate_from (k + 1) xs) in (
+        subst (λ (o : Option Piece). IsInPlace qs (row_before before) o (piece_numbered qs m)) (sym g.is) tt,
+        behind_on ys k m rest (told_on ys (k + 1) xs (omega (arith, l))),
+      )
 
   abbrev p : Partners
   p = partners_of ps qs
