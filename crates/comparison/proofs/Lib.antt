@@ -4,3 +4,4 @@ pub mod Silent
 pub mod TableWords
 pub mod Wide
 pub mod Sample
+pub mod Untold

@@ -20,8 +20,9 @@ pub fn json_meant()
     ensures { JsonMeant }
 {}
 
-/// The lines of the table word for word, with every number another; where every entry stays there is no table; and in one the cells of
-/// every line fill their columns, that of a name one of 60 characters at most, so the columns begin at the same character in every line.
+/// The lines of the table word for word, with every number another; there is no table exactly where every entry stays, of entries within the
+/// limit; and in one the headings and the cells of every line fill their columns, a name that is shown in 60 characters at most among them,
+/// so the columns begin at the same character in every line. That of the names is no wider than 60 characters.
 pub fn table_meant()
     ensures { TableMeant }
 {}
