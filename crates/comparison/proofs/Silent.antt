@@ -38,7 +38,7 @@ some_move : (m : Moved) → moved_line (Some m) ≡ [] → ⊥
 unfolding moved_line
 some_move m h = cc
 
-none_of : (xs ys : List ℕ) → xs ++ ys ≡ [] → (xs ≡ []) × (ys ≡ [])
+pub none_of : (xs ys : List ℕ) → xs ++ ys ≡ [] → (xs ≡ []) × (ys ≡ [])
 none_of [] ys h = (refl, h)
 none_of (x ∷ xs) ys h = absurd (full x (xs ++ ys) h)
   where

@@ -6,3 +6,4 @@ pub mod Meant
 pub mod Table
 pub mod TableMeant
 pub mod Report
+pub mod Sample

@@ -2,6 +2,7 @@
 #![tactic(auto)]
 
 ghost use Rattle.comparison.specs.Meant.{CountsMeant, JsonMeant, TextsMeant};
+ghost use Rattle.comparison.specs.Sample.{ReportMeant};
 ghost use Rattle.comparison.specs.TableMeant.{TableMeant};
 
 /// Each number of the last line is how many rows there are of what it tells.
@@ -19,8 +20,15 @@ pub fn json_meant()
     ensures { JsonMeant }
 {}
 
-/// The lines of the table word for word, with every number another; where every entry stays there is no table; and in one the cells of
-/// every line fill their columns, that of a name one of 60 characters at most, so the columns begin at the same character in every line.
+/// The lines of the table word for word, with every number another; there is no table exactly where every entry stays, of entries within the
+/// limit; and in one the headings and the cells of every line fill their columns, a name that is shown in 60 characters at most among them,
+/// so the columns begin at the same character in every line. That of the names is no wider than 60 characters.
 pub fn table_meant()
     ensures { TableMeant }
+{}
+
+/// Of two uploads all that is written, in both forms, character by character: of an entry that differs, of one that each has alone, and
+/// of two that start later in B by as many bytes, which is told once.
+pub fn report_meant()
+    ensures { ReportMeant }
 {}

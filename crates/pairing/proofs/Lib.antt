@@ -13,3 +13,4 @@ pub mod Places
 pub mod Near
 pub mod First
 pub mod Rules
+pub mod Behind

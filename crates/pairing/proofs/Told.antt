@@ -25,6 +25,7 @@ use Rattle.pairing.specs.Rows.{piece_numbered, row_of, rows_of}
 use Rattle.pairing.specs.Told.{IsNamedAlike, named, refused, IsOneEntry, alike, placed, as_long as long_entry, IsRow, AreRows, AreNamed, AreApart, RowsMeant, IsPlacedAlike}
 use Rattle.pairing.proofs.Lists.{drop_step, drop_next, set_either, got, got_none}
 use Rattle.pairing.proofs.Kept.{all_kept, joined_kept, rule_by, Mutual, mutual_none, rule_mutual, Keeps, rule_keeps, near_keeps, both_ways, nobody_there}
+use Rattle.pairing.proofs.Behind.{in_its_place}
 use Rattle.pairing.proofs.Once.{ours, theirs}
 use Rattle.pairing.proofs.Apart.{by_names, left_apart}
 
@@ -338,4 +339,4 @@ module _ (ps qs : List Piece) where
       ]
 
 pub rows_meant : RowsMeant
-rows_meant = record { ours = ours; theirs = theirs; each = each; apart = apart }
+rows_meant = record { ours = ours; theirs = theirs; each = each; apart = apart; in_place = in_its_place }

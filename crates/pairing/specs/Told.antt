@@ -1,5 +1,5 @@
 -- docs/FORMAT.md, "The command's text", of `compare`: every piece is told once, and what is told together is one entry.
-use Rattle.std.specs.Prelude.{ℕ, ◌≡◌, ◌⊎◌, true, List, [], ◌∷◌, Option, Some, None, Ok, Err, length, slice_get, is_err}
+use Rattle.std.specs.Prelude.{ℕ, ◌+◌, ◌≡◌, ◌⊎◌, true, List, [], ◌∷◌, Option, Some, None, Ok, Err, length, slice_get, is_err}
 use Rattle.std.specs.Borrow.{Bor}
 use Rattle.std.specs.List.{filter_map}
 use Rattle.std.specs.List.Sorted.{IsPermutation}
@@ -49,9 +49,31 @@ abbrev pub AreApart : List Row → Type 0
 AreApart rows = (m n : ℕ) (r s : Row) (p q : Piece) → slice_get rows m ≡ Some r → slice_get rows n ≡ Some s
     → r.a ≡ Some p → s.b ≡ Some q → IsNamedAlike p q → AreNamed r.a r.b ⊎ AreNamed s.a s.b
 
--- A's pieces in their order, each once; B's, each once; and nothing else
+-- right behind another
+pub record IsRightBehind (qs : List Piece) (before q : Piece) : Type 0 where
+  pub number : ℕ
+  pub is : slice_get qs number ≡ Some before
+  pub next : slice_get qs (number + 1) ≡ Some q
+
+abbrev pub IsBehindIn : List Piece → Option Piece → Piece → Type 0
+IsBehindIn qs None q = ⊥
+IsBehindIn qs (Some before) q = IsRightBehind qs before q
+
+-- what B has alone is its first where no row stands before, else the next behind what the row before has of B
+abbrev pub IsInPlace : List Piece → Option Row → Option Piece → Option Piece → Type 0
+IsInPlace qs before (Some p) q = Unit {0}
+IsInPlace qs before None None = Unit {0}
+IsInPlace qs None None (Some q) = slice_get qs 0 ≡ Some q
+IsInPlace qs (Some r) None (Some q) = IsBehindIn qs r.b q
+
+abbrev pub AreInPlace : List Piece → Option Row → List Row → Type 0
+AreInPlace qs before [] = Unit {0}
+AreInPlace qs before (r ∷ rows) = IsInPlace qs before r.a r.b × AreInPlace qs (Some r) rows
+
+-- A's pieces in their order, each once; B's, each once, what it has alone behind what stands before it in B; and nothing else
 pub record RowsMeant : Type 0 where
   pub ours : (ps qs : List Piece) → filter_map (λ r. r.a) (rows_of ps qs) ≡ ps
   pub theirs : (ps qs : List Piece) → IsPermutation qs (filter_map (λ r. r.b) (rows_of ps qs))
   pub each : (ps qs : List Piece) → AreRows (rows_of ps qs)
   pub apart : (ps qs : List Piece) → AreApart (rows_of ps qs)
+  pub in_place : (ps qs : List Piece) → AreInPlace qs None (rows_of ps qs)

@@ -5,7 +5,7 @@ ghost use Rattle.pairing.specs.Alike.{AlikeMeant};
 ghost use Rattle.pairing.specs.Rules.{RulesMeant};
 ghost use Rattle.pairing.specs.Told.{RowsMeant};
 
-/// In the rows every piece of A stands once, in A's order, and every piece of B once; and where both stand in a row they are one entry: of one name letter by letter, in any case; refused, in the same bytes; at one place, and as long or one of them refused; or as long. Names go before places: of an entry of A and one of B that are named alike, one at least is told with one named like it, so no name is left over in both.
+/// In the rows every piece of A stands once, in A's order, and every piece of B once; what B has alone stands right behind what stands before it in B, its first before all else; and where both stand in a row they are one entry: of one name letter by letter, in any case; refused, in the same bytes; at one place, and as long or one of them refused; or as long. Names go before places: of an entry of A and one of B that are named alike, one at least is told with one named like it, so no name is left over in both.
 pub fn rows_meant()
     ensures { RowsMeant }
 {}
