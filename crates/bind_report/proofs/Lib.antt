@@ -1,3 +1,4 @@
+pub mod Left
 pub mod Widths
 pub mod Meaning
 pub mod Lines

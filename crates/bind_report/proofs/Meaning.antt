@@ -4,7 +4,7 @@ use Rattle.std.specs.Prelude.{Option, Some, None, nat_lt}
 use Rattle.std.specs.Fmt.{digits}
 use Rattle.std.specs.List.{All, position_or_len}
 use Rattle.std.proofs.Math.Seq.{drop-append-add}
-use borrow.Author.Tests.{lt-ltb, le-ltb, ne_eqb}
+use borrow.Author.Tests.{lt-ltb, le-ltb}
 use native.Mathlib.Nat.{add-zero}
 use Rattle.part.specs.Slice.{part}
 use Rattle.refusal.specs.Refusal.{figures_of}

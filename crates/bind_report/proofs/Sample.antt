@@ -14,4 +14,4 @@ use Rattle.bind_report.specs.Sample.{PathsSampled}
 
 pub paths_sampled : PathsSampled
 unfolding digits code_point lib.Utf8.encode quoted shown shown_width widths_on grouped_by grouped many bytes figure refusal_text hexadecimal_cell name_cell reason_text part_from json.numbers_text json.entry_text json.address_text figures_text json.refused_text json_line offset_text size_text table.entry_text widths_of widest fitted fitted_on headings_text offset_cell size_cell table.numbers_text table.address_text table.refused_text line_text
-paths_sampled = record { as_json = λ there. refl; as_table = λ there. refl }
+paths_sampled = record { as_json = λ there. refl; as_table = λ there. refl; refused = λ there. refl; bound = λ there. refl }

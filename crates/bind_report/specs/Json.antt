@@ -1,5 +1,6 @@
 -- docs/FORMAT.md, "The command's text": what stands in JSON of a path, a line each.
 use Rattle.std.specs.Prelude.{ℕ, List, ◌++◌, codes, decimal, Option, Some, None, Result, Ok, Err, if◌then◌else◌}
+use Rattle.std.specs.List.{flat_map}
 use Rattle.std.specs.Borrow.{Bor}
 use Rattle.refusal.specs.Refusal.{figures_of}
 use Rattle.refusal.specs.declared.Refusal.{Refusal}
@@ -54,3 +55,7 @@ answer_by path (Err why) = refused_text path why
 
 unfoldable pub json_line : Bound → List ℕ
 json_line b = codes "{\"path\":" ++ (quoted b.path.now ++ (codes "," ++ (answer_by b.path b.answer ++ codes "}\n")))
+
+-- of several paths, in their order
+abbrev pub lines_text : List Bound → List ℕ
+lines_text bs = flat_map json_line bs

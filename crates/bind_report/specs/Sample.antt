@@ -1,6 +1,5 @@
 -- docs/FORMAT.md, "The command's text": six paths, of whose addresses every number is another, and what is written of them.
-use Rattle.std.specs.Prelude.{ℕ, ◌≡◌, Bool, true, false, List, [], ◌∷◌, ◌++◌, codes, Result, Ok, Err}
-use Rattle.std.specs.List.{flat_map}
+use Rattle.std.specs.Prelude.{ℕ, ◌≡◌, Bool, true, false, List, [], ◌∷◌, ◌++◌, codes, take, Result, Ok, Err}
 use Rattle.std.specs.Borrow.{Bor}
 use Rattle.refusal.specs.declared.Refusal.{Refusal}
 use Rattle.refusal.specs.declared.Refusal.TheVariants.{NameNotFound, NoSuchNumber, BadPath}
@@ -8,8 +7,9 @@ use Rattle.bind.specs.declared.Address.{Address}
 use Rattle.bind.specs.declared.reading.Place.{Place}
 use Rattle.bind.specs.declared.reading.Place.TheVariants.{Symbol, DataType}
 use Rattle.bind_report.specs.declared.Bound.{Bound}
-use Rattle.bind_report.specs.Json.{json_line}
-use Rattle.bind_report.specs.Table.{columns_of, headings_text, line_text}
+use Rattle.bind_report.specs.Json.{lines_text}
+use Rattle.bind_report.specs.Table.{table_text}
+use Rattle.bind_report.specs.Words.{are_all_bound}
 
 -- bytes that lie anywhere
 abbrev lying : ℕ × ℕ → List ℕ → Bor (List ℕ)
@@ -54,5 +54,7 @@ table =
     ++ codes "\\x1BZ            refusal 13, name not found\n")))))
 
 pub record PathsSampled : Type 0 where
-  pub as_json : (there : ℕ × ℕ) → flat_map json_line (sample there) ≡ lines
-  pub as_table : (there : ℕ × ℕ) → headings_text (columns_of (sample there)) ++ (codes "\n" ++ flat_map (line_text (columns_of (sample there))) (sample there)) ≡ table
+  pub as_json : (there : ℕ × ℕ) → lines_text (sample there) ≡ lines
+  pub as_table : (there : ℕ × ℕ) → table_text (sample there) ≡ table
+  pub refused : (there : ℕ × ℕ) → are_all_bound (sample there) ≡ false
+  pub bound : (there : ℕ × ℕ) → are_all_bound (take 3 (sample there)) ≡ true

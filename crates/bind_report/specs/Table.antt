@@ -1,5 +1,6 @@
 -- docs/FORMAT.md, "The command's text": the table of addresses, a line a path.
 use Rattle.std.specs.Prelude.{ℕ, ◌==◌, ◌||◌, max, nat_lt, Bool, List, [], ◌∷◌, ◌++◌, codes, decimal, length, Option, Some, None, Result, Ok, Err, if◌then◌else◌}
+use Rattle.std.specs.List.{flat_map}
 use Rattle.std.specs.Borrow.{Bor}
 use Rattle.refusal.specs.declared.Refusal.{Refusal}
 use Rattle.wording.specs.Text.{shown, shown_width}
@@ -102,3 +103,7 @@ answer_by c path (Err why) = refused_text path why
 
 unfoldable pub line_text : Columns → Bound → List ℕ
 line_text c b = name_cell c.path b.path.now ++ (codes "  " ++ (answer_by c b.path b.answer ++ codes "\n"))
+
+-- of several paths, in their order, below the headings
+abbrev pub table_text : List Bound → List ℕ
+table_text bs = (headings_text (columns_of bs) ++ codes "\n") ++ flat_map (line_text (columns_of bs)) bs

@@ -1,11 +1,12 @@
 -- docs/FORMAT.md, "The command's text" and "Refusals": why a path has no address, in words, and which part of it was refused.
-use Rattle.std.specs.Prelude.{ℕ, ◌==◌, ◌||◌, nat_lt, Bool, List, ◌++◌, codes, length, drop, Option, Some, None, if◌then◌else◌}
-use Rattle.std.specs.List.{position_or_len}
+use Rattle.std.specs.Prelude.{ℕ, ◌==◌, ◌||◌, nat_lt, Bool, List, ◌++◌, codes, length, drop, Option, Some, None, is_ok, if◌then◌else◌}
+use Rattle.std.specs.List.{list_all, position_or_len}
 use Rattle.std.specs.Borrow.{Bor}
 use Rattle.part.specs.Slice.{part}
 use Rattle.refusal.specs.declared.Refusal.{Refusal}
 use Rattle.refusal.specs.declared.Refusal.TheVariants.{NoSuchNumber, BadPath, NoSuchMember, NoSuchType, WrongDimensions, NoOffset, TooManyAliases}
 use Rattle.wording.specs.Wording.{grouped, refusal_text}
+use Rattle.bind_report.specs.declared.Bound.{Bound}
 
 -- the second figure of 14 is a place here, and not what was asked for
 unfoldable pub reason_text : Refusal → List ℕ
@@ -38,3 +39,7 @@ part_at path (Some place) = part_from path place
 
 abbrev pub refused_part : Bor (List ℕ) → Refusal → Option (Bor (List ℕ))
 refused_part path why = part_at path (place_of why)
+
+-- none was refused
+abbrev pub are_all_bound : List Bound → Bool
+are_all_bound bs = list_all (λ (b : Bound). is_ok b.answer) bs

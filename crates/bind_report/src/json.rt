@@ -2,7 +2,7 @@
 
 ghost use Rattle.std.specs.Prelude.{◌≡◌, OnOk, Some};
 ghost use Rattle.std.specs.Io.KnownBytes.{Appends};
-ghost use Rattle.bind_report.specs.Json.{upload_word, place_there, numbers_text, entry_text, address_text, part_text, figures_text, refused_text, answer_by, json_line};
+ghost use Rattle.bind_report.specs.Json.{upload_word, place_there, numbers_text, entry_text, address_text, part_text, figures_text, refused_text, answer_by, json_line, lines_text};
 
 use crate::{Bound, Reason, refused_part};
 use bind::Address;
@@ -144,12 +144,22 @@ impl fmt::Display for AnswerMembers<'_> {
     }
 }
 
-/// Writes the line of a path.
+// The line of a path.
 #[tactic(auto, unfolding(crate::specs::Json::json_line))]
-pub fn write_line<W: Write>(bound: &Bound<'_>, out: &mut W) -> io::Result<()>
+fn write_line<W: Write>(bound: &Bound<'_>, out: &mut W) -> io::Result<()>
     ensures { OnOk result (Appends (W.contents out.old) (W.contents out.new) (json_line bound.now)) }
 {
     let path = Quoted(bound.path);
     let answer = AnswerMembers(bound);
     writeln!(out, "{{\"path\":{path},{answer}}}")
+}
+
+/// Writes a line for each of some paths, in their order.
+pub fn write_lines<W: Write>(bounds: &[Bound<'_>], out: &mut W) -> io::Result<()>
+    ensures { OnOk result (Appends (W.contents out.old) (W.contents out.new) (lines_text bounds.now)) }
+{
+    for bound in bounds {
+        write_line(bound, out)?;
+    }
+    Ok(())
 }

@@ -2,11 +2,11 @@
 #![tactic(auto)]
 
 ghost use Rattle.std.specs.Prelude.{◌≡◌, ◌≤◌, Some, length};
-ghost use Rattle.std.specs.List.{position_or_len};
+ghost use Rattle.std.specs.List.{list_all, position_or_len};
 ghost use Rattle.bind_report.specs.Aligned.{AddressTablesMeant};
 ghost use Rattle.bind_report.specs.Meant.{PathLinesMeant, PartsMeant, ReasonsMeant};
 ghost use Rattle.bind_report.specs.Sample.{PathsSampled};
-ghost use Rattle.bind_report.specs.Words.{reason_text, place_of, ends_part, part_from, part_at, refused_part};
+ghost use Rattle.bind_report.specs.Words.{reason_text, place_of, ends_part, part_from, part_at, refused_part, are_all_bound};
 
 pub mod json;
 pub mod table;
@@ -23,6 +23,18 @@ pub struct Bound<'a> {
     pub path: &'a [u8],
     /// Its address, or why it has none.
     pub answer: Result<Address<'a>, Refusal>,
+}
+
+/// Whether none of some paths was refused.
+pub fn are_all_bound(bounds: &[Bound<'_>]) -> bool
+    ensures { result ≡ are_all_bound bounds.now }
+{
+    for bound in bounds {
+        if bound.answer.is_err() {
+            return false;
+        }
+    }
+    true
 }
 
 /// Why a path has no address, in words. The second figure of 14 is a place here, and not what was asked for.

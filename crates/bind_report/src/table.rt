@@ -1,9 +1,10 @@
 //! `bind`: a table of addresses (docs/FORMAT.md, "The command's text").
 
 ghost use Rattle.std.specs.Prelude.{◌≡◌, ◌≤◌, ◌++◌, OnOk, Some, codes, decimal, length};
+ghost use Rattle.std.specs.List.{flat_map};
 ghost use Rattle.std.specs.Io.KnownBytes.{Appends};
 ghost use Rattle.report.specs.Cells.{hexadecimal};
-ghost use Rattle.bind_report.specs.Table.{tells_bit, bit_text, unit_text, offset_text, size_text, entry_text, headings, widths_of, widest, fitted, headings_text, offset_cell, size_cell, numbers_text, address_text, part_text, refused_text, answer_by, line_text};
+ghost use Rattle.bind_report.specs.Table.{tells_bit, bit_text, unit_text, offset_text, size_text, entry_text, headings, widths_of, widest, fitted, headings_text, offset_cell, size_cell, numbers_text, address_text, part_text, refused_text, answer_by, line_text, columns_of, table_text};
 
 use crate::json::{place_there, upload_word};
 use crate::{Bound, Reason, refused_part};
@@ -15,9 +16,9 @@ use std::io::Write;
 use std::{fmt, io};
 use wording::strings::{Shown, Spaces, shown_width};
 
-/// How wide the columns of a table are, in characters: as the widest of their headings and of the cells that are to stand in them.
+// How wide the columns of a table are, in characters: as the widest of their headings and of the cells that are to stand in them.
 #[derive(Clone, Copy, Debug)]
-pub struct Columns {
+struct Columns {
     path: usize,
     group: usize,
     offset: usize,
@@ -85,8 +86,8 @@ fn size_width(address: &Address<'_>) -> usize
 }
 
 impl Columns {
-    /// For the headings alone.
-    pub fn new() -> Self
+    // For the headings alone.
+    fn new() -> Self
         ensures { result ≡ headings }
     {
         Columns {
@@ -126,9 +127,9 @@ impl Columns {
         }
     }
 
-    /// Wide enough for one more line.
+    // Wide enough for one more line.
     #[tactic(auto, unfolding(crate::specs::Table::fitted))]
-    pub fn fit(&mut self, bound: &Bound<'_>)
+    fn fit(&mut self, bound: &Bound<'_>)
         ensures { self.new ≡ fitted self.old bound.now }
     {
         match &bound.answer {
@@ -137,17 +138,17 @@ impl Columns {
         }
     }
 
-    /// Writes the line of headings. Numbers stand at the right of their columns.
-    pub fn write_headings<W: Write>(&self, out: &mut W) -> io::Result<()>
+    // The line of headings. Numbers stand at the right of their columns.
+    fn write_headings<W: Write>(&self, out: &mut W) -> io::Result<()>
         ensures { OnOk result (Appends (W.contents out.old) (W.contents out.new) (headings_text self.now ++ codes "\n")) }
     {
         let headings = Headings(*self);
         writeln!(out, "{headings}")
     }
 
-    /// Writes the line of a path: its address, or why it has none.
+    // The line of a path: its address, or why it has none.
     #[tactic(auto, unfolding(crate::specs::Table::line_text))]
-    pub fn write_line<W: Write>(&self, bound: &Bound<'_>, out: &mut W) -> io::Result<()>
+    fn write_line<W: Write>(&self, bound: &Bound<'_>, out: &mut W) -> io::Result<()>
         ensures { OnOk result (Appends (W.contents out.old) (W.contents out.new) (line_text self.now bound.now)) }
     {
         let path = Name {
@@ -160,6 +161,36 @@ impl Columns {
         };
         writeln!(out, "{path}  {answer}")
     }
+
+    fn write_lines<W: Write>(&self, bounds: &[Bound<'_>], out: &mut W) -> io::Result<()>
+        ensures { OnOk result (Appends (W.contents out.old) (W.contents out.new) (flat_map (line_text self.now) bounds.now)) }
+    {
+        for bound in bounds {
+            self.write_line(bound, out)?;
+        }
+        Ok(())
+    }
+}
+
+// As wide as some paths need them.
+#[tactic(auto, unfolding(crate::specs::Table::fitted_on))]
+fn columns_of(bounds: &[Bound<'_>]) -> Columns
+    ensures { result ≡ columns_of bounds.now }
+{
+    let mut columns = Columns::new();
+    for bound in bounds {
+        columns.fit(bound);
+    }
+    columns
+}
+
+/// Writes the table of some paths: the headings, and a line for each, in their order, in columns that are as wide as all of them need.
+pub fn write<W: Write>(bounds: &[Bound<'_>], out: &mut W) -> io::Result<()>
+    ensures { OnOk result (Appends (W.contents out.old) (W.contents out.new) (table_text bounds.now)) }
+{
+    let columns = columns_of(bounds);
+    columns.write_headings(out)?;
+    columns.write_lines(bounds, out)
 }
 
 #[derive(Clone, Copy)]

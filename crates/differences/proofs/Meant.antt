@@ -17,7 +17,7 @@ use Rattle.values.proofs.Same.{alike_refused, refused_alike}
 use Rattle.differences.specs.declared.Entry.{Entry}
 use Rattle.differences.specs.First.{first_byte}
 use Rattle.differences.specs.Differences.{differences_by, differences_of, in_symbols}
-use Rattle.differences.specs.Meant.{AreBytes, AreRefused, Differ, DifferencesMeant, IsRead, IsRefusalTold}
+use Rattle.differences.specs.Meant.{AreBytes, AreRefused, Differ, DifferencesMeant, IsRead, IsRefusalTold, IsWithin}
 use Rattle.differences.specs.Meant as meant
 use Rattle.differences.proofs.Ascending.{sections_ascend}
 use Rattle.differences.proofs.Differing.{Fit, differing}
@@ -43,12 +43,12 @@ symbols : (e f : Bor (List ℕ)) (r s : AdsSymbolInfo) → length e.now ≤ limi
 unfolding in_symbols
 symbols e f r s l m = differing r s (sections_of e r) (sections_of f s) (sections_ascend e r) (fits e r l) (sections_ascend f s) (fits f s m)
 
-accepted : (mode : Mode) (e f : Entry) (r s : AdsSymbolInfo) → IsRead mode e → IsRead mode f → e.answer ≡ Ok r → f.answer ≡ Ok s
+accepted : (e f : Entry) (r s : AdsSymbolInfo) → IsWithin e → IsWithin f → e.answer ≡ Ok r → f.answer ≡ Ok s
     → Differ r s (sections_of e.bytes r) (sections_of f.bytes s) (differences_of e f)
-accepted mode e f r s i j p q =
+accepted e f r s l m p q =
     subst (λ (a : Result AdsSymbolInfo Refusal). Differ r s (sections_of e.bytes r) (sections_of f.bytes s) (differences_by e.bytes a f.bytes f.answer)) (sym p)
     (subst (λ (a : Result AdsSymbolInfo Refusal). Differ r s (sections_of e.bytes r) (sections_of f.bytes s) (differences_by e.bytes (Ok r) f.bytes a)) (sym q)
-    (symbols e.bytes f.bytes r s i.within j.within))
+    (symbols e.bytes f.bytes r s l m))
 
 abbrev entry : Bor (List ℕ) → Result AdsSymbolInfo Refusal → Entry
 entry e a = record { bytes = e; answer = a }
@@ -70,22 +70,27 @@ refused_by e f (Err why) (Err other) l m h =
     let p : Value × Value = if are_refused_alike why other then first_byte 0 e.now 0 f.now else (Refused why, Refused other) in
     record { in_a = p.0; in_b = p.1; is = refl; told = refused_both e f why other l m (are_refused_alike why other) refl }
 
-nothing_by : (mode : Mode) (e f : Bor (List ℕ)) (a b : Result AdsSymbolInfo Refusal) → a ≡ symbol_of mode e → b ≡ symbol_of mode f → length e.now ≤ limit → length f.now ≤ limit
-    → AreBytes e.now → AreBytes f.now → differences_by e a f b ≡ [] → (is_ok a ≡ true) × (e.now ≡ f.now)
-nothing_by mode e f (Ok r) (Ok s) p q l m be bf h = (refl, nothing_told mode e f r s _ (sym p) (sym q) be bf (symbols e f r s l m) h)
+nothing_by : (mode : Mode) (e f : Bor (List ℕ)) (a b : Result AdsSymbolInfo Refusal)
+    → ((r : AdsSymbolInfo) → a ≡ Ok r → symbol_of mode e ≡ Ok r) → ((s : AdsSymbolInfo) → b ≡ Ok s → symbol_of mode f ≡ Ok s)
+    → length e.now ≤ limit → length f.now ≤ limit → AreBytes e.now → AreBytes f.now → differences_by e a f b ≡ []
+    → ((is_ok a ≡ true) × (is_ok b ≡ true)) × (e.now ≡ f.now)
+nothing_by mode e f (Ok r) (Ok s) p q l m be bf h = ((refl, refl), nothing_told mode e f r s _ (p r refl) (q s refl) be bf (symbols e f r s l m) h)
 nothing_by mode e f (Ok r) (Err why) p q l m be bf h = absurd (full _ _ h)
 nothing_by mode e f (Err why) b p q l m be bf h = absurd (full _ _ h)
 
-same_by : (mode : Mode) (e f : Bor (List ℕ)) (a b : Result AdsSymbolInfo Refusal) → a ≡ symbol_of mode e → b ≡ symbol_of mode f → is_ok a ≡ true → e.now ≡ f.now → differences_by e a f b ≡ []
-same_by mode e f (Err why) b p q k h = absurd (no k)
-same_by mode e f (Ok r) b p q k h =
-    let t = same_told mode e f r (sym p) h in
-    ap (λ (c : Result AdsSymbolInfo Refusal). differences_by e (Ok r) f c) (q ∙ t.1) ∙ t.2
+same_by : (mode : Mode) (e f : Bor (List ℕ)) (a b : Result AdsSymbolInfo Refusal)
+    → ((r : AdsSymbolInfo) → a ≡ Ok r → symbol_of mode e ≡ Ok r) → ((s : AdsSymbolInfo) → b ≡ Ok s → symbol_of mode f ≡ Ok s)
+    → is_ok a ≡ true → is_ok b ≡ true → e.now ≡ f.now → differences_by e a f b ≡ []
+same_by mode e f (Err why) b p q k n h = absurd (no k)
+same_by mode e f (Ok r) (Err why) p q k n h = absurd (no n)
+same_by mode e f (Ok r) (Ok s) p q k n h =
+    let t = same_told mode e f r (p r refl) h in
+    ap (λ (c : Result AdsSymbolInfo Refusal). differences_by e (Ok r) f c) (sym (q s refl) ∙ t.1) ∙ t.2
 
 pub differences_meant : DifferencesMeant
 differences_meant = record {
   accepted = accepted;
-  refused = λ mode e f i j h. refused_by e.bytes f.bytes e.answer f.answer i.within j.within h;
-  nothing = λ mode e f i j be bf h. nothing_by mode e.bytes f.bytes e.answer f.answer i.answer j.answer i.within j.within be bf h;
-  same = λ mode e f i j k h. same_by mode e.bytes f.bytes e.answer f.answer i.answer j.answer k h;
+  refused = λ e f l m h. refused_by e.bytes f.bytes e.answer f.answer l m h;
+  nothing = λ mode e f i j be bf h. nothing_by mode e.bytes f.bytes e.answer f.answer i.symbol j.symbol i.within j.within be bf h;
+  same = λ mode e f i j k h. same_by mode e.bytes f.bytes e.answer f.answer i.symbol j.symbol k.0 k.1 h;
 }

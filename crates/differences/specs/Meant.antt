@@ -51,10 +51,13 @@ pub data Differ (r s : AdsSymbolInfo) : List Section → List Section → List D
   only_in_b : {y : Section} {xs ys : List Section} {ds : List Difference} → IsBefore y.part xs
       → Differ r s xs ys ds → Differ r s xs (y ∷ ys) (record { part = Some y.part; in_a = Absent; in_b = value_of s y.part y.bytes } ∷ ds)
 
--- an entry within the limit, as it is read in a mode
+abbrev pub IsWithin : Entry → Type 0
+IsWithin e = length e.bytes.now ≤ limit
+
+-- an entry within the limit, whose symbol is what a mode reads of its bytes; where it is refused, by whatever refusal, those of the walk too
 pub record IsRead (mode : Mode) (e : Entry) : Type 0 where
-  pub answer : e.answer ≡ symbol_of mode e.bytes
-  pub within : length e.bytes.now ≤ limit
+  pub symbol : (r : AdsSymbolInfo) → e.answer ≡ Ok r → symbol_of mode e.bytes ≡ Ok r
+  pub within : IsWithin e
 
 -- where one of the two is refused, or both
 pub data AreRefused (e f : List ℕ) : Result AdsSymbolInfo Refusal → Result AdsSymbolInfo Refusal → Value → Value → Type 0 where
@@ -73,12 +76,14 @@ pub record IsRefusalTold (e f : Entry) : Type 0 where
 abbrev pub AreBytes : List ℕ → Type 0
 AreBytes s = AllByRecursion (λ (b : ℕ). b < 256) s
 
--- of entries that are read in one mode, whichever
+abbrev pub AreAccepted : Entry → Entry → Type 0
+AreAccepted e f = (is_ok e.answer ≡ true) × (is_ok f.answer ≡ true)
+
 pub record DifferencesMeant : Type 0 where
-  pub accepted : (mode : Mode) (e f : Entry) (r s : AdsSymbolInfo) → IsRead mode e → IsRead mode f → e.answer ≡ Ok r → f.answer ≡ Ok s
+  pub accepted : (e f : Entry) (r s : AdsSymbolInfo) → IsWithin e → IsWithin f → e.answer ≡ Ok r → f.answer ≡ Ok s
       → Differ r s (sections_of e.bytes r) (sections_of f.bytes s) (differences_of e f)
-  pub refused : (mode : Mode) (e f : Entry) → IsRead mode e → IsRead mode f → (is_err e.answer || is_err f.answer) ≡ true → IsRefusalTold e f
-  -- nothing is told exactly where both are accepted and their bytes are the same
+  pub refused : (e f : Entry) → IsWithin e → IsWithin f → (is_err e.answer || is_err f.answer) ≡ true → IsRefusalTold e f
+  -- of entries that are read in one mode, whichever, nothing is told exactly where both are accepted and their bytes are the same
   pub nothing : (mode : Mode) (e f : Entry) → IsRead mode e → IsRead mode f → AreBytes e.bytes.now → AreBytes f.bytes.now → differences_of e f ≡ []
-      → (is_ok e.answer ≡ true) × (e.bytes.now ≡ f.bytes.now)
-  pub same : (mode : Mode) (e f : Entry) → IsRead mode e → IsRead mode f → is_ok e.answer ≡ true → e.bytes.now ≡ f.bytes.now → differences_of e f ≡ []
+      → AreAccepted e f × (e.bytes.now ≡ f.bytes.now)
+  pub same : (mode : Mode) (e f : Entry) → IsRead mode e → IsRead mode f → AreAccepted e f → e.bytes.now ≡ f.bytes.now → differences_of e f ≡ []

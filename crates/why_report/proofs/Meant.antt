@@ -25,5 +25,6 @@ sentences_meant = record {
   record_refused = refl;
   owed = refl;
   bytes = refl;
+  sixteen = refl;
   none = refl;
 }

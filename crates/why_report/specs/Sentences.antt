@@ -25,4 +25,6 @@ pub record SentencesMeant : Type 0 where
       ≡ codes "former names: number 8, from 0, at place 44 is refused and drops the chain: refusal 2, too short: 9 bytes needed, 3 there."
   pub owed : sentence_text Attributes (Owed 12 7) ≡ codes "attributes: 12 announced, and the entry ends before 7 of them."
   pub bytes : section_text (7 ∷ 255 ∷ 16 ∷ []) Guid (Whole 1 1) ≡ codes "GUID: there, at place 1.\n  1: FF 10\n"
+  pub sixteen : section_text (0 ∷ 1 ∷ 2 ∷ 3 ∷ 4 ∷ 5 ∷ 6 ∷ 7 ∷ 8 ∷ 9 ∷ 10 ∷ 11 ∷ 12 ∷ 13 ∷ 14 ∷ 15 ∷ 16 ∷ 17 ∷ 18 ∷ []) Attributes (Whole 2 1)
+      ≡ codes "attributes: 1 announced at place 2, all there.\n  2: 02 03 04 05 06 07 08 09 0A 0B 0C 0D 0E 0F 10 11\n"
   pub none : section_text (7 ∷ 255 ∷ 16 ∷ []) Guid NotFlagged ≡ codes "GUID: not flagged, flag 0x0008 is not set.\n"

@@ -2,7 +2,7 @@
 ghost use Rattle.why_report.specs.Sentences.{SentencesMeant};
 ghost use Rattle.why_report.specs.Written.{ReasonsWritten};
 
-/// Each reason's sentence, word for word, with every figure different; and the bytes below it.
+/// Each reason's sentence, word for word, with every figure different; and the bytes below it, 16 of them where more are left.
 pub fn sentences_meant()
     ensures { SentencesMeant }
 {}

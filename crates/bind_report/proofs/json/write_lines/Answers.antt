@@ -1,0 +1,12 @@
+use Rattle.std.proofs.Common.{arith}
+use Rattle.std.proofs.lemmas.List.{drop_all}
+use Rattle.report.proofs.Going.{goes, ends}
+use Rattle.bind_report.specs.Json.{json_line}
+use Rattle.bind_report.proofs.Left.{left_at}
+use Rattle.bind_report.proofs.json.write_lines.Goals as goal
+
+pub loop-bound-preserved : goal.loop-bound-preserved
+loop-bound-preserved g c = goes json_line (left_at c.args.bounds.now c.loop-bound.bound-index _ (omega arith)) c.loop-bound.invariant c.in_ok-write_line.ensures
+
+pub returns : goal.returns
+returns g c = ends json_line (drop_all c.loop-bound.bound-index c.args.bounds.now (omega arith)) c.loop-bound.invariant
