@@ -1,8 +1,7 @@
 //! `bind`: the addresses of variables, by their paths.
 #![tactic(auto)]
 
-use bind_report::table::Columns;
-use bind_report::{Bound, json};
+use bind_report::{Bound, are_all_bound, json, table};
 use data_type::AdsDataTypeInfo;
 use host::failure::Failure;
 use host::source::windows_1252;
@@ -39,54 +38,24 @@ fn ordered<'a, E: Named<'a>>(
     }
 }
 
-// The two uploads that paths lead through, and the paths.
+// Where two uploads are searched, and by which reading.
 #[derive(Clone, Copy)]
-struct Paths<'a> {
+struct Searched<'a> {
     symbols: bind::Upload<'a>,
     types: bind::Upload<'a>,
     mode: refusal::Mode,
-    paths: &'a [Vec<u8>],
 }
 
-impl<'a> Paths<'a> {
-    fn bound(&self, path: &'a [u8]) -> Bound<'a> {
-        Bound {
-            path,
-            answer: bind::bind(self.symbols, self.types, self.mode, path),
+impl<'a> Searched<'a> {
+    // Each path with what binding it answers, in their order.
+    fn bind_all(self, alloc: Global, paths: &'a [Vec<u8>]) -> Result<Vec<Bound<'a>>, AllocError> {
+        let mut bounds = Vec::new(alloc);
+        for path in paths {
+            let path = path.as_slice();
+            let answer = bind::bind(self.symbols, self.types, self.mode, path);
+            bounds.push(Bound { path, answer })?;
         }
-    }
-
-    // The headings of a table, whose columns are as wide as all lines need.
-    fn write_headings<W: Write>(&self, out: &mut W) -> Result<Columns, Failure> {
-        let mut columns = Columns::new();
-        for path in self.paths {
-            columns.fit(&self.bound(path.as_slice()));
-        }
-        columns.write_headings(out)?;
-        Ok(columns)
-    }
-
-    // A line a path; whether none was refused.
-    fn write_table<W: Write>(&self, out: &mut W) -> Result<bool, Failure> {
-        let columns = self.write_headings(out)?;
-        let mut all = true;
-        for path in self.paths {
-            let bound = self.bound(path.as_slice());
-            all = all && bound.answer.is_ok();
-            columns.write_line(&bound, out)?;
-        }
-        Ok(all)
-    }
-
-    // The same in JSON.
-    fn write_json<W: Write>(&self, out: &mut W) -> Result<bool, Failure> {
-        let mut all = true;
-        for path in self.paths {
-            let bound = self.bound(path.as_slice());
-            all = all && bound.answer.is_ok();
-            json::write_line(&bound, out)?;
-        }
-        Ok(all)
+        Ok(bounds)
     }
 }
 
@@ -111,7 +80,7 @@ pub fn bind<W: Write>(
     let asked = all_in_windows_1252(alloc, paths)?;
     let symbol_slots = by_name::<AdsSymbolInfo>(alloc, symbols)?;
     let type_slots = by_name::<AdsDataTypeInfo>(alloc, types)?;
-    let asked = Paths {
+    let searched = Searched {
         symbols: bind::Upload {
             bytes: symbols.bytes,
             slots: symbol_slots.as_slice(),
@@ -121,11 +90,12 @@ pub fn bind<W: Write>(
             slots: type_slots.as_slice(),
         },
         mode: symbols.mode,
-        paths: asked.as_slice(),
     };
+    let bounds = searched.bind_all(alloc, asked.as_slice())?;
     if as_json {
-        asked.write_json(out)
+        json::write_lines(bounds.as_slice(), out)?;
     } else {
-        asked.write_table(out)
+        table::write(bounds.as_slice(), out)?;
     }
+    Ok(are_all_bound(bounds.as_slice()))
 }
