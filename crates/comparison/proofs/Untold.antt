@@ -88,7 +88,7 @@ one_told : (mode : Mode) (p q : Piece) → IsHeld p → IsHeld q → (m n : Resu
     → differences_by p.bytes (answer_of mode p.bytes m) q.bytes (answer_of mode q.bytes n) ≡ [] → p.bytes.now ≡ q.bytes.now
 one_told mode p q i j (Ok m) (Ok n) h =
     (differences_meant.nothing mode (record { bytes = p.bytes; answer = symbol_of mode p.bytes }) (record { bytes = q.bytes; answer = symbol_of mode q.bytes })
-    (record { answer = refl; within = i.within }) (record { answer = refl; within = j.within }) i.bytes j.bytes h).1
+    (record { symbol = λ r e. e; within = i.within }) (record { symbol = λ r e. e; within = j.within }) i.bytes j.bytes h).1
 one_told mode p q i j (Ok m) (Err why) h = absurd (refused_in_b p.bytes q.bytes (symbol_of mode p.bytes) why h)
 one_told mode p q i j (Err why) n h = absurd (cc_of h)
   where
