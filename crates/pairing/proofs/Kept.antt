@@ -54,7 +54,7 @@ module _ (P : Partners → Type 0) (ps qs : List Piece) (AreOne : ℕ → ℕ �
 
   pub all_kept : P (nobody ps qs) → P (partners_of ps qs)
   unfolding partners_of
-  all_kept h = near_kept ps 0 None _ refl (rule_kept Place _ (rule_kept Name _ (rule_kept NameAndPlace _ h)))
+  all_kept h = near_kept ps 0 None _ refl (rule_kept _ _ (rule_kept _ _ (rule_kept _ _ h)))
 
 -- two of which neither has a partner
 pub both_free : (o q : Option (Option ℕ)) → are_free o q ≡ true → (o ≡ Some None) × (q ≡ Some None)

@@ -1,6 +1,6 @@
 //! How much the rows of a sheet are.
 
-ghost use Rattle.std.specs.Prelude.{◌≡◌, [], ◌∷◌, ◌+◌, ◌-◌, ◌≤◌, ◌<◌, ◌^◌, length, max, true};
+ghost use Rattle.std.specs.Prelude.{◌≡◌, [], ◌∷◌, ◌+◌, ◌-◌, ◌≤◌, ◌<◌, ◌^◌, length, true};
 ghost use Rattle.sheet_rows.specs.Meant.{IsRow};
 ghost use Rattle.sheet_rows.specs.Extent.{quotes, text_length, row_extent, joined};
 
@@ -60,12 +60,6 @@ fn length_if(bare: bool, text: &[u8]) -> usize
     text_length(text)
 }
 
-fn larger(a: usize, b: usize) -> usize
-    ensures { result ≡ max a b }
-{
-    if a < b { b } else { a }
-}
-
 /// The extent of some rows, and of one more: its bytes from the name on, and the cells that are read there.
 #[tactic(auto, unfolding(crate::specs::Extent::row_extent))]
 pub fn with_row(extent: Extent, line: &[u8], cells: &Three<'_>) -> Extent
@@ -81,6 +75,6 @@ pub fn with_row(extent: Extent, line: &[u8], cells: &Three<'_>) -> Extent
     Extent {
         rows: extent.rows + 1,
         bytes: extent.bytes + (name + type_name + comment),
-        longest: larger(extent.longest, larger(name, larger(type_name, comment))),
+        longest: extent.longest.max(name.max(type_name.max(comment))),
     }
 }
